@@ -23,13 +23,19 @@ export class Refused extends ViewdError {
   }
 }
 
+const WHY = {100: "it is decided by the owner of the log that the gateway follows", 101: "its name is another request's",
+  102: "it is too old", 103: "the gateway's journal is another", 104: "it is to be sent again"};
+
 /**
- * The connection went before the reply came: the request was carried out whole or not at all, and nobody can tell which. Look at the
- * rows before it is sent again: the gateway does not know requests by names yet, under which a second sending would change nothing.
+ * Nobody can tell whether the request was carried out; it was whole, or not at all. Look at the rows, and make another request if they do not
+ * have it. A write is that only by a `code`: 102 and 103 are final, as what came of the write is not known any more.
  */
 export class Undecided extends ViewdError {
-  constructor() {
-    super("undecided: the connection went before the reply came, so it was carried out or not");
+  constructor(code = null) {
+    super(code === null ? "undecided: the connection went before the reply came, so it was carried out or not"
+      : `undecided: ${WHY[code] ?? "the gateway does not say why"} (${code}), so it was carried out or not`);
+    /** The number in docs/PROTOCOL.md, or null if the connection went. */
+    this.code = code;
   }
 }
 

@@ -23,9 +23,14 @@ export class Refused extends ViewdError {
   readonly reply: Reply;
 }
 
-/** The connection went before the reply came: the request was carried out whole or not at all, and nobody can tell which. */
+/**
+ * Nobody can tell whether the request was carried out; it was whole, or not at all. Look at the rows, and make another request if they do not
+ * have it. Of a write 102 and 103 are final, as what came of it is not known any more.
+ */
 export class Undecided extends ViewdError {
-  constructor();
+  constructor(code?: number | null);
+  /** The number in docs/PROTOCOL.md, or null if the connection went. */
+  readonly code: number | null;
 }
 
 /** The request was not sent, so it was not carried out. */
@@ -104,7 +109,7 @@ export interface Db<R extends object = Relations> {
   update<K extends Name<R>>(on: K, row: R[K] | Values, values: Partial<R[K]> | Values, how?: Copies): Promise<Reply>;
   /** Removes copies of a row. */
   remove<K extends Name<R>>(on: K, row: R[K] | Values, how?: Copies): Promise<Reply>;
-  /** Carries out all entries, or none. */
+  /** Carries out all entries, or none. By its name it is sent until it is answered, if the gateway knows names, and is done once. */
   write(entries: ReadonlyArray<Entry<R>>): Promise<Reply>;
   /** The columns of a relation: as the option `columns` or a subscribe has told them; else one subscribe asks. */
   columns(on: Name<R>): Promise<Columns>;

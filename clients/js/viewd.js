@@ -6,6 +6,7 @@
 //   open.subscribe(() => draw(open.rows));
 //   await db.insert("tickets", {id: 7, agent: "mia", subject: "Hello", open: true});
 //
+// A write has a name, and is sent until it is answered: however often that is, it is done once.
 // It has no dependency and needs no build step. docs/CLIENTS.md goes through it, and viewd.d.ts has its types.
 import {Live, Relation} from "./rows.js";
 import {NotSent, parse, Refused, text, Undecided, ViewdError} from "./values.js";
@@ -15,6 +16,8 @@ export {compare, NotSent, parse, Refused, text, Undecided, ViewdError} from "./v
 const BYTES = 65_463; // of a message, at most
 const LIMIT = 17, TOO_MANY = 20, TOO_LONG = 22;
 const WITHOUT_ID = new Set([1, 2, 22]); // refusals of what could not be read, so that its id is not known
+const AGAIN = 104; // undecided now, and to be sent again as it is
+const OPEN = 16; // writes by name that have no answer, at most: a gateway knows a holder's last 64 names, and one holder may have several clients
 const UNKNOWN_TOKEN = 4401;
 
 /** A connection to a gateway that is kept: where it goes, another is tried. `connect` makes one. */
@@ -30,7 +33,10 @@ class Db {
   #url; #how; #socket = null; #tries = 0; #since = 0; #heard = 0; #timers = new Set(); #watch = null; #token = null; #again = null;
   #next = 1; // the id of the next message
   #asked = []; // messages without a reply, in their order
-  #waiting = new Set(); // requests that wait for a connection
+  #waiting = new Set(); // requests that were never sent, in their order
+  #kept = new Set(); // writes by name that were sent, and are to be sent again, as the connection went before the answer, or it was no answer yet
+  #place = null; // where names of the holder stand, as the gateway told it last; null if it tells none
+  #welcome = null; // the role, until the line behind it is here
   #replied = []; // what is done when the event is settled
   #relations = new Map(); #bySub = new Map(); #changed = new Set(); #known = new Map(); #listeners = new Set(); #undo = [];
 
@@ -97,7 +103,7 @@ class Db {
       if (update) line.update = update.map((row) => relation.values(row));
       return line;
     });
-    return this.request({do: "write", entries: lines});
+    return this.#request({do: "write", entries: lines}, true);
   }
 
   /** The columns of a relation: as the option `columns` or a subscribe has told them; else one subscribe asks. */
@@ -117,17 +123,26 @@ class Db {
 
   /** Any request of docs/PROTOCOL.md, without session and id. Its reply, once all that it changed is here. */
   request(body) {
+    return this.#request(body, false);
+  }
+
+  // A write by name is sent until it is answered, always by the same name, place and bytes.
+  #request(body, byName) {
     return new Promise((resolve, reject) => {
-      const size = new TextEncoder().encode(text({id: Number.MAX_SAFE_INTEGER, ...body})).length;
-      if (size > BYTES) return reject(new Refused({error: TOO_LONG}));
+      const longest = {id: Number.MAX_SAFE_INTEGER, ...(byName && {once: "_".repeat(22), at: `${"0".repeat(32)}.${2n ** 64n}`}), ...body};
+      if (new TextEncoder().encode(text(longest)).length > BYTES) return reject(new Refused({error: TOO_LONG}));
       if (this.state === "closed") return reject(new NotSent("the client has ended"));
-      if (this.role) return this.#ask(body, resolve, reject);
-      const waiting = {body, resolve, reject};
-      waiting.timer = this.#later(this.#how.patience, () => {
-        this.#waiting.delete(waiting);
-        reject(new NotSent("there was no connection"));
-      });
-      this.#waiting.add(waiting);
+      const request = {body, byName, resolve, reject, name: null, at: null, rest: null, timer: null};
+      this.#waiting.add(request);
+      if (this.role) this.#flush();
+      else this.#wait(request);
+    });
+  }
+
+  #wait(request) {
+    request.timer = this.#later(this.#how.patience, () => {
+      this.#waiting.delete(request);
+      request.reject(new NotSent("there was no connection"));
     });
   }
 
@@ -236,11 +251,14 @@ class Db {
       socket?.close?.();
     } catch { /* it was not open */ }
     if (this.role && Date.now() - this.#since > 10_000) this.#tries = 0;
-    this.role = this.protocol = null;
+    this.role = this.protocol = this.#place = this.#welcome = null;
     this.#bySub.clear();
     this.#changed.clear();
     for (const act of this.#replied.splice(0)) act();
-    for (const {reject} of this.#asked.splice(0)) reject(new Undecided());
+    for (const {write, reject} of this.#asked.splice(0)) {
+      if (write) this.#kept.add(write);
+      else reject(new Undecided());
+    }
   }
 
   #lost(why) {
@@ -249,6 +267,7 @@ class Db {
     this.#drop();
     const wait = Math.min(this.#how.longest, this.#how.shortest * 2 ** this.#tries++) * (0.5 + Math.random() / 2);
     this.#again = this.#later(wait, () => this.#connect());
+    for (const request of this.#waiting) if (request.timer === null) this.#wait(request);
     const relations = [...this.#relations.values()];
     for (const relation of relations) Object.assign(relation, {sub: null, asked: false});
     this.#tell(relations.flatMap((relation) => relation.state === "live" ? relation.become("stale") : []));
@@ -263,7 +282,9 @@ class Db {
     clearInterval(this.#watch);
     for (const timer of this.#timers) clearTimeout(timer);
     for (const undo of this.#undo.splice(0)) undo();
+    for (const {reject} of this.#kept) reject(new Undecided());
     for (const {reject} of this.#waiting) reject(new NotSent(why));
+    this.#kept.clear();
     this.#waiting.clear();
     const relations = [...this.#relations.values()];
     this.#relations.clear();
@@ -275,6 +296,36 @@ class Db {
     const id = this.#next++;
     this.#asked.push({id, resolve, reject, first});
     this.#socket.send(text({id, ...body})); // the id stands in front
+  }
+
+  // By the name and the place that it had when it was first sent, and by the same bytes.
+  #askByName(write) {
+    if (write.name === null) Object.assign(write, {name: newName(), at: this.#place, rest: text(write.body).slice(1)});
+    const id = this.#next++;
+    this.#asked.push({id, write, resolve: write.resolve, reject: write.reject, first: () => {}});
+    this.#socket.send(`{"id":${id},"once":"${write.name}","at":"${write.at}",${write.rest}`);
+  }
+
+  // Sends what was never sent, in its order, as far as it may be.
+  #flush() {
+    for (const request of this.#waiting) {
+      const byName = request.byName && this.#place !== null;
+      if (byName && this.#asked.filter(({write}) => write).length + this.#kept.size >= OPEN) return;
+      this.#waiting.delete(request);
+      this.#cancel(request.timer);
+      if (byName) this.#askByName(request);
+      else this.#ask(request.body, request.resolve, request.reject);
+    }
+  }
+
+  // What was sent before and has no answer is sent again. A gateway that tells no place would not know it by its name.
+  #sendAgain() {
+    const kept = [...this.#kept];
+    this.#kept.clear();
+    for (const write of kept) {
+      if (this.#place !== null) this.#askByName(write);
+      else write.reject(new Undecided());
+    }
   }
 
   #subscribe(relation) {
@@ -336,23 +387,25 @@ class Db {
   }
 
   #one(said) {
+    const isPlace = "at" in said && "names" in said;
+    if (isPlace) this.#place = said.at;
+    if (this.#welcome) this.#entered(); // by the line behind the role
+    if (isPlace) return;
     if (said.settled) this.#settle();
-    else if ("ok" in said || "error" in said) this.#reply(said);
+    else if ("ok" in said || "error" in said || "answer" in said || "undecided" in said) this.#reply(said);
     else if (said.changes) this.#changes(said);
     else if (said.granted) this.#replied.push(() => this.#retry(() => true));
-    else if (said.role && !this.role) this.#entered(said);
+    else if (said.role && !this.role) this.#welcome = said;
     // alive, and what this client does not know, says nothing more than that the gateway is there
   }
 
-  #entered({role, protocol}) {
-    [this.role, this.protocol] = [role, protocol ?? null];
+  #entered() {
+    [this.role, this.protocol] = [this.#welcome.role, this.#welcome.protocol ?? null];
+    this.#welcome = null;
     this.#since = Date.now();
     for (const relation of this.#relations.values()) this.#subscribe(relation);
-    for (const {body, resolve, reject, timer} of this.#waiting) {
-      this.#cancel(timer);
-      this.#ask(body, resolve, reject);
-    }
-    this.#waiting.clear();
+    this.#sendAgain();
+    this.#flush();
     this.why = null;
     this.#become("live");
   }
@@ -373,8 +426,20 @@ class Db {
     const isIts = asked && (said.id === asked.id || !("id" in said) && WITHOUT_ID.has(said.error));
     if (!isIts) return this.#lost("a reply to another request");
     this.#asked.shift();
-    if (said.ok) asked.first(said);
-    this.#replied.push(() => said.ok ? asked.resolve(said) : asked.reject(new Refused(said)));
+    if (said.at !== undefined) this.#place = said.at;
+    if (said.undecided === AGAIN && asked.write) return this.#keep(asked.write);
+    if ("undecided" in said) return void this.#replied.push(() => asked.reject(new Undecided(said.undecided)));
+    const reply = said.answer ?? said;
+    if (reply.ok) asked.first(reply);
+    this.#replied.push(() => reply.ok ? asked.resolve(reply) : asked.reject(new Refused(reply)));
+  }
+
+  #keep(write) {
+    this.#kept.add(write);
+    this.#later(this.#how.again, () => {
+      if (!this.role || !this.#kept.delete(write)) return; // it was sent again behind another connection
+      this.#askByName(write);
+    });
   }
 
   #settle() {
@@ -382,12 +447,19 @@ class Db {
     this.#changed.clear();
     this.#tell(changed.flatMap((relation) => relation.show()));
     for (const act of this.#replied.splice(0)) act();
+    if (this.role) this.#flush();
   }
 
   // Listeners are called when all relations have taken in what is new.
   #tell(users) {
     for (const user of users) user.tell();
   }
+}
+
+// 128 random bits, in letters of RFC 4648, section 5.
+function newName() {
+  const bytes = crypto.getRandomValues(new Uint8Array(16));
+  return btoa(String.fromCharCode(...bytes)).slice(0, 22).replaceAll("+", "-").replaceAll("/", "_");
 }
 
 // The address of a WebSocket: http becomes ws, and a page may name a path of its own.

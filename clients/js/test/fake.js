@@ -34,10 +34,10 @@ export class Fake {
     this.tell(...lines, {settled: true});
   }
 
-  /** Lets the client in. */
-  enter(role = "mia") {
+  /** Lets the client in, and tells where its holder's names stand, if the gateway knows names. */
+  enter(role = "mia", at = null) {
     this.onopen();
-    this.event({role});
+    this.event({role}, ...(at === null ? [] : [{at, names: 64}]));
     return this;
   }
 
@@ -92,7 +92,7 @@ export async function pause(wait) {
 }
 
 /** A client whose fake gateway has let it in, and that is ended behind the test. */
-export async function entered(t, how = {}) {
+export async function entered(t, how = {}, at = null) {
   Fake.all = [];
   const faults = [];
   const db = connect("ws://gateway/live", {token: "t", WebSocket: Fake, onError: (why) => faults.push(why), shortest: 4, ...how});
@@ -101,7 +101,7 @@ export async function entered(t, how = {}) {
     assert.deepEqual(faults, []);
   });
   await turn();
-  Fake.last.enter();
+  Fake.last.enter("mia", at);
   Fake.last.sent = [];
   return [db, Fake.last];
 }

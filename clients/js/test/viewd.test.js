@@ -523,6 +523,112 @@ test("lines that are not known are passed over, and what is no JSON ends the con
   assert.deepEqual([db.state, Fake.last.closed], ["stale", true]);
 });
 
+const EPOCH = "0123456789abcdef0123456789abcdef";
+const place = (count, epoch = EPOCH) => `${epoch}.${count}`;
+const withoutId = (said) => said.replace(/^\{"id":\d+,/, "{");
+
+test("a write is sent by the same name, place and bytes until it is answered", async (t) => {
+  const [db, first] = await entered(t, {}, place(3));
+  const done = db.insert("notes", [1, "ann"]);
+  await turn();
+  const [said] = first.take();
+  assert.match(said, /^\{"id":\d+,"once":"[A-Za-z0-9_-]{22}","at":"0123456789abcdef0123456789abcdef\.3","do":"write","entries":\[\{"on":"notes","insert":\[1,"ann"\]\}\]\}$/);
+  let id;
+  for (const count of [3, 4, 4]) { // each goes before the answer
+    Fake.last.end();
+    await pause(100);
+    Fake.last.enter("mia", place(count));
+    const [again, ...more] = Fake.last.take();
+    assert.equal(withoutId(again), withoutId(said));
+    assert.deepEqual(more, []);
+    ({id} = JSON.parse(again));
+  }
+  Fake.last.event({again: true, answer: {ok: true}, at: place(5), id});
+  assert.deepEqual(await done, {ok: true});
+  const other = db.remove("notes", [1, "ann"]);
+  await turn();
+  const {id: next, once, at, ...body} = JSON.parse(Fake.last.take()[0]);
+  assert.notEqual(once, JSON.parse(said).once);
+  assert.deepEqual([at, body], [place(5), {do: "write", entries: [{on: "notes", delete: [1, "ann"]}]}]);
+  Fake.last.event({answer: {entry: 1, error: 16}, at: place(6), id: next});
+  await assert.rejects(other, {name: "Refused", code: 16});
+  assert.deepEqual(Fake.last.take(), []);
+});
+
+test("what the gateway does not know any more is the page's", async (t) => {
+  const [db, socket] = await entered(t, {}, place(0));
+  for (const code of [100, 101, 102, 103]) {
+    const done = db.insert("notes", [code, "ann"]);
+    await turn();
+    const {id} = JSON.parse(socket.take()[0]);
+    socket.event({id, undecided: code});
+    await assert.rejects(done, {name: "Undecided", code});
+  }
+  await pause(60_000);
+  assert.deepEqual(socket.take(), []);
+});
+
+test("a write that has to wait is sent again as it is", async (t) => {
+  const [db, socket] = await entered(t, {again: 1000, silence: 1e9}, place(0));
+  const done = db.insert("notes", [1, "ann"]);
+  await turn();
+  const [said] = socket.take();
+  socket.event({id: JSON.parse(said).id, undecided: 104});
+  await pause(900);
+  assert.deepEqual(socket.take(), []);
+  await pause(200);
+  const [again] = socket.take();
+  assert.equal(withoutId(again), withoutId(said));
+  socket.event({answer: {ok: true}, at: place(1), id: JSON.parse(again).id});
+  assert.deepEqual(await done, {ok: true});
+});
+
+test("so many writes are under way as the gateway keeps names for", async (t) => {
+  const [db, socket] = await entered(t, {}, place(0));
+  const done = Array.from({length: 20}, (_, at) => db.insert("notes", [at, "ann"]));
+  const behind = db.request({do: "create_role", name: "eve"});
+  await turn();
+  const said = socket.take().map((it) => JSON.parse(it));
+  assert.deepEqual(said.map(({at}) => at), Array(16).fill(place(0)));
+  socket.event({answer: {ok: true}, at: place(1), id: said[0].id}, {settled: true}, {answer: {ok: true}, at: place(2), id: said[1].id});
+  const more = socket.take().map((it) => JSON.parse(it));
+  assert.deepEqual(more.map(({at, entries}) => [at, entries[0].insert[0]]), [[place(1), 16], [place(2), 17]]);
+  for (const [at, {id}] of [...said.slice(2), ...more].entries()) socket.event({answer: {ok: true}, at: place(at + 3), id});
+  const last = socket.take().map((it) => JSON.parse(it));
+  assert.deepEqual(last.map((it) => it.do), ["write", "write", "create_role"]);
+  for (const {id, once} of last) socket.event(once ? {answer: {ok: true}, at: place(30), id} : {id, ok: true});
+  assert.equal((await Promise.all([...done, behind])).length, 21);
+});
+
+test("a gateway that tells no place is told no name, and what another one may have done is undecided", async (t) => {
+  const [db, first] = await entered(t, {}, place(0));
+  const done = db.insert("notes", [1, "ann"]);
+  await turn();
+  assert.equal(first.take().length, 1);
+  first.end();
+  await pause(100);
+  Fake.last.enter();
+  await assert.rejects(done, {name: "Undecided", code: null});
+  assert.deepEqual(Fake.last.take(), []);
+  const other = db.insert("notes", [2, "ann"]);
+  await turn();
+  const id = Fake.last.asked({do: "write", entries: [{on: "notes", insert: [2, "ann"]}]});
+  Fake.last.event({id, ok: true});
+  assert.deepEqual(await other, {id, ok: true});
+});
+
+test("who ends a client is told what was sent, and what was not", async (t) => {
+  const [db, socket] = await entered(t, {}, place(0));
+  const sent = db.insert("notes", [1, "ann"]);
+  await turn();
+  socket.end();
+  const waits = db.insert("notes", [2, "ann"]);
+  await turn();
+  db.end();
+  await assert.rejects(sent, {name: "Undecided", code: null});
+  await assert.rejects(waits, {name: "NotSent"});
+});
+
 test("many rows are taken in quickly", async (t) => {
   const [db, socket] = await entered(t);
   const live = db.live("notes", {order: "-id", limit: 50});

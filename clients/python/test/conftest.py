@@ -115,11 +115,11 @@ def fakes(monkeypatch):
     return Fake
 
 
-async def entered(**how) -> tuple[viewd.Db, Fake]:
-    """A client that its gateway has let in."""
+async def entered(at: str | None = None, **how) -> tuple[viewd.Db, Fake]:
+    """A client that its gateway has let in, and told where its holder's names stand, if it knows names."""
     db = viewd.connect("ws://gateway/live", token="t", **{"shortest": 0.004, **how})
     await turn()
-    await Fake.all[-1].event({"protocol": 1, "role": "mia"})
+    await Fake.all[-1].event({"protocol": 1, "role": "mia"}, *([] if at is None else [{"at": at, "names": 64}]))
     assert Fake.all[-1].sent == ["t"] and (db.role, db.protocol) == ("mia", 1)
     Fake.all[-1].sent.clear()
     return db, Fake.all[-1]

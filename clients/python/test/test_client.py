@@ -412,3 +412,114 @@ async def test_a_request_waits_for_a_connection_and_not_for_ever(fakes):
     await fakes.all[-1].tell("{")
     assert db.state == "stale"
     await db.end()
+
+
+EPOCH = "0123456789abcdef0123456789abcdef"
+
+
+def without_id(said: str) -> str:
+    return re.sub(r'^\{"id":\d+,', "{", said)
+
+
+async def let_in(socket, at=None):
+    await socket.event({"protocol": 1, "role": "mia"}, *([] if at is None else [{"at": at, "names": 64}]))
+    assert socket.sent.pop(0) == "t"
+
+
+@run
+async def test_a_write_is_sent_by_the_same_name_place_and_bytes_until_it_is_answered(fakes):
+    db, socket = await entered(f"{EPOCH}.3")
+    done = asyncio.ensure_future(db.insert("notes", [1, "ann"]))
+    await turn()
+    [said] = socket.sent
+    assert re.fullmatch(r'\{"id":1,"once":"[\w-]{22}","at":"%s\.3","do":"write","entries":\[\{"on":"notes","insert":\[1,"ann"\]\}\]\}' % EPOCH, said), said
+    for count in (3, 4, 4):  # each goes before the answer
+        await fakes.all[-1].end()
+        await asyncio.sleep(0.1)
+        socket = fakes.all[-1]
+        await let_in(socket, f"{EPOCH}.{count}")
+        [again] = socket.sent
+        assert without_id(again) == without_id(said)
+    await socket.event({"again": True, "answer": {"ok": True}, "at": f"{EPOCH}.5", "id": 1})
+    assert await done == {"ok": True}
+    socket.sent.clear()
+    other = asyncio.ensure_future(db.remove("notes", [1, "ann"]))
+    await turn()
+    [next] = socket.sent
+    assert f'"at":"{EPOCH}.5"' in next and next[15:37] != said[15:37]
+    await socket.event({"answer": {"entry": 1, "error": 16}, "at": f"{EPOCH}.6", "id": 2})
+    assert (await raised(other, Refused)).code == 16
+    await db.end()
+
+
+@run
+async def test_what_the_gateway_does_not_know_any_more_is_the_applications(fakes):
+    db, socket = await entered(f"{EPOCH}.0")
+    for id, code in enumerate((100, 101, 102, 103), 1):
+        done = asyncio.ensure_future(db.insert("notes", [code, "ann"]))
+        await turn()
+        await socket.event({"id": id, "undecided": code})
+        assert (await raised(done, Undecided)).code == code
+    await asyncio.sleep(20)
+    assert len(socket.sent) == 4
+    await db.end()
+
+
+@run
+async def test_a_write_that_has_to_wait_is_sent_again_as_it_is(fakes):
+    db, socket = await entered(f"{EPOCH}.0", again=1)
+    done = asyncio.ensure_future(db.insert("notes", [1, "ann"]))
+    await turn()
+    await socket.event({"id": 1, "undecided": 104})
+    await asyncio.sleep(0.9)
+    assert len(socket.sent) == 1
+    await asyncio.sleep(0.2)
+    said, again = socket.sent
+    assert without_id(again) == without_id(said)
+    await socket.event({"answer": {"ok": True}, "at": f"{EPOCH}.1", "id": 2})
+    assert await done == {"ok": True}
+    await db.end()
+
+
+@run
+async def test_so_many_writes_are_under_way_as_the_gateway_keeps_names_for(fakes):
+    db, socket = await entered(f"{EPOCH}.0")
+    done = [asyncio.ensure_future(db.insert("notes", [at, "ann"])) for at in range(20)]
+    await turn()
+    assert len(socket.sent) == 16 and all(f'"at":"{EPOCH}.0"' in it for it in socket.sent)
+    for count in range(1, 21):
+        await socket.event({"answer": {"ok": True}, "at": f"{EPOCH}.{count}", "id": count})
+    assert [it for it in socket.sent if f'"at":"{EPOCH}.0"' not in it] == socket.sent[16:]
+    assert [f'"at":"{EPOCH}.{count}"' in it for count, it in enumerate(socket.sent[16:], 1)] == [True] * 4
+    assert await asyncio.gather(*done) == [{"ok": True}] * 20
+    await db.end()
+
+
+@run
+async def test_a_gateway_that_tells_no_place_is_told_no_name(fakes):
+    db, socket = await entered(f"{EPOCH}.0")
+    done = asyncio.ensure_future(db.insert("notes", [1, "ann"]))
+    await turn()
+    await socket.end()
+    await asyncio.sleep(0.1)
+    await let_in(fakes.all[-1])
+    assert (await raised(done, Undecided)).code is None and not fakes.all[-1].sent
+    other = asyncio.ensure_future(db.insert("notes", [2, "ann"]))
+    await turn()
+    assert fakes.all[-1].asked({"do": "write", "entries": [{"on": "notes", "insert": [2, "ann"]}]}) == 1
+    await fakes.all[-1].event({"id": 1, "ok": True})
+    assert await other == {"id": 1, "ok": True}
+    await db.end()
+
+
+@run
+async def test_who_ends_a_client_is_told_what_was_sent_and_what_was_not(fakes):
+    db, socket = await entered(f"{EPOCH}.0")
+    sent = asyncio.ensure_future(db.insert("notes", [1, "ann"]))
+    await turn()
+    await socket.end()
+    waits = asyncio.ensure_future(db.insert("notes", [2, "ann"]))
+    await turn()
+    await db.end()
+    assert (await raised(sent, Undecided)).code is None
+    await raised(waits, NotSent)

@@ -6,6 +6,7 @@ import inspect
 import json
 import logging
 import random
+import secrets
 import time
 from collections.abc import Awaitable, Callable, Mapping, Sequence
 from dataclasses import dataclass, field
@@ -20,6 +21,9 @@ from .rows import Changes, Columns, Live, Relation, Report, User, Value, Where, 
 BYTES = 65_463  # of a message, at most
 LIMIT, TOO_MANY, TOO_LONG = 17, 20, 22
 WITHOUT_ID = (1, 2, 22)  # refusals of what could not be read, so that its id is not known
+AGAIN = 104  # undecided now, and to be sent again as it is
+OPEN_WRITES = 16  # by name, without an answer, at most: a gateway knows a holder's last 64 names, and one holder may have several clients
+LONGEST = {"id": 2 ** 53, "once": "_" * 22, "at": f"{'0' * 32}.{2 ** 64}"}  # what a message by name may begin with
 UNKNOWN_TOKEN = 4401
 ADMIN = "admin"
 OPEN: Callable[..., Awaitable[Any]] = getattr(websockets, "connect")  # which versions make of different modules
@@ -49,6 +53,10 @@ class Asked:
     then: Callable[[Reply | ViewdError], None] = lambda came: None  # once its event is settled, or it failed
     id: int = 0
     timer: asyncio.TimerHandle | None = None
+    by_name: bool = False  # it is sent by a name, if the gateway knows names: always by the same name, place and bytes
+    name: str | None = None
+    at: str = ""
+    rest: str = ""  # of the message, behind these
 
     def come(self, came: Reply | ViewdError) -> None:
         if self.timer:
@@ -76,6 +84,8 @@ class _Connection:
     by_sub: dict[int, Relation] = field(default_factory=dict)
     changed: dict[Relation, None] = field(default_factory=dict)
     made: list[Reply] = field(default_factory=list)  # lines of what made the shape, which an administrator is told
+    welcome: Reply | None = None  # the role, until the line behind it is here
+    place: str | None = None  # where names of the holder stand, as the gateway told it last; None if it tells none
     is_in: bool = False  # all that is told of the entry is here
     next_id: int = 1
     since: float = 0
@@ -95,7 +105,8 @@ class Db:
         self._known: dict[str, Columns] = {on: [*its] for on, its in (columns or {}).items()}
         self._connection: _Connection | None = None
         self._relations: dict[str, Relation] = {}
-        self._waiting: list[Asked] = []
+        self._waiting: list[Asked] = []  # requests that were never sent, in their order
+        self._kept: list[Asked] = []  # writes by name that were sent, and are to be sent again
         self._listeners: list[Callable[[str, str | None], None]] = []
         self._timers: set[asyncio.TimerHandle] = set()
         self._shutting: set[asyncio.Task[None]] = set()
@@ -151,7 +162,9 @@ class Db:
         return await self.write([{"on": on, "delete": row, "copies": copies}])
 
     async def write(self, entries: Sequence[Mapping[str, Any]]) -> Reply:
-        """Carries out all entries, or none. Each has `on` and one of `insert`, `delete` and `update`, with rows as dicts or lists."""
+        """Carries out all entries, or none. Each has `on` and one of `insert`, `delete` and `update`, with rows as dicts or lists.
+
+        By its name it is sent until it is answered, if the gateway knows names, and is done once. Raises Refused, Undecided and NotSent."""
         columns: dict[str, Columns] = {}
         for entry in entries:
             rows = [entry.get("insert"), entry.get("delete"), *entry.get("update", ())]
@@ -166,7 +179,7 @@ class Db:
             if "update" in line:
                 line["update"] = [values_of(on, columns.get(on), row) for row in line["update"]]
             lines.append(line)
-        return await self.request({"do": "write", "entries": lines})
+        return await self._request({"do": "write", "entries": lines}, by_name=True)
 
     async def columns(self, on: str) -> Columns:
         """The columns of a relation: as `connect` or a subscribe has told them; else one subscribe asks."""
@@ -200,16 +213,19 @@ class Db:
         """Any request of docs/PROTOCOL.md, without session and id. Its reply, once all that it changed is here.
 
         Raises Refused, Undecided and NotSent."""
-        if len(text({"id": 2 ** 53, **body}).encode()) > BYTES:
+        return await self._request(body, by_name=False)
+
+    async def _request(self, body: Mapping[str, Any], by_name: bool) -> Reply:
+        if len(text({**(LONGEST if by_name else {"id": 2 ** 53}), **body}).encode()) > BYTES:
             raise Refused({"error": TOO_LONG})
         if self.state == "closed":
             raise NotSent("the client has ended")
-        asked = Asked({**body}, self._loop.create_future())
+        asked = Asked({**body}, self._loop.create_future(), by_name=by_name)
+        self._waiting.append(asked)
         if self.role is None:
-            asked.timer = self._loop.call_later(self.timing.patience, self._give_up, asked)
-            self._waiting.append(asked)
+            self._wait(asked)
         else:
-            self._ask(asked)
+            self._flush()
         return await asked.reply
 
     async def end(self) -> None:
@@ -292,13 +308,19 @@ class Db:
         for act in connection.replied:
             act()
         for asked in connection.asked:
-            asked.come(Undecided())
+            if asked.name is None:
+                asked.come(Undecided())
+            else:
+                self._kept.append(asked)
 
     def _lost(self, why: str) -> None:
         if self.state == "closed":
             return
         self.why = why
         self._drop()
+        for asked in self._waiting:
+            if asked.timer is None:
+                self._wait(asked)
         told = []
         for relation in self._relations.values():
             relation.sub, relation.is_asked = None, False
@@ -315,6 +337,9 @@ class Db:
         self._drop()
         for timer in self._timers:
             timer.cancel()
+        kept, self._kept = self._kept, []
+        for asked in kept:
+            asked.come(Undecided())
         waiting, self._waiting = self._waiting, []
         for asked in waiting:
             asked.come(NotSent(why))
@@ -324,19 +349,74 @@ class Db:
 
     # ---- what is said
 
+    def _wait(self, asked: Asked) -> None:
+        asked.timer = self._loop.call_later(self.timing.patience, self._give_up, asked)
+
     def _give_up(self, asked: Asked) -> None:
         if asked in self._waiting:
             self._waiting.remove(asked)
             asked.come(NotSent("there was no connection"))
 
     def _ask(self, asked: Asked) -> None:
+        connection = self._enlisted(asked)
+        connection.out.put_nowait(text({"id": asked.id, **asked.body}))  # the id stands in front
+
+    def _enlisted(self, asked: Asked) -> _Connection:
         connection = self._connection
         assert connection is not None
         asked.id, connection.next_id = connection.next_id, connection.next_id + 1
         if asked.timer:
             asked.timer.cancel()
         connection.asked.append(asked)
-        connection.out.put_nowait(text({"id": asked.id, **asked.body}))  # the id stands in front
+        return connection
+
+    # By the name and the place that it had when it was first sent, and by the same bytes.
+    def _ask_by_name(self, asked: Asked) -> None:
+        connection = self._enlisted(asked)
+        if asked.name is None:
+            asked.name, asked.at, asked.rest = secrets.token_urlsafe(16), connection.place or "", text(asked.body)[1:]
+        connection.out.put_nowait(f'{{"id":{asked.id},"once":"{asked.name}","at":"{asked.at}",{asked.rest}')
+
+    # Sends what was never sent, in its order, as far as it may be.
+    def _flush(self) -> None:
+        connection = self._connection
+        assert connection is not None
+        for asked in [*self._waiting]:
+            by_name = asked.by_name and connection.place is not None
+            if by_name and sum(it.name is not None for it in connection.asked) + len(self._kept) >= OPEN_WRITES:
+                return
+            self._waiting.remove(asked)
+            if asked.timer:
+                asked.timer.cancel()
+            if asked.reply.done():  # nobody waits for it any more
+                continue
+            if by_name:
+                self._ask_by_name(asked)
+            else:
+                self._ask(asked)
+
+    # What was sent before and has no answer is sent again. A gateway that tells no place would not know it by its name.
+    def _send_again(self) -> None:
+        assert self._connection is not None
+        kept, self._kept = self._kept, []
+        for asked in kept:
+            if asked.reply.done():
+                continue
+            if self._connection.place is None:
+                asked.come(Undecided())
+            else:
+                self._ask_by_name(asked)
+
+    def _keep_for_later(self, asked: Asked) -> None:
+        def act() -> None:
+            self._timers.discard(timer)
+            if self.role is not None and asked in self._kept:  # else it was sent again behind another connection
+                self._kept.remove(asked)
+                self._ask_by_name(asked)
+
+        self._kept.append(asked)
+        timer = self._loop.call_later(self.timing.again, act)
+        self._timers.add(timer)
 
     def _relation(self, on: str) -> Relation:
         if self.state == "closed":
@@ -416,29 +496,34 @@ class Db:
             said = json.loads(line)
         except ValueError:
             raise _Lost("a line that is not understood") from None
+        is_place = "at" in said and "names" in said
+        if is_place:
+            connection.place = said["at"]
+        if connection.welcome:
+            self._entered(connection, connection.welcome)  # by the line behind the role
+        if is_place:
+            return
         if said.get("settled"):
             self._settle(connection)
-        elif "ok" in said or "error" in said:
+        elif any(key in said for key in ("ok", "error", "answer", "undecided")):
             self._reply(connection, said)
         elif "changes" in said:
             self._changes(connection, said)
         elif "granted" in said:
             connection.replied.append(lambda: self._retry(lambda it: True))
         elif "role" in said and self.role is None:
-            self.protocol = said.get("protocol")
-            self._entered(connection, said["role"])
+            connection.welcome = said
         elif "made" in said:
             connection.made.append(said)
         # alive, and what this client does not know, says nothing more than that the gateway is there
 
-    def _entered(self, connection: _Connection, role: str) -> None:
-        self.role, connection.since, self.why = role, time.monotonic(), None
+    def _entered(self, connection: _Connection, welcome: Reply) -> None:
+        connection.welcome = None
+        self.role, self.protocol, connection.since, self.why = welcome["role"], welcome.get("protocol"), time.monotonic(), None
         for relation in [*self._relations.values()]:
             self._subscribe(relation)
-        waiting, self._waiting = self._waiting, []
-        for asked in waiting:
-            if not asked.reply.done():
-                self._ask(asked)
+        self._send_again()
+        self._flush()
         self._become("live")
 
     def _changes(self, connection: _Connection, said: Reply) -> None:
@@ -460,9 +545,16 @@ class Db:
         if said.get("id") != asked.id and ("id" in said or said.get("error") not in WITHOUT_ID):
             raise _Lost("a reply to another request")
         connection.asked.pop(0)
-        if said.get("ok"):
-            asked.first(said)
-        connection.replied.append(lambda: asked.come(said if said.get("ok") else Refused(said)))
+        connection.place = said.get("at", connection.place)
+        if "undecided" in said:
+            code = said["undecided"]
+            if code == AGAIN and asked.name is not None:
+                return self._keep_for_later(asked)
+            return connection.replied.append(lambda: asked.come(Undecided(code)))
+        reply = said.get("answer", said)
+        if reply.get("ok"):
+            asked.first(reply)
+        connection.replied.append(lambda: asked.come(reply if reply.get("ok") else Refused(reply)))
 
     def _settle(self, connection: _Connection) -> None:
         changed, connection.changed = [*connection.changed], {}
@@ -470,6 +562,8 @@ class Db:
         replied, connection.replied = connection.replied, []
         for act in replied:
             act()
+        if self.role is not None and connection is self._connection:
+            self._flush()
         if not connection.is_in:
             connection.is_in = True
             self._turned.set()

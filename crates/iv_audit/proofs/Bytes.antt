@@ -1,12 +1,12 @@
--- The gateway's bytes among those of a journal.
-use Rattle.std.proofs.Common.{◌≡◌, ℕ, suc, Bool, true, false, cond, List, [], ◌∷◌, ◌++◌, append_assoc, append-nil, drop, map, refl, ap, ◌∙◌, sym}
-use Rattle.std.specs.Prelude.{◌==◌}
+-- The gateway's lines among those of a journal.
+use Rattle.std.proofs.Common.{◌≡◌, ℕ, suc, Bool, true, false, cond, List, [], ◌∷◌, ◌++◌, append_assoc, append-nil, codes, take, map, refl, ap, ◌∙◌, sym}
+use Rattle.std.specs.Prelude.{◌==◌, bytes_eq}
+use Rattle.hex.specs.Hex.{encode_lower}
 use Rattle.std.specs.List.{AllByRecursion, list_any}
-use Rattle.iv_journal.specs.Journal.{Line, body_of, bytes_of, digest_behind, digest_of, is_text, journal_of, no_digest}
+use Rattle.iv_journal.specs.Journal.{Line, body_of, bytes_of, digest_of, is_text, journal_of, mark, no_digest}
 use Rattle.iv_journal.specs.Laws.{HasItsText}
-use Rattle.iv_audit.specs.Audit.{line_of, lines_of}
-use Rattle.iv_audit.specs.Reading.{bytes_in, ended_lines, entries_of, entry_in}
-use Rattle.iv_audit.specs.Laws.{BytesHaveEntries}
+use Rattle.iv_audit.specs.Reading.{ended_lines, given_in, line_in, line_of, lines_in}
+use Rattle.iv_audit.specs.Laws.{BytesHaveLines}
 use Rattle.iv_audit.proofs.Texts.{neither}
 
 abbrev pub AllText : List Line → Type 0
@@ -33,15 +33,28 @@ ended_all law d (l ∷ ls) rest a =
     ∙ (ended_one [] (body_of d l) (bytes_of (digest_of d l) ls ++ rest) ((law d l).one a.0)
     ∙ ap (λ z. body_of d l ∷ z) (ended_all law (digest_of d l) ls rest a.1))
 
-pub entries_all : (law : HaveTexts) (d : List ℕ) (ls : List Line) → map (λ line. entry_in (drop 75 line)) (bodies d ls) ≡ map (λ (l : Line). entry_in l.text) ls
-entries_all law d [] = refl
-entries_all law d (l ∷ ls) = (λ i. entry_in ((law d l).text i) ∷ entries_all law (digest_of d l) ls i)
+mark_back : (b : Bool) (rest : List ℕ) → bytes_eq (take 9 (mark b ++ rest)) (mark true) ≡ b
+mark_back true rest = refl
+mark_back false rest = refl
+
+-- a line by its bytes
+line_back : (law : HaveTexts) (d : List ℕ) (l : Line) → line_of (body_of d l) ≡ l
+line_back law d l = (λ i. record { is_last = mark_back l.is_last (encode_lower (digest_of d l) ++ (codes "\"," ++ l.text)) i; text = (law d l).text i })
+
+pub lines_back : (law : HaveTexts) (d : List ℕ) (ls : List Line) → map line_of (bodies d ls) ≡ ls
+lines_back law d [] = refl
+lines_back law d (l ∷ ls) = (λ i. line_back law d l i ∷ lines_back law (digest_of d l) ls i)
+
+-- the gateway's line of a line as it stands
+abbrev pub given_by : List ℕ → Line
+given_by line = line_in (line_of line)
+
+pub given_all : (law : HaveTexts) (d : List ℕ) (ls : List Line) → map given_by (bodies d ls) ≡ map line_in ls
+given_all law d [] = refl
+given_all law d (l ∷ ls) = (λ i. line_in (line_back law d l i) ∷ given_all law (digest_of d l) ls i)
 
 pub lines_all : (law : HaveTexts) (d : List ℕ) (ls : List Line) → AllText ls → ended_lines [] (bytes_of d ls) ≡ bodies d ls
 lines_all law d ls a = ap (ended_lines []) (sym (append-nil (bytes_of d ls))) ∙ (ended_all law d ls [] a ∙ append-nil (bodies d ls))
 
-pub have : HaveTexts → BytesHaveEntries
-have law [] a = refl
-have law (l ∷ ls) a =
-    ap (λ z. lines_of (map (λ line. entry_in (drop 75 line)) (drop 1 z))) (lines_all law no_digest (l ∷ ls) a)
-    ∙ ap lines_of (entries_all law (digest_of no_digest l) ls)
+pub have : HaveTexts → BytesHaveLines
+have law ls a = ap (λ z. given_in (map line_of z)) (lines_all law no_digest ls a) ∙ ap given_in (lines_back law no_digest ls)

@@ -6,31 +6,33 @@ use Rattle.std.proofs.lemmas.Bool.Decides.{nat_tests}
 use Rattle.iv_journal.specs.Journal.{Line, body_of, bytes_of, digest_of, form, has_head, head_of, is_text, journal_of, no_digest}
 use Rattle.iv_journal.specs.Reading.{before_whole, whole}
 use Rattle.iv_journal.specs.Laws.{CutsAreFronts, IsCut, IsJournal}
-use Rattle.iv_audit.specs.Audit.{Written, audit_of, head_line, lines_of, record_of, text_of, version}
-use Rattle.iv_audit.specs.Reading.{entries_of, entry_in}
+use Rattle.iv_audit.specs.Audit.{Written, audit_of, head_line, record_of, version}
+use Rattle.iv_audit.specs.Reading.{given_in, line_in}
 use Rattle.iv_audit.specs.Laws as law
 use Rattle.iv_audit.specs.Laws.{IsFront, IsHead, IsWritten, given}
 use Rattle.iv_audit.proofs.Bytes.{AllText}
 use Rattle.iv_audit.proofs.Texts.{keeps}
 
--- ---- each text is a record
+-- ---- whole records
 
-abbrev AllLast : List Line → Type 0
-AllLast ls = AllByRecursion (λ (l : Line). l.is_last ≡ true) ls
+head_off : (h : Line) (ls : List Line) → h.is_last ≡ true → drop 1 (whole (h ∷ ls)) ≡ whole ls
+head_off h ls e = by (whole ls)
+  where
+    by : (ws : List Line) → drop 1 (before_whole h ws) ≡ ws
+    by [] = ap (λ b. drop 1 (cond b (h ∷ []) [])) e
+    by (w ∷ ws) = refl
 
-whole_all : (ls : List Line) → AllLast ls → whole ls ≡ ls
-whole_all [] a = refl
-whole_all (l ∷ []) a = ap (λ b. cond b (l ∷ []) []) a.0
-whole_all (l ∷ m ∷ ls) a = ap (before_whole l) (whole_all (m ∷ ls) a.1)
+whole_given : (ls : List Line) → map line_in (whole ls) ≡ whole (map line_in ls)
+whole_given [] = refl
+whole_given (l ∷ ls) = by (whole ls) (whole_given ls)
+  where
+    one : (b : Bool) → map line_in (cond b (l ∷ []) []) ≡ cond b (line_in l ∷ []) []
+    one true = refl
+    one false = refl
 
-last_take : (n : ℕ) (ls : List Line) → AllLast ls → AllLast (take n ls)
-last_take zero ls a = tt
-last_take (suc n) [] a = tt
-last_take (suc n) (l ∷ ls) a = (a.0, last_take n ls a.1)
-
-last_records : (ws : List Written) → AllLast (map record_of ws)
-last_records [] = tt
-last_records (w ∷ ws) = (refl, last_records ws)
+    by : (ws : List Line) → map line_in ws ≡ whole (map line_in ls) → map line_in (before_whole l ws) ≡ before_whole (line_in l) (whole (map line_in ls))
+    by [] e = one l.is_last ∙ ap (before_whole (line_in l)) e
+    by (w ∷ ws) e = ap (before_whole (line_in l)) e
 
 pub texts_records : (ws : List Written) → AllByRecursion IsWritten ws → AllText (map record_of ws)
 texts_records [] a = tt
@@ -46,22 +48,23 @@ pub headed : (epoch more : List ℕ) → length epoch ≡ 32 → (bytes_eq (take
 headed epoch more h =
     ap (λ z. bytes_eq (take 2 z) (codes "\",")) (ap (λ n. drop n (epoch ++ (codes "\"," ++ more))) (sym h) ∙ behind_all epoch (codes "\"," ++ more))
 
--- ---- the entries
+-- ---- the lines
 
-entries_take : (n : ℕ) (ws : List Written) → AllByRecursion IsWritten ws → map (λ (l : Line). entry_in l.text) (take n (map record_of ws)) ≡ map (λ (w : Written). w.entry) (take n ws)
-entries_take zero ws a = refl
-entries_take (suc n) [] a = refl
-entries_take (suc n) (w ∷ ws) a = (λ i. keeps w a.0 i ∷ entries_take n ws a.1 i)
+given_take : (n : ℕ) (ws : List Written) → AllByRecursion IsWritten ws → map line_in (take n (map record_of ws)) ≡ take n (given ws)
+given_take zero ws a = refl
+given_take (suc n) [] a = refl
+given_take (suc n) (w ∷ ws) a = (λ i. keeps w a.0 i ∷ given_take n ws a.1 i)
 
 before : ℕ → ℕ
 before zero = 0
 before (suc n) = n
 
-entries_left : (epoch : List ℕ) (count : ℕ) (ws : List Written) → AllByRecursion IsWritten ws
-    → lines_of (entries_of (take count (audit_of epoch ws))) ≡ given (take (before count) ws)
+lines_left : (epoch : List ℕ) (count : ℕ) (ws : List Written) → AllByRecursion IsWritten ws
+    → given_in (whole (take count (audit_of epoch ws))) ≡ whole (take (before count) (given ws))
 unfolding before
-entries_left epoch zero ws a = refl
-entries_left epoch (suc n) ws a = ap lines_of (entries_take n ws a)
+lines_left epoch zero ws a = refl
+lines_left epoch (suc n) ws a =
+    ap (map line_in) (head_off (head_line epoch) (take n (map record_of ws)) refl) ∙ (whole_given (take n (map record_of ws)) ∙ ap whole (given_take n ws a))
 
 -- ---- lengths
 
@@ -129,10 +132,9 @@ pub cuts : CutsAreFronts → law.CutsAreFronts
 cuts fronts = λ epoch ws left r head a is.
     let ls = audit_of epoch ws in
     let c : IsCut (audit_of epoch ws) left r = fronts (audit_of epoch ws) left r (record { head = headed epoch version head.digits; texts = (head.text, texts_records ws a) }) is in
-    let lines : r.lines ≡ take c.count (audit_of epoch ws) = c.lines ∙ whole_all (take c.count (audit_of epoch ws)) (last_take c.count (audit_of epoch ws) (refl, last_records ws)) in
     record {
       count = before c.count;
-      entries = ap (λ (z : List Line). lines_of (entries_of z)) lines ∙ entries_left epoch c.count ws a;
+      lines = ap given_in c.lines ∙ lines_left epoch c.count ws a;
       all = λ n h k. within epoch ws left c.count n h c.most k;
       faultless = c.faultless;
     }

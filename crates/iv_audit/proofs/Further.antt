@@ -1,29 +1,33 @@
--- Journals that go on by entries, whole or torn.
-use Rattle.std.proofs.Common.{◌≡◌, ◌⊎◌, inl, inr, ℕ, zero, suc, ◌+◌, ◌-◌, ◌<◌, ◌≤◌, ◌^◌, Bool, true, false, cond, ◌||◌, List, [], ◌∷◌, ◌++◌, append_assoc, append-nil, Option, None, Some, IfSome, drop, take, map, length, length-append, refl, ap, ◌∙◌, sym, subst, arith}
+-- Journals that go on by lines, whole or torn.
+use Rattle.std.proofs.Common.{◌≡◌, ◌⊎◌, inl, inr, ℕ, zero, suc, ◌+◌, ◌-◌, ◌<◌, ◌≤◌, ◌^◌, Bool, true, false, cond, ◌||◌, List, [], ◌∷◌, ◌++◌, append_assoc, append-nil, Option, None, Some, IfSome, option_map, drop, take, map, length, length-append, refl, ap, ◌∙◌, sym, subst, arith}
 use Rattle.std.specs.Prelude.{◌==◌}
 use Rattle.std.specs.List.{AllByRecursion, list_any}
 use Rattle.std.proofs.lemmas.Bool.{false≢true}
 use Rattle.std.proofs.lemmas.List.{take-append-le}
 use Rattle.iv_journal.specs.Journal.{Line, body_of, bytes_of, digest_behind, digest_of, is_text, journal_of, no_digest}
-use Rattle.iv_audit.specs.Audit.{is_entry, line_of, lines_of, record_of}
-use Rattle.iv_audit.specs.Reading.{bytes_in, ended_lines, ends_line, entry_in}
+use Rattle.iv_audit.specs.Audit.{is_noted, is_request, record_of}
+use Rattle.iv_audit.specs.Reading.{ended_lines, ends_line, line_in, line_of, lines_in}
 use Rattle.iv_audit.specs.Laws.{BytesGoOn, GoOn, JournalsGoOn}
-use Rattle.iv_audit.specs.Writing.{GoesOnWith, note_at, noted_from}
+use Rattle.iv_audit.specs.Writing.{GoesOnWith, holder_at, note_by, noted_from}
 use Rattle.iv_audit.specs.declared.writing.Share.{Share}
-use Rattle.iv_audit.proofs.Texts.{entry_by, neither}
-use Rattle.iv_audit.proofs.Bytes.{AllText, HaveTexts, bodies, ended_one, entries_all, lines_all}
+use Rattle.iv_audit.proofs.Texts.{neither, text_back}
+use Rattle.iv_audit.proofs.Bytes.{AllText, HaveTexts, bodies, ended_one, given_all, given_by, lines_all}
 use Rattle.iv_audit.proofs.Cuts.{either}
-use Rattle.iv_audit.proofs.Goes.{AllTexts, bytes_append, digest_append, lines_append, texts_lines}
-
--- an entry's bytes, of a line as it stands
-abbrev entry_at : List ℕ → List ℕ
-entry_at line = entry_in (drop 75 line)
+use Rattle.iv_audit.proofs.Goes.{AllTexts, bytes_append, digest_append, texts_lines}
 
 -- ---- what stands behind
 
-map_append : (xs ys : List (List ℕ)) → map entry_at (xs ++ ys) ≡ map entry_at xs ++ map entry_at ys
+map_append : (xs ys : List (List ℕ)) → map given_by (xs ++ ys) ≡ map given_by xs ++ map given_by ys
 map_append [] ys = refl
-map_append (x ∷ xs) ys = ap (λ z. entry_at x ∷ z) (map_append xs ys)
+map_append (x ∷ xs) ys = ap (λ z. given_by x ∷ z) (map_append xs ys)
+
+map_twice : (xs : List (List ℕ)) → map line_in (map line_of xs) ≡ map given_by xs
+map_twice [] = refl
+map_twice (x ∷ xs) = ap (λ z. given_by x ∷ z) (map_twice xs)
+
+mapped : (xs : List (List ℕ)) → map line_in (drop 1 (map line_of xs)) ≡ map given_by (drop 1 xs)
+mapped [] = refl
+mapped (x ∷ xs) = map_twice xs
 
 ended_behind : (line xs rest : List ℕ) → ends_line xs ≡ true → ended_lines line (xs ++ rest) ≡ ended_lines line xs ++ ended_lines [] rest
 ended_behind line [] rest h = absurd (false≢true h)
@@ -50,12 +54,13 @@ drop_behind line (x ∷ y ∷ xs) ys h = by (x == 10) (drop_behind (line ++ x �
     by true e = refl
     by false e = e
 
-behind : (xs rest : List ℕ) → ends_line xs ≡ true → bytes_in (xs ++ rest) ≡ bytes_in xs ++ lines_of (map entry_at (ended_lines [] rest))
+behind : (xs rest : List ℕ) → ends_line xs ≡ true → lines_in (xs ++ rest) ≡ lines_in xs ++ map given_by (ended_lines [] rest)
 behind xs rest h =
-    ap (λ z. lines_of (map entry_at (drop 1 z))) (ended_behind [] xs rest h)
-    ∙ (ap (λ z. lines_of (map entry_at z)) (drop_behind [] xs (ended_lines [] rest) h)
-    ∙ (ap lines_of (map_append (drop 1 (ended_lines [] xs)) (ended_lines [] rest))
-    ∙ lines_append (map entry_at (drop 1 (ended_lines [] xs))) (map entry_at (ended_lines [] rest))))
+    mapped (ended_lines [] (xs ++ rest))
+    ∙ (ap (λ z. map given_by (drop 1 z)) (ended_behind [] xs rest h)
+    ∙ (ap (map given_by) (drop_behind [] xs (ended_lines [] rest) h)
+    ∙ (map_append (drop 1 (ended_lines [] xs)) (ended_lines [] rest)
+    ∙ ap (λ z. z ++ map given_by (ended_lines [] rest)) (sym (mapped (ended_lines [] xs))))))
 
 ends_ten : (xs : List ℕ) → ends_line (xs ++ 10 ∷ []) ≡ true
 ends_ten [] = refl
@@ -91,16 +96,17 @@ take_past n [] ys h = ap (λ m. take m ys) (let e : n ≡ n - 0 = omega arith in
 take_past zero (x ∷ xs) ys h = absurd (let no : ⊥ = omega (arith, h) in no)
 take_past (suc n) (x ∷ xs) ys h = ap (λ z. x ∷ z) (take_past n xs ys (omega (arith, h)) ∙ ap (λ m. xs ++ take m ys) (let e : n - length xs ≡ suc n - suc (length xs) = omega arith in e))
 
-torn_lines : (law : HaveTexts) (n : ℕ) (d : List ℕ) (ls : List Line) → AllText ls → (k : ℕ) × (ended_lines [] (take n (bytes_of d ls)) ≡ bodies d (take k ls))
-torn_lines law zero d ls a = (0, refl)
-torn_lines law (suc n) d [] a = (0, refl)
+torn_lines : (law : HaveTexts) (n : ℕ) (d : List ℕ) (ls : List Line) → AllText ls → (k : ℕ) × (k ≤ length ls) × (ended_lines [] (take n (bytes_of d ls)) ≡ bodies d (take k ls))
+torn_lines law zero d ls a = (0, omega arith, refl)
+torn_lines law (suc n) d [] a = (0, omega arith, refl)
 torn_lines law (suc n) d (l ∷ ls) a = by (either (suc n) (length (body_of d l))) (torn_lines law (suc n - suc (length (body_of d l))) (digest_of d l) ls a.1)
   where
     by : (suc n ≤ length (body_of d l)) ⊎ (suc (length (body_of d l)) ≤ suc n)
-        → ((k : ℕ) × (ended_lines [] (take (suc n - suc (length (body_of d l))) (bytes_of (digest_of d l) ls)) ≡ bodies (digest_of d l) (take k ls)))
-        → (k : ℕ) × (ended_lines [] (take (suc n) (bytes_of d (l ∷ ls))) ≡ bodies d (take k (l ∷ ls)))
+        → ((k : ℕ) × (k ≤ length ls) × (ended_lines [] (take (suc n - suc (length (body_of d l))) (bytes_of (digest_of d l) ls)) ≡ bodies (digest_of d l) (take k ls)))
+        → (k : ℕ) × (k ≤ suc (length ls)) × (ended_lines [] (take (suc n) (bytes_of d (l ∷ ls))) ≡ bodies d (take k (l ∷ ls)))
     by (inl f) later = (
       0,
+      omega arith,
       ap (ended_lines []) (take-append-le (suc n) (body_of d l) (10 ∷ bytes_of (digest_of d l) ls) f)
           ∙ ended_none [] (take (suc n) (body_of d l)) (none_take (suc n) (body_of d l) ((law d l).one a.0)),
     )
@@ -109,40 +115,39 @@ torn_lines law (suc n) d (l ∷ ls) a = by (either (suc n) (length (body_of d l)
         let past : length (body_of d l ++ 10 ∷ []) ≤ suc n = omega (arith, m, f) in
         let same : suc n - length (body_of d l ++ 10 ∷ []) ≡ suc n - suc (length (body_of d l)) = omega (arith, m) in (
           suc later.0,
+          (let m = later.1 in omega (arith, m)),
           ap (λ z. ended_lines [] (take (suc n) z)) (sym (append_assoc (body_of d l) (10 ∷ []) (bytes_of (digest_of d l) ls)))
               ∙ (ap (ended_lines []) (take_past (suc n) (body_of d l ++ 10 ∷ []) (bytes_of (digest_of d l) ls) past)
               ∙ (ap (ended_lines []) (append_assoc (body_of d l) (10 ∷ []) (take (suc n - length (body_of d l ++ 10 ∷ [])) (bytes_of (digest_of d l) ls)))
               ∙ (ended_one [] (body_of d l) (take (suc n - length (body_of d l ++ 10 ∷ [])) (bytes_of (digest_of d l) ls)) ((law d l).one a.0)
-              ∙ ap (λ z. body_of d l ∷ z) (ap (λ m. ended_lines [] (take m (bytes_of (digest_of d l) ls))) same ∙ later.1)))),
+              ∙ ap (λ z. body_of d l ∷ z) (ap (λ m. ended_lines [] (take m (bytes_of (digest_of d l) ls))) same ∙ later.2)))),
         )
 
--- ---- the entries of what goes on
+-- ---- the lines of what goes on
 
-note_second : (at : Option ℕ) (shares : List Share) (n : ℕ) → IfSome at (λ t. t < 2 ^ 64) → IfSome (note_at at shares n) (λ m. m.at < 2 ^ 64)
-note_second None shares n h = tt
-note_second (Some t) shares n h = h
+note_second : (at : Option ℕ) (holder text : List ℕ) → IfSome at (λ t. t < 2 ^ 64) → IfSome (note_by at holder text) (λ m. m.at < 2 ^ 64)
+note_second at holder text h = by (is_request text) at h
+  where
+    by : (b : Bool) (at : Option ℕ) → IfSome at (λ t. t < 2 ^ 64) → IfSome (cond b (option_map (λ t. record { at = t; holder = holder }) at) None) (λ m. m.at < 2 ^ 64)
+    by false at h = tt
+    by true None h = tt
+    by true (Some t) h = h
 
-entries_noted : (at : Option ℕ) (shares : List Share) (n : ℕ) (es : List (List ℕ)) → IfSome at (λ t. t < 2 ^ 64) → AllByRecursion (λ e. is_entry e ≡ true) es
-    → map (λ (l : Line). entry_in l.text) (map record_of (noted_from at shares n es)) ≡ es
-entries_noted at shares n [] h a = refl
-entries_noted at shares n (e ∷ es) h a =
-    (λ i. entry_by (note_at at shares n) e a.0 (note_second at shares n h) i ∷ entries_noted at shares (n + length (line_of e)) es h a.1 i)
+lines_noted : (at : Option ℕ) (shares : List Share) (n : ℕ) (ls : List Line) → IfSome at (λ t. t < 2 ^ 64) → AllByRecursion (λ (l : Line). is_noted l.text ≡ false) ls
+    → map line_in (map record_of (noted_from at shares n ls)) ≡ ls
+lines_noted at shares n [] h a = refl
+lines_noted at shares n (l ∷ ls) h a =
+    (λ i. record { is_last = l.is_last; text = text_back (note_by at (holder_at shares n) l.text) l.text a.0 (note_second at (holder_at shares n) l.text h) i }
+    ∷ lines_noted at shares (n + 1) ls h a.1 i)
 
-take_lines : (k : ℕ) (ls : List Line) → map (λ (l : Line). entry_in l.text) (take k ls) ≡ take k (map (λ (l : Line). entry_in l.text) ls)
+length_noted : (at : Option ℕ) (shares : List Share) (n : ℕ) (ls : List Line) → length (map record_of (noted_from at shares n ls)) ≡ length ls
+length_noted at shares n [] = refl
+length_noted at shares n (l ∷ ls) = ap suc (length_noted at shares (n + 1) ls)
+
+take_lines : (k : ℕ) (ls : List Line) → map line_in (take k ls) ≡ take k (map line_in ls)
 take_lines zero ls = refl
 take_lines (suc k) [] = refl
-take_lines (suc k) (l ∷ ls) = ap (λ z. entry_in l.text ∷ z) (take_lines k ls)
-
--- the lines of first entries are the first bytes of all
-front_of : (k : ℕ) (es : List (List ℕ)) → lines_of (take k es) ≡ take (length (lines_of (take k es))) (lines_of es)
-front_of zero es = refl
-front_of (suc k) [] = refl
-front_of (suc k) (e ∷ es) =
-    let l = length-append (line_of e) (lines_of (take k es)) in
-    let past : length (line_of e) ≤ length (line_of e ++ lines_of (take k es)) = omega (arith, l) in
-    let same : length (line_of e ++ lines_of (take k es)) - length (line_of e) ≡ length (lines_of (take k es)) = omega (arith, l) in
-    sym (take_past (length (line_of e ++ lines_of (take k es))) (line_of e) (lines_of es) past
-    ∙ (ap (λ m. line_of e ++ take m (lines_of es)) same ∙ ap (λ z. line_of e ++ z) (sym (front_of k es))))
+take_lines (suc k) (l ∷ ls) = ap (λ z. line_in l ∷ z) (take_lines k ls)
 
 texts_behind : (ls ms : List Line) → AllText ls → AllText ms → AllText (ls ++ ms)
 texts_behind [] ms a b = b
@@ -150,36 +155,36 @@ texts_behind (l ∷ ls) ms a b = (a.0, texts_behind ls ms a.1 b)
 
 go_on : HaveTexts → BytesGoOn
 go_on law = λ before at shares given d after out h s g.
-    let texts = texts_lines (noted_from at shares 0 g.entries) g.goes.texts in
-    let entries = entries_noted at shares 0 g.entries s g.are in
-    let torn = λ (n : ℕ). torn_lines law n d (map record_of (noted_from at shares 0 g.entries)) texts in
+    let texts = texts_lines (noted_from at shares 0 given) g.goes.texts in
+    let lines = lines_noted at shares 0 given s g.are in
+    let torn = λ (n : ℕ). torn_lines law n d (map record_of (noted_from at shares 0 given)) texts in
     record {
       whole = behind before out h
-          ∙ ap (λ z. bytes_in before ++ z)
-          (ap (λ z. lines_of (map entry_at (ended_lines [] z))) g.goes.bytes
-          ∙ (ap (λ z. lines_of (map entry_at z)) (lines_all law d (map record_of (noted_from at shares 0 g.entries)) texts)
-          ∙ (ap lines_of (entries_all law d (map record_of (noted_from at shares 0 g.entries)) ∙ entries) ∙ sym g.given)));
+          ∙ ap (λ z. lines_in before ++ z)
+          (ap (λ z. map given_by (ended_lines [] z)) g.goes.bytes
+          ∙ (ap (map given_by) (lines_all law d (map record_of (noted_from at shares 0 given)) texts)
+          ∙ (given_all law d (map record_of (noted_from at shares 0 given)) ∙ lines)));
       torn = λ n. (
-        length (lines_of (take (torn n).0 g.entries)),
+        (torn n).0,
+        subst (λ m. (torn n).0 ≤ m) (length_noted at shares 0 given) (torn n).1,
         behind before (take n out) h
-            ∙ ap (λ z. bytes_in before ++ z)
-            (ap (λ z. lines_of (map entry_at (ended_lines [] (take n z)))) g.goes.bytes
-            ∙ (ap (λ z. lines_of (map entry_at z)) (torn n).1
-            ∙ (ap lines_of (entries_all law d (take (torn n).0 (map record_of (noted_from at shares 0 g.entries)))
-            ∙ (take_lines (torn n).0 (map record_of (noted_from at shares 0 g.entries)) ∙ ap (take (torn n).0) entries))
-            ∙ (front_of (torn n).0 g.entries ∙ ap (take (length (lines_of (take (torn n).0 g.entries)))) (sym g.given))))),
+            ∙ ap (λ z. lines_in before ++ z)
+            (ap (λ z. map given_by (ended_lines [] (take n z))) g.goes.bytes
+            ∙ (ap (map given_by) (torn n).2
+            ∙ (given_all law d (take (torn n).0 (map record_of (noted_from at shares 0 given)))
+            ∙ (take_lines (torn n).0 (map record_of (noted_from at shares 0 given)) ∙ ap (take (torn n).0) lines)))),
       );
-      ended = ap (λ z. ends_line (before ++ z)) g.goes.bytes ∙ ends_journal before d (map record_of (noted_from at shares 0 g.entries)) h;
+      ended = ap (λ z. ends_line (before ++ z)) g.goes.bytes ∙ ends_journal before d (map record_of (noted_from at shares 0 given)) h;
     }
 
 journals : JournalsGoOn
 journals = λ ls at shares given after out a g.
-    let texts = texts_lines (noted_from at shares 0 g.entries) g.goes.texts in
+    let texts = texts_lines (noted_from at shares 0 given) g.goes.texts in
     record {
-      more = map record_of (noted_from at shares 0 g.entries);
-      journal = ap (λ z. journal_of ls ++ z) g.goes.bytes ∙ sym (bytes_append no_digest ls (map record_of (noted_from at shares 0 g.entries)));
-      digest = g.goes.digest ∙ sym (digest_append no_digest ls (map record_of (noted_from at shares 0 g.entries)));
-      texts = texts_behind ls (map record_of (noted_from at shares 0 g.entries)) a texts;
+      more = map record_of (noted_from at shares 0 given);
+      journal = ap (λ z. journal_of ls ++ z) g.goes.bytes ∙ sym (bytes_append no_digest ls (map record_of (noted_from at shares 0 given)));
+      digest = g.goes.digest ∙ sym (digest_append no_digest ls (map record_of (noted_from at shares 0 given)));
+      texts = texts_behind ls (map record_of (noted_from at shares 0 given)) a texts;
     }
 
 pub further : HaveTexts → GoOn

@@ -1,5 +1,5 @@
 -- What is read of a journal.
-use Rattle.std.proofs.Common.{◌≡◌, ℕ, true, List, [], ◌∷◌, ◌++◌, append_assoc, Option, None, take, length, refl, ap, ◌∙◌, sym, subst}
+use Rattle.std.proofs.Common.{◌≡◌, ℕ, true, List, [], ◌∷◌, ◌++◌, append_assoc, Option, None, option_map, take, length, refl, ap, ◌∙◌, sym, subst}
 use Rattle.std.specs.List.{AllByRecursion}
 use Rattle.std.proofs.Math.Seq.{take-append_seam}
 use Rattle.iv_journal.specs.Journal.{Line, bytes_of, digest_behind, is_text, journal_of, no_digest}
@@ -7,8 +7,7 @@ use Rattle.iv_journal.specs.Reading.{IsReading, Reading}
 use Rattle.iv_journal.specs.Laws.{GoesOn, IsTold}
 use Rattle.iv_journal.specs.Ends.{AreEnded}
 use Rattle.iv_journal.specs.declared.reading.End.{End}
-use Rattle.iv_audit.specs.Audit.{lines_of}
-use Rattle.iv_audit.specs.Reading.{IsAudit, entries_of, is_audit}
+use Rattle.iv_audit.specs.Reading.{IsAudit, epoch_of, given_in, is_audit}
 use Rattle.iv_audit.specs.declared.reading.Audit.{Audit}
 use Rattle.iv_audit.proofs.Bytes.{AllText}
 
@@ -17,9 +16,10 @@ first_texts [] ms a = tt
 first_texts (l ∷ ls) ms a = (a.0, first_texts ls ms a.1)
 
 pub audit_is : ((bytes : List ℕ) (r : Reading) → IsReading bytes r → IsTold bytes r) → ((ls ms : List Line) → GoesOn ls ms)
-    → (bytes : List ℕ) (ls seen made : List Line) (fault : Option ℕ) (a : Audit) → IsReading bytes (record { lines = ls; fault = fault }) → fault ≡ None
-    → seen ≡ ls → true ≡ is_audit seen → AreEnded ls a.end → made ≡ ls → a.bytes.items ≡ lines_of (entries_of made) → IsAudit bytes a
-audit_is told on bytes ls seen made fault a r f s i e m b =
+    → (bytes : List ℕ) (ls seen made told_of : List Line) (fault : Option ℕ) (a : Audit) → IsReading bytes (record { lines = ls; fault = fault }) → fault ≡ None
+    → seen ≡ ls → true ≡ is_audit seen → AreEnded ls a.end → made ≡ ls → a.lines.items ≡ given_in made → told_of ≡ ls
+    → option_map (λ e. e.now) a.epoch ≡ epoch_of told_of → IsAudit bytes a
+audit_is told on bytes ls seen made told_of fault a r f s i e m b k h =
     let t = told bytes (record { lines = ls; fault = fault }) r in
     let more = bytes_of (digest_behind no_digest ls) t.parts in
     let all : bytes ≡ journal_of ls ++ (bytes_of (digest_behind no_digest ls) t.parts ++ t.rest) =
@@ -31,5 +31,6 @@ audit_is told on bytes ls seen made fault a r f s i e m b =
       ended = e;
       texts = first_texts ls t.parts t.texts;
       front = (λ j. take (e.length j) (all j)) ∙ take-append_seam (journal_of ls) (bytes_of (digest_behind no_digest ls) t.parts ++ t.rest);
-      entries = b ∙ ap (λ (z : List Line). lines_of (entries_of z)) m;
+      given = b ∙ ap given_in m;
+      epoch = h ∙ ap epoch_of k;
     }

@@ -1,16 +1,15 @@
 -- Texts with notes, and what is read of them: no quotation mark is in a number or in a name.
 use Rattle.std.proofs.Common.{◌≡◌, ℕ, zero, suc, ◌+◌, ◌/◌, ◌%◌, ◌<◌, ◌^◌, Bool, true, false, cond, ◌||◌, List, [], ◌∷◌, ◌++◌, append_assoc, codes, drop, take, get_or, length, Option, None, Some, IfSome, refl, ap, ◌∙◌, sym, subst, arith}
-use Rattle.std.specs.Prelude.{◌==◌, bytes_eq, decimal, nat_lt}
+use Rattle.std.specs.Prelude.{◌==◌, decimal, nat_lt}
 use Rattle.std.specs.List.{list_any}
 use Rattle.std.specs.Str.Parse.{AllDigits}
 use Rattle.std.specs.Char.{digit_value}
 use Rattle.std.proofs.lemmas.Bool.{false≢true, eqb-true}
 use Rattle.std.proofs.lemmas.Fmt.{decimal_is_IsNumeral}
-use Rattle.std.proofs.lemmas.Slice.Eq.{bytes_eq-Decides}
 use Rattle.hex.specs.Hex.{encode_lower, encode_with, lower_digits}
-use Rattle.iv_audit.specs.Audit.{Note, escaped, escaped_byte, is_entry, is_escaped, note_text, text_by}
-use Rattle.iv_audit.specs.Reading.{behind_first, entry_in}
-use Rattle.iv_audit.specs.Laws.{TextsKeepEntries}
+use Rattle.iv_audit.specs.Audit.{Note, escaped, escaped_byte, is_escaped, is_noted, note_text, text_by}
+use Rattle.iv_audit.specs.Reading.{behind_first, text_in}
+use Rattle.iv_audit.specs.Laws.{TextsKeepLines}
 
 pub neither : (b c : Bool) → (b || c) ≡ false → (b ≡ false) × (c ≡ false)
 neither true c h = absurd (false≢true (sym h))
@@ -69,7 +68,7 @@ skip b (x ∷ xs) ys h =
     let e = neither (x == b) (list_any (λ z. z == b) xs) h in
     ap (λ z. cond z (xs ++ ys) (behind_first b (xs ++ ys))) e.0 ∙ skip b xs ys e.1
 
-noted : (n : Note) (e : List ℕ) → n.at < 2 ^ 64 → entry_in (note_text n ++ e) ≡ e
+noted : (n : Note) (e : List ℕ) → n.at < 2 ^ 64 → text_in (note_text n ++ e) ≡ e
 noted n e h =
     let name = escaped n.holder in
     ap (λ z. drop 1 (behind_first 34 (drop 5 (behind_first 34 z)))) (append_assoc (decimal n.at) (codes ",\"by\":\"" ++ (escaped n.holder ++ codes "\",")) e)
@@ -77,22 +76,12 @@ noted n e h =
     ∙ (ap (λ z. drop 1 (behind_first 34 z)) (append_assoc (escaped n.holder) (codes "\",") e)
     ∙ ap (drop 1) (skip 34 (escaped n.holder) (codes "\"," ++ e) (none_escaped n.holder))))
 
-five : (e : List ℕ) → take 5 e ≡ take 5 (take 6 e)
-five [] = refl
-five (a ∷ []) = refl
-five (a ∷ b ∷ []) = refl
-five (a ∷ b ∷ c ∷ []) = refl
-five (a ∷ b ∷ c ∷ d ∷ []) = refl
-five (a ∷ b ∷ c ∷ d ∷ x ∷ e) = refl
+pub plain : (e : List ℕ) → is_noted e ≡ false → text_in e ≡ e
+plain e h = ap (λ z. cond z (drop 1 (behind_first 34 (drop 5 (behind_first 34 (drop 5 e))))) e) h
 
-pub plain : (e : List ℕ) → is_entry e ≡ true → entry_in e ≡ e
-plain e h =
-    let front : take 6 e ≡ codes "\"as\":\"" = (bytes_eq-Decides (take 6 e) (codes "\"as\":\"")).0 h in
-    ap (λ z. cond (bytes_eq z (codes "\"at\":")) (drop 1 (behind_first 34 (drop 5 (behind_first 34 (drop 5 e))))) e) (five e ∙ ap (take 5) front)
+pub text_back : (o : Option Note) (e : List ℕ) → is_noted e ≡ false → IfSome o (λ n. n.at < 2 ^ 64) → text_in (text_by o e) ≡ e
+text_back None e h k = plain e h
+text_back (Some n) e h k = noted n e k
 
-pub entry_by : (o : Option Note) (e : List ℕ) → is_entry e ≡ true → IfSome o (λ n. n.at < 2 ^ 64) → entry_in (text_by o e) ≡ e
-entry_by None e h k = plain e h
-entry_by (Some n) e h k = noted n e k
-
-pub keeps : TextsKeepEntries
-keeps w h = entry_by w.note w.entry h.entry h.at
+pub keeps : TextsKeepLines
+keeps w h = ap (λ z. record { is_last = w.line.is_last; text = z }) (text_back w.note w.line.text h.line h.at)

@@ -135,7 +135,10 @@ fn epoch_of<'a>(lines: &[Line<'a>]) -> Option<&'a [u8]>
 fn given_in<'a>(alloc: Global, lines: &[Line<'a>]) -> Result<Vec<Line<'a>>, AllocError>
     ensures { IfOk result (λ out. out.items ≡ given_in lines.now) }
 {
-    lines_in(alloc, lines.get(1..).unwrap_or(&[]))
+    match lines.get(1..) {
+        Some(rest) => lines_in(alloc, rest),
+        None => Ok(Vec::new(alloc)),
+    }
 }
 
 /// Reads a journal.

@@ -1,13 +1,13 @@
 -- What a disk keeps, behind what is appended to it.
 use Rattle.std.proofs.Common.{◌≡◌, ℕ, suc, ◌<◌, ◌^◌, true, List, [], ◌∷◌, ◌++◌, append-nil, None, Some, IfSome, take, length, refl, ap, ◌∙◌, sym, subst, arith}
-use Rattle.std.specs.Prelude.{Option}
+use Rattle.std.specs.Prelude.{◌≤◌, Option, option_map}
 use Rattle.std.specs.List.{AllByRecursion}
 use Rattle.std.specs.Io.KnownBytes.{Appends, Keeps}
 use Rattle.iv_journal.specs.Journal.{Line, bytes_of, digest_behind, is_text, journal_of, no_digest}
 use Rattle.iv_journal.specs.Ends.{AreEnded}
-use Rattle.iv_audit.specs.Audit.{head_line, lines_of}
-use Rattle.iv_audit.specs.Laws.{BytesHaveEntries, GoOn}
-use Rattle.iv_audit.specs.Reading.{IsAudit, bytes_in, ends_line, entries_of}
+use Rattle.iv_audit.specs.Audit.{head_line}
+use Rattle.iv_audit.specs.Laws.{BytesHaveLines, GoOn}
+use Rattle.iv_audit.specs.Reading.{IsAudit, ends_line, given_in, lines_in}
 use Rattle.iv_audit.specs.Writing.{GoesOnWith, IsPushed}
 use Rattle.iv_audit.specs.declared.reading.Audit.{Audit}
 use Rattle.iv_audit.specs.declared.writing.Share.{Share}
@@ -27,14 +27,14 @@ pub record IsBegun (a : Audit) (bytes : List ℕ) : Type 0 where
   pub journal : bytes ≡ journal_of lines
   pub texts : AllByRecursion (λ l. is_text l.text ≡ true) lines
   pub ended : AreEnded lines a.end
-  pub entries : a.bytes.items ≡ lines_of (entries_of lines)
+  pub given : a.lines.items ≡ given_in lines
 
 pub begun : (a : Audit) (old new : Option (List ℕ)) → IfSome old (λ xs. IsAudit xs a) → Keeps (first_known a.end.length old) new → IsSilent old new → IfSome new (IsBegun a)
 begun a None None h k s = tt
 begun a None (Some ys) h k s = tells_not ys (s refl)
 begun a (Some xs) None h k s = absurd k
 begun a (Some xs) (Some ys) h k s =
-    record { lines = h.lines; journal = k ∙ h.front; texts = h.texts; ended = h.ended; entries = h.entries }
+    record { lines = h.lines; journal = k ∙ h.front; texts = h.texts; ended = h.ended; given = h.given }
 
 some_lines : (n : ℕ) (ls : List Line) (digest bytes : List ℕ) → (n ≡ 0 → ⊥) → n ≡ length ls → bytes ≡ journal_of ls → digest ≡ digest_behind no_digest ls
     → AllByRecursion (λ (l : Line). is_text l.text ≡ true) ls → IsJournalTo digest bytes
@@ -45,9 +45,9 @@ pub stands_on : (a : Audit) (o : Option (List ℕ)) → IfSome o (IsBegun a) →
 stands_on a None b h = tt
 stands_on a (Some ys) b h = some_lines a.end.lines b.lines a.end.digest ys h b.ended.lines b.journal b.ended.digest b.texts
 
-pub kept_on : BytesHaveEntries → (a : Audit) (o : Option (List ℕ)) → IfSome o (IsBegun a) → IfSome o (λ ys. bytes_in ys ≡ a.bytes.items)
+pub kept_on : BytesHaveLines → (a : Audit) (o : Option (List ℕ)) → IfSome o (IsBegun a) → IfSome o (λ ys. lines_in ys ≡ a.lines.items)
 kept_on law a None b = tt
-kept_on law a (Some ys) b = ap bytes_in b.journal ∙ (law b.lines b.texts ∙ sym b.entries)
+kept_on law a (Some ys) b = ap lines_in b.journal ∙ (law b.lines b.texts ∙ sym b.given)
 
 no_lines : (n : ℕ) (ls : List Line) → n ≡ length ls → n ≡ 0 → ls ≡ []
 no_lines n [] e z = refl
@@ -57,19 +57,19 @@ pub empty_on : (a : Audit) (o : Option (List ℕ)) → IfSome o (IsBegun a) → 
 empty_on a None b z = tt
 empty_on a (Some ys) b z = b.journal ∙ ap journal_of (no_lines a.end.lines b.lines b.ended.lines z)
 
-pub none_on : (a : Audit) (old new : Option (List ℕ)) → IfSome old (IsBegun a) → a.end.lines ≡ 0 → IsSilent old new → IfSome new (λ ys. bytes_in ys ≡ []) → IfSome new (λ ys. bytes_in ys ≡ a.bytes.items)
+pub none_on : (a : Audit) (old new : Option (List ℕ)) → IfSome old (IsBegun a) → a.end.lines ≡ 0 → IsSilent old new → IfSome new (λ ys. lines_in ys ≡ []) → IfSome new (λ ys. lines_in ys ≡ a.lines.items)
 none_on a old None b z s h = tt
 none_on a None (Some ys) b z s h = tells_not ys (s refl)
-none_on a (Some xs) (Some ys) b z s h = h ∙ sym (b.entries ∙ ap (λ (ls : List Line). lines_of (entries_of ls)) (no_lines a.end.lines b.lines b.ended.lines z))
+none_on a (Some xs) (Some ys) b z s h = h ∙ sym (b.given ∙ ap given_in (no_lines a.end.lines b.lines b.ended.lines z))
 
 -- pushed to nothing behind nothing
-pub pushed : (epoch before was chain out seen : List ℕ) → before ≡ no_digest → was ≡ [] → seen ≡ out → IsPushed (head_line epoch).text before chain was out
-    → IsPushed (head_line epoch).text no_digest chain [] seen
+pub pushed : (epoch before was chain out seen : List ℕ) → before ≡ no_digest → was ≡ [] → seen ≡ out → IsPushed (head_line epoch) before chain was out
+    → IsPushed (head_line epoch) no_digest chain [] seen
 pushed epoch before was chain out seen e f g h =
-    subst (λ (y : List ℕ). IsPushed (head_line epoch).text no_digest chain [] y) (sym g)
-    (subst (λ (z : List ℕ). IsPushed (head_line epoch).text z chain [] out) e (subst (λ (w : List ℕ). IsPushed (head_line epoch).text before chain w out) f h))
+    subst (λ (y : List ℕ). IsPushed (head_line epoch) no_digest chain [] y) (sym g)
+    (subst (λ (z : List ℕ). IsPushed (head_line epoch) z chain [] out) e (subst (λ (w : List ℕ). IsPushed (head_line epoch) before chain w out) f h))
 
-pub headed : (epoch chain out : List ℕ) (old new : Option (List ℕ)) → IfSome old (λ xs. xs ≡ []) → Appends old new out → IsSilent old new → IsPushed (head_line epoch).text no_digest chain [] out
+pub headed : (epoch chain out : List ℕ) (old new : Option (List ℕ)) → IfSome old (λ xs. xs ≡ []) → Appends old new out → IsSilent old new → IsPushed (head_line epoch) no_digest chain [] out
     → IfSome new (IsJournalTo chain)
 headed epoch chain out None None h p s q = tt
 headed epoch chain out None (Some ys) h p s q = tells_not ys (s refl)
@@ -77,12 +77,12 @@ headed epoch chain out (Some xs) None h p s q = absurd p
 headed epoch chain out (Some xs) (Some ys) h p s q =
     record { head = head_line epoch; lines = []; journal = p ∙ (ap (λ z. z ++ out) h ∙ q.bytes); ends = q.digest; texts = (q.is, tt) }
 
-pub headed_none : BytesHaveEntries → (epoch chain out : List ℕ) (old new : Option (List ℕ)) → IfSome old (λ xs. xs ≡ []) → Appends old new out → IsSilent old new
-    → IsPushed (head_line epoch).text no_digest chain [] out → IfSome new (λ ys. bytes_in ys ≡ [])
+pub headed_none : BytesHaveLines → (epoch chain out : List ℕ) (old new : Option (List ℕ)) → IfSome old (λ xs. xs ≡ []) → Appends old new out → IsSilent old new
+    → IsPushed (head_line epoch) no_digest chain [] out → IfSome new (λ ys. lines_in ys ≡ [])
 headed_none law epoch chain out None None h p s q = tt
 headed_none law epoch chain out None (Some ys) h p s q = tells_not ys (s refl)
 headed_none law epoch chain out (Some xs) None h p s q = absurd p
-headed_none law epoch chain out (Some xs) (Some ys) h p s q = ap bytes_in (p ∙ (ap (λ z. z ++ out) h ∙ q.bytes)) ∙ law (head_line epoch ∷ []) (q.is, tt)
+headed_none law epoch chain out (Some xs) (Some ys) h p s q = ap lines_in (p ∙ (ap (λ z. z ++ out) h ∙ q.bytes)) ∙ law (head_line epoch ∷ []) (q.is, tt)
 
 pub whole_on : GoOn → (digest : List ℕ) (o : Option (List ℕ)) → IfSome o (IsJournalTo digest) → is_whole o ≡ true
 whole_on law digest None h = refl
@@ -90,34 +90,48 @@ whole_on law digest (Some ys) h = ap ends_line h.journal ∙ law.ended h.head h.
 
 -- ---- it goes on
 
-pub records : (t : ℕ) (shares : List Share) (given d e was out seen : List ℕ) → was ≡ [] → seen ≡ out → GoesOnWith (Some t) shares given d e was out → GoesOnWith (Some t) shares given d e [] seen
+pub records : (t : ℕ) (shares : List Share) (given : List Line) (d e was out seen : List ℕ) → was ≡ [] → seen ≡ out → GoesOnWith (Some t) shares given d e was out
+    → GoesOnWith (Some t) shares given d e [] seen
 records t shares given d e was out seen f g h =
     subst (λ (y : List ℕ). GoesOnWith (Some t) shares given d e [] y) (sym g) (subst (λ (w : List ℕ). GoesOnWith (Some t) shares given d e w out) f h)
 
-pub whole_given : GoOn → (t : ℕ) (shares : List Share) (given d e out : List ℕ) (old new : Option (List ℕ)) → t < 2 ^ 64 → is_whole old ≡ true
-    → GoesOnWith (Some t) shares given d e [] out → Appends old new out → Appends (given_to old) (given_to new) given
-whole_given law t shares given d e out None new s h g p = tt
-whole_given law t shares given d e out (Some xs) None s h g p = absurd p
-whole_given law t shares given d e out (Some xs) (Some ys) s h g p = ap bytes_in p ∙ (law.bytes xs (Some t) shares given d e out h s g).whole
+-- what was given before, and these
+abbrev pub GivenMore : Option (List ℕ) → Option (List ℕ) → List Line → Type 0
+GivenMore old new given = given_to new ≡ option_map (λ ls. ls ++ given) (given_to old)
 
-pub still_whole : GoOn → (t : ℕ) (shares : List Share) (given d e out : List ℕ) (old new : Option (List ℕ)) → t < 2 ^ 64 → is_whole old ≡ true
+pub whole_given : GoOn → (t : ℕ) (shares : List Share) (given : List Line) (d e out : List ℕ) (old new : Option (List ℕ)) → t < 2 ^ 64 → is_whole old ≡ true
+    → GoesOnWith (Some t) shares given d e [] out → Appends old new out → IsSilent old new → GivenMore old new given
+whole_given law t shares given d e out None new s h g p q = ap given_to (q refl)
+whole_given law t shares given d e out (Some xs) None s h g p q = absurd p
+whole_given law t shares given d e out (Some xs) (Some ys) s h g p q = ap Some (ap lines_in p ∙ (law.bytes xs (Some t) shares given d e out h s g).whole)
+
+pub still_whole : GoOn → (t : ℕ) (shares : List Share) (given : List Line) (d e out : List ℕ) (old new : Option (List ℕ)) → t < 2 ^ 64 → is_whole old ≡ true
     → GoesOnWith (Some t) shares given d e [] out → Appends old new out → IsSilent old new → is_whole new ≡ true
 still_whole law t shares given d e out old None s h g p q = refl
 still_whole law t shares given d e out None (Some ys) s h g p q = tells_not ys (q refl)
 still_whole law t shares given d e out (Some xs) (Some ys) s h g p q = ap ends_line p ∙ (law.bytes xs (Some t) shares given d e out h s g).ended
 
-pub still_stands : GoOn → (t : ℕ) (shares : List Share) (given d e out : List ℕ) (old new : Option (List ℕ)) → GoesOnWith (Some t) shares given d e [] out → Appends old new out → IsSilent old new
-    → IfSome old (IsJournalTo d) → IfSome new (IsJournalTo e)
+pub still_stands : GoOn → (t : ℕ) (shares : List Share) (given : List Line) (d e out : List ℕ) (old new : Option (List ℕ)) → GoesOnWith (Some t) shares given d e [] out → Appends old new out
+    → IsSilent old new → IfSome old (IsJournalTo d) → IfSome new (IsJournalTo e)
 still_stands law t shares given d e out old None g p q h = tt
 still_stands law t shares given d e out None (Some ys) g p q h = tells_not ys (q refl)
 still_stands law t shares given d e out (Some xs) (Some ys) g p q h =
     let k = law.journals (h.head ∷ h.lines) (Some t) shares given e out h.texts (subst (λ (z : List ℕ). GoesOnWith (Some t) shares given z e [] out) h.ends g) in
     record { head = h.head; lines = h.lines ++ k.more; journal = p ∙ (ap (λ z. z ++ out) h.journal ∙ k.journal); ends = k.digest; texts = k.texts }
 
-pub torn_given : GoOn → (t : ℕ) (shares : List Share) (given d e out : List ℕ) (old new : Option (List ℕ)) (n : ℕ) → t < 2 ^ 64 → is_whole old ≡ true
-    → GoesOnWith (Some t) shares given d e [] out → Appends old new (take n out) → (m : ℕ) × Appends (given_to old) (given_to new) (take m given)
-torn_given law t shares given d e out None new n s h g p = (0, tt)
-torn_given law t shares given d e out (Some xs) None n s h g p = absurd p
-torn_given law t shares given d e out (Some xs) (Some ys) n s h g p =
+-- of these the first
+abbrev pub GivenFirst : Option (List ℕ) → Option (List ℕ) → List Line → Type 0
+GivenFirst old new given = (n : ℕ) × (n ≤ length given) × GivenMore old new (take n given)
+
+pub torn_given : GoOn → (t : ℕ) (shares : List Share) (given : List Line) (d e out : List ℕ) (old new : Option (List ℕ)) (n : ℕ) → t < 2 ^ 64 → is_whole old ≡ true
+    → GoesOnWith (Some t) shares given d e [] out → Appends old new (take n out) → IsSilent old new → GivenFirst old new given
+torn_given law t shares given d e out None new n s h g p q = (0, omega arith, ap given_to (q refl))
+torn_given law t shares given d e out (Some xs) None n s h g p q = absurd p
+torn_given law t shares given d e out (Some xs) (Some ys) n s h g p q =
     let m = (law.bytes xs (Some t) shares given d e out h s g).torn n in
-    (m.0, ap bytes_in p ∙ m.1)
+    (m.0, m.1, ap Some (ap lines_in p ∙ m.2))
+
+-- nothing was written
+pub none_given : (o : Option (List ℕ)) (given : List Line) → GivenFirst o o given
+none_given None given = (0, omega arith, refl)
+none_given (Some xs) given = (0, omega arith, ap Some (sym (append-nil (lines_in xs))))
