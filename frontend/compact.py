@@ -1,13 +1,14 @@
 #!/usr/bin/python3
 """Writes a journal anew: the requests that make its roles, relations, rights and policies, and then the rows as they are now.
 
-    frontend/compact.py [--rows N] JOURNAL [VIEWD]
+    frontend/compact.py [--rows N] [--copy] JOURNAL [VIEWD]
 
 viewd has no dump, so it is told the journal and the administrator subscribes to each table. What was written is read
 back by another viewd before it takes the journal's place. If anything differs, the journal stays as it was.
 
 A file, the journal of ./gateway, is written anew while no gateway writes it, and has no more who wrote what and when: a copy of the
-old one keeps that. Of a stream, redis://HOST:PORT/NAME, the lines are kept as a snapshot of the place to which it was read, gateways
+old one keeps that. The last 64 names of each holder stay, with their answers. A copy that is to go on in the place of a journal that had more gets
+another epoch by --copy. Of a stream, redis://HOST:PORT/NAME, the lines are kept as a snapshot of the place to which it was read, gateways
 that start begin there, and what is older is dropped; gateways run meanwhile.
 """
 import argparse
@@ -99,10 +100,10 @@ def locked(path: pathlib.Path) -> Iterator[None]:
         yield
 
 
-def entries(path: pathlib.Path) -> Iterator[tuple[str, Request]]:
+def entries(journal: audit.Journal, where: pathlib.Path) -> Iterator[tuple[str, Request]]:
     """Role and request of each entry. Raises Damaged."""
-    for number, text in enumerate(audit.read(path.read_bytes(), str(path)), 1):
-        yield entry_of(text.entry, f"{path}: entry {number}")
+    for number, text in enumerate(journal.entries, 1):
+        yield entry_of(text.entry, f"{where}: entry {number}")
 
 
 def replace(path: pathlib.Path, lines: Iterable[bytes], check: Callable[[pathlib.Path], None]) -> None:
@@ -126,15 +127,22 @@ def size_of(path: pathlib.Path) -> str:
     return f"{path.read_bytes().count(10):,} lines of {path.stat().st_size:,} bytes"
 
 
-def compact(path: pathlib.Path, words: list[str | pathlib.Path]) -> str:
+def names_of(journal: audit.Journal) -> dict[str, tuple[int, list[bytes]]]:
+    """How many names of each holder there were, and the last ones."""
+    return {holder: (own.count, own.recent) for holder, own in journal.owns.items()}
+
+
+def compact(path: pathlib.Path, words: list[str | pathlib.Path], is_copy: bool) -> str:
     with locked(path):
-        before, was = Viewd(words).state(entries(path)), size_of(path)
+        journal = audit.read(path.read_bytes(), str(path))
+        before, was = Viewd(words).state(entries(journal, path)), size_of(path)
 
         def check(fresh: pathlib.Path) -> None:
-            if Viewd(words).state(entries(fresh)) != before:
+            made = audit.read(fresh.read_bytes(), str(fresh))
+            if Viewd(words).state(entries(made, fresh)) != before or names_of(made) != names_of(journal):
                 raise Damaged(f"{fresh} leads to another state, so {path} stays")
 
-        replace(path, audit.written(lines(*before)), check)
+        replace(path, audit.written(journal, lines(*before), is_copy), check)
         return f"{path}: {size_of(path)} instead of {was}"
 
 
@@ -160,7 +168,7 @@ async def snapshot(url: str, words: list[str | pathlib.Path]) -> str:
 def main(given: argparse.Namespace) -> str:
     words = replay(given.viewd, given.rows)
     if "://" not in given.journal:
-        return compact(pathlib.Path(given.journal), words)
+        return compact(pathlib.Path(given.journal), words, given.copy)
     try:
         return asyncio.run(snapshot(given.journal, words))
     except Anew as why:
@@ -171,6 +179,7 @@ if __name__ == "__main__":
     here = pathlib.Path(__file__).resolve().parent
     words = argparse.ArgumentParser(description=__doc__, formatter_class=argparse.RawDescriptionHelpFormatter)
     words.add_argument("--rows", type=int, help="the row limit of viewd, if not its own: at least the one under which the journal was written")
+    words.add_argument("--copy", action="store_true", help="another epoch: for a copy that goes on in the place of a journal that had more")
     words.add_argument("journal", metavar="JOURNAL")
     words.add_argument("viewd", metavar="VIEWD", nargs="?", default=here.parent / "viewd", type=pathlib.Path)
     try:

@@ -80,6 +80,7 @@ class Wire:
         self.kinds: list[tuple[int, bytes]] = []
         self.code: int | None = None
         self.role: str | None = None
+        self.place = ""  # where names of its holder stood as it came in
         self.shape: list[str] = []
         if open_it:
             self.open()
@@ -184,9 +185,10 @@ class Wire:
         return self.event()
 
     def enter(self) -> str:
-        """The role that the token opens. An administrator is told the shape, too."""
-        role, *told = self.event()
-        self.shape = [line for line in told if not line.startswith('{"at":')]
+        """The role that the token opens. Then it is told where names of its holder stand, and an administrator the shape, too."""
+        role, place, *self.shape = self.event()
+        self.place = str(json.loads(place)["at"])
+        assert json.loads(place) == {"at": self.place, "names": 64}, place
         return str(json.loads(role)["role"])
 
     def end(self, seconds: float = PATIENCE) -> int | None:
@@ -334,16 +336,28 @@ class Gateway:
         assert wire.role == role
         return wire
 
+    def texts(self) -> list[bytes]:
+        """What the lines of the journal say behind its head, in their order."""
+        return [line[75:] for line in self.journal.read_bytes().split(b"\n")[1:-1]]
+
     def noted(self) -> list[Line]:
-        """The entries of the journal with their notes: `at`, and `by`, the holder of the token."""
-        return [{key: it for key, it in json.loads(line).items() if key != "last"} for line in self.journal.read_bytes().split(b"\n")[1:-1]]
+        """The requests of the journal with their notes: `at`, and `by`, the holder of the token."""
+        return [json.loads(b"{" + text) for text in self.texts() if not text.startswith((b'"once":', b'"holder":'))]
 
     def entries(self) -> list[Line]:
         return [{key: it for key, it in entry.items() if key not in ("at", "by")} for entry in self.noted()]
 
+    def names(self) -> list[Line]:
+        """The names of the journal, with their answers."""
+        return [json.loads(b"{" + text) for text in self.texts() if text.startswith(b'"once":')]
+
+    def epoch(self) -> str:
+        """That of the journal."""
+        return str(json.loads(self.journal.read_bytes().split(b"\n")[0])["epoch"])
+
     def lines(self) -> bytes:
-        """The journal's entries as they were before they had digests and notes."""
-        return b"".join(b'{"as":' + line.partition(b'"as":')[2] + b"\n" for line in self.journal.read_bytes().split(b"\n")[1:-1])
+        """The journal's requests as they were before they had digests and notes."""
+        return b"".join(b'{"as":' + text.partition(b'"as":')[2] + b"\n" for text in self.texts() if not text.startswith((b'"once":', b'"holder":')))
 
     def said(self) -> str:
         """All that it has written on standard error, since it was first started."""

@@ -27,7 +27,7 @@ test("the protocol's conversation is held", async (t) => {
     else Fake.last.tell(line.slice(2));
   }
   assert.deepEqual(Fake.last.sent, []);
-  assert.equal(lines.length, 17);
+  assert.equal(lines.length, 18);
   assert.deepEqual(seen, [["live", "2 mia"], ["live", "2 mia", "3 mia"], ["refused"], ["live", "2 mia", "3 mia"]]);
 });
 

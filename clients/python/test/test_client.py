@@ -47,7 +47,7 @@ async def test_the_protocols_conversation_is_held(fakes):
             assert fakes.all[-1].sent.pop(0) == line[2:]
         else:
             await fakes.all[-1].tell(line[2:])
-    assert not fakes.all[-1].sent and len(lines) == 17
+    assert not fakes.all[-1].sent and len(lines) == 18
     assert seen == [["live", "2 mia"], ["live", "2 mia", "3 mia"], ["refused"], ["live", "2 mia", "3 mia"]]
     await db.end()
 
