@@ -4,12 +4,14 @@ use Rattle.std.proofs.Common.{◌≡◌, ℕ, Bool, true, false, cond, List, [],
 use Rattle.std.proofs.lemmas.Bool.{false≢true}
 use Rattle.iv_clients.specs.Clients.{Shown, is_free}
 use Rattle.iv_clients.specs.Tokens.{Token}
-use Rattle.iv_gate.specs.Events.{Event, failed, next}
-use Rattle.iv_gate.specs.Gate.{Gate}
+use Rattle.iv_gate.specs.Events.{Event, IsWell, failed, forgave, next}
+use Rattle.iv_gate.specs.Gate.{Gate, Head}
 use Rattle.iv_gate.specs.Laws.{LeavesMarks, marked}
 use Rattle.iv_gate.specs.Restoring.{Restores, gate_at_start}
 use Rattle.iv_gate.specs.Runs.{Runs}
 use Rattle.iv_gate.specs.Runs as run
+use Rattle.iv_gateway.specs.Replays as is
+use Rattle.iv_journal.specs.Journal.{Line}
 use Rattle.iv_peer.specs.Socket.{fresh, passing, took}
 use Rattle.iv_desk.specs.Front.{Front, FrontRuns, Happens, at_socket, begins, begun, by_event, fails, front_at_start, goes_on, sends, socket_at, takes}
 use Rattle.iv_desk.specs.Desks.{IsCalledOut, IsDesk, IsHeard, IsHeardBy, IsRestored, at_each}
@@ -34,6 +36,12 @@ still_dead d e x y h same s = record { dead = s.dead ∙ same; alive = λ a. abs
 pub failed_on : (x y : Desk) → ((g : Gate) (e : Event) → g.dead ≡ true → next g e ≡ g) → ((d : Front) → IsDesk d x → IsDesk (by_event failed d) y) → Leads x y
 failed_on x y rests h = step_on x y (by_event failed)
     (λ d e s. still_dead d (by_event failed d) x y e (ap (λ (g : Gate). g.dead) (rests d.gate failed e)) (h d s)) (λ cap d r e. goes_on d (by_event failed d) r e fails) (λ d s e. h d s)
+
+-- names are forgiven, and a dead one stays dead
+pub forgave_on : (x y : Desk) → ((g : Gate) (e : Event) → g.dead ≡ true → next g e ≡ g)
+    → ((cap : ℕ) (d : Front) → FrontRuns cap d → d.gate.dead ≡ false → FrontRuns cap (by_event forgave d)) → ((d : Front) → IsDesk d x → IsDesk (by_event forgave d) y) → Leads x y
+forgave_on x y rests runs h = step_on x y (by_event forgave)
+    (λ d e s. still_dead d (by_event forgave d) x y e (ap (λ (g : Gate). g.dead) (rests d.gate forgave e)) (h d s)) runs (λ d s e. h d s)
 
 -- where a dead one would have failed
 pub done_on : (x y : Desk) (f : Front → Front) → ((d : Front) → IsDesk d x → d.gate.dead ≡ true → ⊥)
@@ -70,11 +78,11 @@ heard_on law m hearing x y f lives runs same h = λ cap r. by cap r r.front.gate
 pub took_runs : (m : ℕ) (bytes : List ℕ) (cap : ℕ) (d : Front) → FrontRuns cap d → d.gate.dead ≡ false → FrontRuns cap (at_socket m (took bytes) d)
 took_runs m bytes cap d r e = goes_on d (at_socket m (took bytes) d) r e (takes m bytes)
 
-pub called_on : ((g : Gate) (e : Event) → g.dead ≡ false → LeavesMarks g e)
+pub called_on : ((g : Gate) (e : Event) → IsWell e → g.dead ≡ false → LeavesMarks g e)
     → (f : ℕ → Front → Front) → ((cap : ℕ) (ms : List ℕ) (d : Front) → FrontRuns cap d → d.gate.dead ≡ false → FrontRuns cap (at_each f ms d))
-    → (e : Event) → ((g : Gate) → (marked g e).dead ≡ g.dead) → ((d : Front) → Happens d (by_event e d))
+    → (e : Event) → IsWell e → ((g : Gate) → (marked g e).dead ≡ g.dead) → ((d : Front) → Happens d (by_event e d))
     → (x y : Desk) → ((d : Front) → IsDesk d x → d.gate.dead ≡ true → ⊥) → ((d : Front) → IsDesk d x → IsCalledOut f (by_event e d) y) → Leads x y
-called_on law f calls e same happens x y lives h = λ cap r. by cap r r.front.gate.dead refl
+called_on law f calls e v same happens x y lives h = λ cap r. by cap r r.front.gate.dead refl
   where
     by : (cap : ℕ) (r : IsRunning cap x) (b : Bool) → r.front.gate.dead ≡ b → IsRunning cap y
     by cap r true k = absurd (lives r.front r.stands k)
@@ -82,18 +90,19 @@ called_on law f calls e same happens x y lives h = λ cap r. by cap r r.front.ga
         let w = h r.front r.stands in
         record {
           front = at_each f w.numbers (by_event e r.front);
-          runs = calls cap w.numbers (by_event e r.front) (goes_on r.front (by_event e r.front) r.runs k (happens r.front)) (ap (λ (z : Gate). z.dead) (law r.front.gate e k) ∙ (same r.front.gate ∙ k));
+          runs = calls cap w.numbers (by_event e r.front) (goes_on r.front (by_event e r.front) r.runs k (happens r.front)) (ap (λ (z : Gate). z.dead) (law r.front.gate e v k).marks ∙ (same r.front.gate ∙ k));
           stands = w.stands;
         }
 
 -- ---- it begins
 
-pub restored_on : ((cap most places : ℕ) (tokens : List Token) (sent : List Shown) (journal : List ℕ) (g : Gate) → Restores (gate_at_start cap tokens most sent) journal g → Runs cap g → FrontRuns cap (front_at_start g places))
-    → (cap : ℕ) (journal : List ℕ) (kept : ℕ) (x y : Desk) → IsNew cap x → ((d : Front) → IsDesk d x → IsRestored d journal kept y) → IsRunning cap y
-restored_on law cap journal kept x y new h =
-    let w = h (front_at_start (gate_at_start cap new.tokens new.most []) new.places) new.stands in
+pub restored_on : ((cap most places : ℕ) (tokens : List Token) (head : Head) (sent : List Shown) (journal : List Line) (g : Gate) → Restores (gate_at_start cap tokens most head sent) journal g
+        → Runs cap g → FrontRuns cap (front_at_start g places))
+    → (cap : ℕ) (journal : List Line) (x y : Desk) → IsNew cap x → ((d : Front) → is.IsNew d.gate → IsDesk d x → IsRestored d journal y) → IsRunning cap y
+restored_on law cap journal x y new h =
+    let w = h (front_at_start (gate_at_start cap new.tokens new.most new.head []) new.places) (record { entries = refl; kept = refl; forgiven = refl }) new.stands in
     record {
       front = front_at_start w.now new.places;
-      runs = law cap new.most new.places new.tokens [] journal w.now w.restores (run.begins new.tokens new.most journal w.now w.restores);
+      runs = law cap new.most new.places new.tokens new.head [] journal w.now w.restores (run.begins new.tokens new.most new.head journal w.now w.restores);
       stands = w.stands;
     }

@@ -3,11 +3,12 @@ use Rattle.std.proofs.Common.{◌≡◌, ℕ, ◌||◌, Bool, true, false, cond,
 use Rattle.std.proofs.lemmas.Bool.{false≢true}
 use Rattle.iv_rows.specs.Options.{if_some}
 use Rattle.iv_clients.specs.Clients.{client_at, is_free}
-use Rattle.iv_gate.specs.Events.{Event, failed, next}
+use Rattle.iv_gate.specs.Events.{Event, IsWell, failed, forgave, next}
 use Rattle.iv_gate.specs.Gate.{Gate}
 use Rattle.iv_gate.specs.Laws.{marked}
 use Rattle.iv_gate.specs.Restoring.{Restores}
 use Rattle.iv_gateway.specs.Views.{IsGate}
+use Rattle.iv_journal.specs.Journal.{Line}
 use Rattle.iv_gateway.specs.declared.gateway.Gateway.{Gateway}
 use Rattle.iv_peer.specs.Socket.{Socket, fresh}
 use Rattle.iv_peer.specs.Lives as life
@@ -45,15 +46,19 @@ pub starts_behind : (g : Gate) (most : ℕ) (x : Gateway) (slots : List (Option 
 starts_behind g most x slots b a e =
     record { alive = a; gate = b; places = e ∙ nobody_all most; lives = λ m s h. absurd (none_some s (sym (nobody_there most m) ∙ h)) }
 
-pub event_behind : LeavesMarks → (d : Front) (e : Event) (v x : Gateway) (slots : List (Option Place)) → IsBehind d v slots → IsGate (next d.gate e) x
+pub event_behind : LeavesMarks → (d : Front) (e : Event) → IsWell e → (v x : Gateway) (slots : List (Option Place)) → IsBehind d v slots → IsGate (next d.gate e) x
     → (marked d.gate e).dead ≡ d.gate.dead
     → IsBehind (by_event e d) x slots
-event_behind k d e v x slots b is same = record { alive = dead_by k d.gate e b.alive ∙ (same ∙ b.alive); gate = is; places = b.places; lives = b.lives }
+event_behind k d e w v x slots b is same = record { alive = dead_by k d.gate e w b.alive ∙ (same ∙ b.alive); gate = is; places = b.places; lives = b.lives }
 
-pub restored_behind : (d : Front) (journal : List ℕ) (now : Gate) (v x : Gateway) (slots : List (Option Place)) → IsBehind d v slots
+-- nothing happens to a dead one
+pub dead_forgives : ((g : Gate) (e : Event) → g.dead ≡ true → next g e ≡ g) → (d : Front) (x : Desk) → IsDesk d x → x.dead ≡ true → IsDesk (by_event forgave d) x
+dead_forgives rests d x b e = subst (λ (h : Gate). IsDesk (record d { gate = h }) x) (sym (rests d.gate forgave (sym b.dead ∙ e))) b
+
+pub restored_behind : (d : Front) (journal : List Line) (now : Gate) (v x : Gateway) (slots : List (Option Place)) → IsBehind d v slots
     → Restores d.gate journal now → IsGate now x
     → IsBehind (record d { gate = now }) x slots
-restored_behind d journal now v x slots b r is = record { alive = ap (λ (g : Gate). g.dead) r.gate ∙ b.alive; gate = is; places = b.places; lives = b.lives }
+restored_behind d journal now v x slots b r is = record { alive = ap (λ (g : Gate). g.dead) r.leads.gate ∙ b.alive; gate = is; places = b.places; lives = b.lives }
 
 pub begun_behind : (d : Front) (m : ℕ) (x : Gateway) (slots : List (Option Place)) (p : Place) → IsBehind d x slots → is_free m slots ≡ true
     → p ≡ place_of fresh → IsBehind (begun m d) x (set slots m (Some p))

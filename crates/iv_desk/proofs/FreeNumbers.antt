@@ -8,11 +8,12 @@ use Rattle.iv_rows.specs.Options.{if_some}
 use Rattle.iv_message.specs.Told.{Told}
 use Rattle.iv_clients.specs.Bounds.{most_requests, most_waiting}
 use Rattle.iv_clients.specs.Clients.{Client, Shown, all_shown, client_at, dropping, handing, is_slow, may_say, released, saying, text_shown}
-use Rattle.iv_gate.specs.Events.{Event, failed, gone, handed, hands, known, message, next, on_disk, presented, synced, ticked}
+use Rattle.iv_gate.specs.Events.{Event, IsWell, arrived, failed, forgave, gone, handed, hands, known, message, next, on_disk, presented, synced, ticked}
 use Rattle.iv_gate.specs.Gate.{Gate, is_heard}
 use Rattle.iv_gate.specs.Laws.{HoldAlways}
 use Rattle.iv_gate.specs.Replies.{IsClient, heard_by, told_by}
 use Rattle.iv_gate.specs.Restoring.{Restores}
+use Rattle.iv_journal.specs.Journal.{Line}
 use Rattle.iv_gate.specs.Runs.{Runs}
 use Rattle.iv_gate.specs.Runs as gate
 use Rattle.iv_gate.specs.Touched.{as_told, drops, itself_behind}
@@ -96,64 +97,66 @@ abbrev shown_by : Gate → Event → ℕ → Client → Client → List Shown
 shown_by g e m c d = map (λ t. record { told = t; entries = (next g e).entries; answers = is_some (heard_by m c e) }) (told_by c d)
 
 -- of a client that stays
-kept_waits : HoldAlways → (cap : ℕ) (g : Gate) (e : Event) → Runs cap g → g.dead ≡ false → (m : ℕ) (c d : Client) → IsClient g m c → IsClient (next g e) m d
+kept_waits : HoldAlways → (cap : ℕ) (g : Gate) (e : Event) → IsWell e → Runs cap g → g.dead ≡ false → (m : ℕ) (c d : Client) → IsClient g m c → IsClient (next g e) m d
     → asked_of d ≡ asked_of (itself_behind m c e) → AskedWaits c → AskedWaits d
-kept_waits l cap g (message n text) r a m c d x y same k = by (n == m && may_say c) refl
+kept_waits l cap g (message n text) v r a m c d x y same k = by (n == m && may_say c) refl
   where
     shows : all_shown d ≡ all_shown c ++ shown_by g (message n text) m c d
-    shows = ((l cap g r).1 (message n text)).shows m c d x y
+    shows = ((l cap g r).1 (message n text) tt).shows m c d x y
 
     by : (b : Bool) → (n == m && may_say c) ≡ b → AskedWaits d
     by true e =
-        let w = (((l cap g r).1 (message n text)).replied a).own m c d x y text (ap (λ b. cond b (Some text) None) e) in
+        let w = (((l cap g r).1 (message n text) tt).replied a).own m c d x y text (ap (λ b. cond b (Some text) None) e) in
         replied_waits c d w.0 w.1 (ap (λ (k : Asked). flat_map (λ ss. ss) k.handed)
         (same ∙ ap (λ b. asked_of (if_some (cond b (Some text) None) c (λ t. saying t c))) e)) w.2
     by false e = same_asked c d (shown_by g (message n text) m c d) k x.stays
         (same ∙ ap (λ b. asked_of (if_some (cond b (Some text) None) c (λ t. saying t c))) e) shows
-kept_waits l cap g (handed n) r a m c d x y same k = by (n == m) refl
+kept_waits l cap g (handed n) v r a m c d x y same k = by (n == m) refl
   where
     shows : all_shown d ≡ all_shown c ++ shown_by g (handed n) m c d
-    shows = ((l cap g r).1 (handed n)).shows m c d x y
+    shows = ((l cap g r).1 (handed n) tt).shows m c d x y
 
     by : (b : Bool) → (n == m) ≡ b → AskedWaits d
     by true e = handed_waits c d (shown_by g (handed n) m c d) k x.stays (same ∙ ap (λ b. asked_of (cond b (handing c) c)) e) shows
     by false e = same_asked c d (shown_by g (handed n) m c d) k x.stays (same ∙ ap (λ b. asked_of (cond b (handing c) c)) e) shows
-kept_waits l cap g (presented n token) r a m c d x y same k = same_asked c d _ k x.stays same (((l cap g r).1 (presented n token)).shows m c d x y)
-kept_waits l cap g (gone n) r a m c d x y same k = same_asked c d _ k x.stays same (((l cap g r).1 (gone n)).shows m c d x y)
-kept_waits l cap g (known tokens) r a m c d x y same k = same_asked c d _ k x.stays same (((l cap g r).1 (known tokens)).shows m c d x y)
-kept_waits l cap g ticked r a m c d x y same k = same_asked c d _ k x.stays same (((l cap g r).1 ticked).shows m c d x y)
-kept_waits l cap g synced r a m c d x y same k = same_asked c d _ k x.stays same (((l cap g r).1 synced).shows m c d x y)
-kept_waits l cap g failed r a m c d x y same k = same_asked c d _ k x.stays same (((l cap g r).1 failed).shows m c d x y)
+kept_waits l cap g (presented n token) v r a m c d x y same k = same_asked c d _ k x.stays same (((l cap g r).1 (presented n token) tt).shows m c d x y)
+kept_waits l cap g (gone n) v r a m c d x y same k = same_asked c d _ k x.stays same (((l cap g r).1 (gone n) tt).shows m c d x y)
+kept_waits l cap g (known tokens) v r a m c d x y same k = same_asked c d _ k x.stays same (((l cap g r).1 (known tokens) tt).shows m c d x y)
+kept_waits l cap g ticked v r a m c d x y same k = same_asked c d _ k x.stays same (((l cap g r).1 ticked tt).shows m c d x y)
+kept_waits l cap g synced v r a m c d x y same k = same_asked c d _ k x.stays same (((l cap g r).1 synced tt).shows m c d x y)
+kept_waits l cap g (arrived s) v r a m c d x y same k = same_asked c d _ k x.stays same (((l cap g r).1 (arrived s) v).shows m c d x y)
+kept_waits l cap g forgave v r a m c d x y same k = same_asked c d _ k x.stays same (((l cap g r).1 forgave tt).shows m c d x y)
+kept_waits l cap g failed v r a m c d x y same k = same_asked c d _ k x.stays same (((l cap g r).1 failed tt).shows m c d x y)
 
-next_waits : HoldAlways → (cap : ℕ) (g : Gate) (e : Event) → Runs cap g → ((m : ℕ) (c : Client) → client_at g.clients m ≡ Some c → AskedWaits c)
+next_waits : HoldAlways → (cap : ℕ) (g : Gate) (e : Event) → IsWell e → Runs cap g → ((m : ℕ) (c : Client) → client_at g.clients m ≡ Some c → AskedWaits c)
     → (m : ℕ) (d : Client) → client_at (next g e).clients m ≡ Some d → AskedWaits d
-next_waits l cap g e r k m d there = by g.dead refl
+next_waits l cap g e v r k m d there = by g.dead refl
   where
     stays : g.dead ≡ false → (c : Client) → client_at g.clients m ≡ Some c → (e ≡ gone m) ⊎ (e ≡ gone m → ⊥) → AskedWaits d
-    stays a c here (inl goes) = absurd (none_some d (sym ((((l cap g r).1 e).touched a).leaves m goes) ∙ there))
+    stays a c here (inl goes) = absurd (none_some d (sym ((((l cap g r).1 e v).touched a).leaves m goes) ∙ there))
     stays a c here (inr left) =
-        let w = (((l cap g r).1 e).touched a).stays m c here left in
+        let w = (((l cap g r).1 e v).touched a).stays m c here left in
         let is : d ≡ record (as_told w.now (itself_behind m c e)) { dropped = c.dropped || drops c e } = sym (one_some w.now d (sym w.there ∙ there)) ∙ w.is in
-        λ alive none. kept_waits l cap g e r a m c d
+        λ alive none. kept_waits l cap g e v r a m c d
         (record { there = here; stays = (or_parts c.dropped (drops c e) (sym (ap (λ (x : Client). x.dropped) is) ∙ alive)).0 })
         (record { there = there; stays = alive }) (ap asked_of is) (k m c here) alive none
 
     step : g.dead ≡ false → (o : Option Client) → client_at g.clients m ≡ o → AskedWaits d
-    step a None nobody = let w = (((l cap g r).1 e).touched a).comes m d nobody there in λ _ _. ap (λ (x : Client). x.asked) w.3
+    step a None nobody = let w = (((l cap g r).1 e v).touched a).comes m d nobody there in λ _ _. ap (λ (x : Client). x.asked) w.is
     step a (Some c) here = stays a c here (goes_or_stays m e)
 
     by : (b : Bool) → g.dead ≡ b → AskedWaits d
-    by true a = k m d (subst (λ (h : Gate). client_at h.clients m ≡ Some d) (((l cap g r).1 e).rests a) there)
+    by true a = k m d (subst (λ (h : Gate). client_at h.clients m ≡ Some d) (((l cap g r).1 e v).rests a) there)
     by false a = step a (client_at g.clients m) refl
 
 -- whom a gateway restores has no client
-nobody_waits : (g h : Gate) (journal : List ℕ) (most m : ℕ) (c : Client) → Restores g journal h → client_at g.clients m ≡ None → client_at h.clients m ≡ Some c
+nobody_waits : (g h : Gate) (journal : List Line) (most m : ℕ) (c : Client) → Restores g journal h → client_at g.clients m ≡ None → client_at h.clients m ≡ Some c
     → AskedWaits c
-nobody_waits g h journal most m c r none there = absurd (none_some c (sym (ap (λ (x : Gate). client_at x.clients m) r.gate ∙ none) ∙ there))
+nobody_waits g h journal most m c r none there = absurd (none_some c (sym (ap (λ (x : Gate). client_at x.clients m) r.leads.gate ∙ none) ∙ there))
 
 all_wait : HoldAlways → (cap : ℕ) (g : Gate) → Runs cap g → (m : ℕ) (c : Client) → client_at g.clients m ≡ Some c → AskedWaits c
-all_wait l cap _ (gate.begins tokens most journal g r) m c there = nobody_waits _ g journal most m c r (nobody_there most m) there
-all_wait l cap _ (gate.goes_on g e r) m c there = next_waits l cap g e r (all_wait l cap g r) m c there
+all_wait l cap _ (gate.begins tokens most head journal g r) m c there = nobody_waits _ g journal most m c r (nobody_there most m) there
+all_wait l cap _ (gate.goes_on g e v r) m c there = next_waits l cap g e v r (all_wait l cap g r) m c there
 all_wait l cap _ (gate.begins_again g disk tokens most h r leaves restores) m c there = nobody_waits _ h disk most m c restores (nobody_there most m) there
 
 -- ---- who takes all has nothing that waits, and may say more
@@ -299,7 +302,7 @@ held_freed l k cap m d s r a there going = by (socket_at d m) refl
     third = offered m second
 
     alive : (next d.gate synced).dead ≡ false
-    alive = dead_by k d.gate synced a ∙ a
+    alive = dead_by k d.gate synced tt a ∙ a
 
     living : IsLiving cap (caught_up m d)
     living = runs_living l cap (caught_up m d)

@@ -1,18 +1,19 @@
 -- Each number of a front carries what its client says and is told, whatever happens.
 use Rattle.std.proofs.Common.{◌≡◌, ◌⊎◌, inl, inr, ℕ, suc, Bool, true, false, cond, not, ◌&&◌, List, [], ◌∷◌, ◌++◌, drop, take, length, map, replicate, set}
 use Rattle.std.proofs.Common.{Option, Some, None, option_map, is_some, refl, ap, ◌∙◌, sym, subst, append-nil}
-use Rattle.std.specs.Prelude.{◌==◌, codes, option_and_then, nat_le}
+use Rattle.std.specs.Prelude.{◌==◌, bytes_eq, codes, option_and_then, nat_le}
 use Rattle.std.proofs.lemmas.Bool.{eqb-false, eqb-true, false≢true, eq-eqb, ne_eqb}
 use Rattle.std.proofs.lemmas.List.{map-append}
+use Rattle.std.proofs.lemmas.Slice.Eq.{bytes_eq-Decides}
 use Rattle.sha2.specs.Sha256.{sha256}
 use Rattle.iv_rows.specs.Names.{is_name}
 use Rattle.iv_rows.specs.Options.{if_some}
 use Rattle.iv_access.specs.Rights.{Name}
 use Rattle.iv_clients.specs.Clients.{Client, Shown, at_client, client_at, fresh, handing, is_free, may_say, saying, text_shown}
 use Rattle.iv_clients.specs.Feeds.{seat_of}
-use Rattle.iv_clients.specs.Tokens.{Token, role_opened}
-use Rattle.iv_gate.specs.Events.{Event, failed, gone, handed, known, message, next, presented, synced, ticked}
-use Rattle.iv_gate.specs.Gate.{Gate, begun_for, came, has_session, is_heard, role_for, seated, with_session}
+use Rattle.iv_clients.specs.Tokens.{Token, role_opened, token_of}
+use Rattle.iv_gate.specs.Events.{Event, IsWell, arrived, failed, forgave, gone, handed, known, message, next, presented, synced, ticked}
+use Rattle.iv_gate.specs.Gate.{Gate, begun_for, came, at_text, has_session, is_heard, seated, token_for, with_session}
 use Rattle.iv_gate.specs.Laws.{HoldAlways, marked}
 use Rattle.iv_gate.specs.Runs.{Runs}
 use Rattle.iv_gate.specs.Runs as gate
@@ -22,7 +23,7 @@ use Rattle.iv_peer.specs.Socket as socket
 use Rattle.iv_peer.specs.Hearing.{Hears, accepts, refuses_other, refuses_bad, refuses_long, frames, fails}
 use Rattle.iv_peer.specs.Lives.{Lives, listed}
 use Rattle.iv_peer.specs.Lives as life
-use Rattle.iv_desk.specs.Front.{Front, FrontRuns, Happens, HearsAt, at_socket, begins, begun, by_event, closes, dismisses, fails as front_fails, front_at_start}
+use Rattle.iv_desk.specs.Front.{Front, FrontRuns, Happens, HearsAt, at_socket, begins, begun, by_event, closes, dismisses, fails as front_fails, forgives, front_at_start}
 use Rattle.iv_desk.specs.Front.{goes_on, has_presented, hears, knows, leaves, left, let_go, let_in, later_text, no_text, first_text, nothing, offered}
 use Rattle.iv_desk.specs.Front.{offered_to, offers, put_off, sends, socket_at, starts, syncs, takes, text_for, ticks, told_some, turned_away, with_both}
 use Rattle.iv_desk.specs.Front.{is_dropped}
@@ -68,6 +69,9 @@ known_comes tokens n token e = cc e
 ticked_comes : (n : ℕ) (token : List ℕ) → ticked ≡ presented n token → ⊥
 ticked_comes n token e = cc e
 
+forgave_comes : (n : ℕ) (token : List ℕ) → forgave ≡ presented n token → ⊥
+forgave_comes n token e = cc e
+
 synced_comes : (n : ℕ) (token : List ℕ) → synced ≡ presented n token → ⊥
 synced_comes n token e = cc e
 
@@ -103,6 +107,8 @@ goes_or_stays n (known tokens) = inr (does_not_go n (known tokens) refl)
 goes_or_stays n ticked = inr (does_not_go n ticked refl)
 goes_or_stays n synced = inr (does_not_go n synced refl)
 goes_or_stays n (handed m) = inr (does_not_go n (handed m) refl)
+goes_or_stays n (arrived s) = inr (does_not_go n (arrived s) refl)
+goes_or_stays n forgave = inr (does_not_go n forgave refl)
 goes_or_stays n failed = inr (does_not_go n failed refl)
 
 -- an event that leaves what is known of it, and by which nobody comes with its number
@@ -113,7 +119,7 @@ stays_same g e n t stays same nobody = by (client_at g.clients n) refl
   where
     none : client_at g.clients n ≡ None → (p : Option Client) → client_at (next g e).clients n ≡ p → option_map known_of p ≡ None
     none h None k = refl
-    none h (Some d) k = let c = t.comes n d h k in absurd (nobody c.0 c.1)
+    none h (Some d) k = let c = t.comes n d h k in absurd (nobody c.text c.event)
 
     by : (o : Option Client) → client_at g.clients n ≡ o → option_map known_of (client_at (next g e).clients n) ≡ option_map known_of o
     by (Some c) h = let k = t.stays n c h stays in ap (option_map known_of) k.there ∙ ap Some (ap known_of k.is ∙ same c)
@@ -149,35 +155,35 @@ free_with g role m = by (seat_of g.seats role)
     by (Some n) = refl
 
 -- whose token opens a role for a number is the client of it
-abbrev came_as : Gate → ℕ → List ℕ → Name → Gate
-came_as g m token role = let h = with_session g role in record h { clients = set h.clients m (Some (fresh h.entries role (sha256 token))) }
+abbrev came_as : Gate → ℕ → Token → Gate
+came_as g m t = let h = with_session g t.role in record h { clients = set h.clients m (Some (fresh h.entries t (at_text h t))) }
 
-came_there : (g : Gate) (m : ℕ) (token : List ℕ) (role : Name) → is_free m g.clients ≡ true
-    → client_at (came_as g m token role).clients m ≡ Some (fresh (came_as g m token role).entries role (sha256 token))
-came_there g m token role free = let h = with_session g role in set_there m (fresh h.entries role (sha256 token)) h.clients (free_with g role m ∙ free)
+came_there : (g : Gate) (m : ℕ) (t : Token) → is_free m g.clients ≡ true
+    → client_at (came_as g m t).clients m ≡ Some (fresh (came_as g m t).entries t (at_text (with_session g t.role) t))
+came_there g m t free = let h = with_session g t.role in set_there m (fresh h.entries t (at_text h t)) h.clients (free_with g t.role m ∙ free)
 
 and_true : (b d : Bool) → (b && d) ≡ true → (b ≡ true) × (d ≡ true)
 and_true true d h = (refl, h)
 and_true false d h = cc
 
-free_by_role : (g : Gate) (m : ℕ) (token : List ℕ) (role : Name) → role_for g m token ≡ Some role → is_free m g.clients ≡ true
-free_by_role g m token role h = by (role_opened g.tokens (sha256 token)) h
+free_by_token : (g : Gate) (m : ℕ) (token : List ℕ) (t : Token) → token_for g m token ≡ Some t → is_free m g.clients ≡ true
+free_by_token g m token t h = by (token_of g.tokens (sha256 token)) h
   where
-    test : (r : Name) (b : Bool) → (is_name r && (is_free m g.clients && has_session g r)) ≡ b → cond b (Some r) None ≡ Some role → is_free m g.clients ≡ true
-    test r true t e = (and_true (is_free m g.clients) (has_session g r) (and_true (is_name r) (is_free m g.clients && has_session g r) t).1).0
-    test r false t e = absurd (none_some role e)
+    test : (r : Token) (b : Bool) → (is_name r.role && (is_free m g.clients && has_session g r.role)) ≡ b → cond b (Some r) None ≡ Some t → is_free m g.clients ≡ true
+    test r true k e = (and_true (is_free m g.clients) (has_session g r.role) (and_true (is_name r.role) (is_free m g.clients && has_session g r.role) k).1).0
+    test r false k e = absurd (none_some t e)
 
-    by : (o : Option Name) → option_and_then (λ r. cond (is_name r && (is_free m g.clients && has_session g r)) (Some r) None) o ≡ Some role
+    by : (o : Option Token) → option_and_then (λ (r : Token). cond (is_name r.role && (is_free m g.clients && has_session g r.role)) (Some r) None) o ≡ Some t
         → is_free m g.clients ≡ true
-    by None e = absurd (none_some role e)
-    by (Some r) e = test r (is_name r && (is_free m g.clients && has_session g r)) refl e
+    by None e = absurd (none_some t e)
+    by (Some r) e = test r (is_name r.role && (is_free m g.clients && has_session g r.role)) refl e
 
 alive_next : (g : Gate) (m : ℕ) (token : List ℕ) → g.dead ≡ false → next g (presented m token) ≡ came g m token
 alive_next g m token a = ap (λ b. cond b g (came g m token)) a
 
 -- where nobody comes in nothing changes
-pub none_comes : (g : Gate) (m : ℕ) (token : List ℕ) → g.dead ≡ false → role_for g m token ≡ None → next g (presented m token) ≡ g
-none_comes g m token a e = alive_next g m token a ∙ ap (λ o. if_some o g (came_as g m token)) e
+pub none_comes : (g : Gate) (m : ℕ) (token : List ℕ) → g.dead ≡ false → token_for g m token ≡ None → next g (presented m token) ≡ g
+none_comes g m token a e = alive_next g m token a ∙ ap (λ o. if_some o g (came_as g m)) e
 
 -- ---- one number
 
@@ -264,11 +270,11 @@ pub record Led (cap m : ℕ) (g h : Gate) (t : Socket) : Type 0 where
   pub own : LivesFor (client_at h.clients m) (Some t)
   pub others : (n : ℕ) → (m ≡ n → ⊥) → IsSame g h n
 
-event_touches : Laws → (cap : ℕ) (g : Gate) (e : Event) → Runs cap g → g.dead ≡ false → AreTouched g e
-event_touches l cap g e r a = ((l.always cap g r).1 e).touched a
+event_touches : Laws → (cap : ℕ) (g : Gate) (e : Event) → IsWell e → Runs cap g → g.dead ≡ false → AreTouched g e
+event_touches l cap g e w r a = ((l.always cap g r).1 e w).touched a
 
-event_marks : Laws → (cap : ℕ) (g : Gate) (e : Event) → Runs cap g → g.dead ≡ false → (next g e).dead ≡ (marked g e).dead
-event_marks l cap g e r a = ap (λ (k : Gate). k.dead) (((l.always cap g r).1 e).marks a)
+event_marks : Laws → (cap : ℕ) (g : Gate) (e : Event) → IsWell e → Runs cap g → g.dead ≡ false → (next g e).dead ≡ (marked g e).dead
+event_marks l cap g e w r a = ap (λ (k : Gate). k.dead) (((l.always cap g r).1 e w).marks a).marks
 
 heard_over : (s t : Socket) (o : Option (List ℕ)) → Hears s o t → s.over ≡ false
 heard_over _ _ _ (accepts s head rest accept over at is) = over
@@ -323,6 +329,15 @@ admitted_lives s t d token h k e m n = record {
       (subst (λ z. Lives (token ∷ []) (map text_shown z) t) (sym n) (first_lives s t token h k));
 }
 
+-- the token that is found has the digest by which it is looked for
+digest_of : (ts : List Token) (digest : List ℕ) (t : Token) → token_of ts digest ≡ Some t → t.digest ≡ digest
+digest_of [] digest t h = absurd (none_some t h)
+digest_of (x ∷ ts) digest t h = by (bytes_eq x.digest digest) refl h
+  where
+    by : (b : Bool) → bytes_eq x.digest digest ≡ b → cond b (Some x) (token_of ts digest) ≡ Some t → t.digest ≡ digest
+    by true e k = ap (λ (y : Token). y.digest) (sym (one_some x t k)) ∙ (bytes_eq-Decides x.digest digest).0 e
+    by false e k = digest_of ts digest t k
+
 token_lives : Laws → (cap : ℕ) (g : Gate) (m : ℕ) (s t : Socket) (token : List ℕ) → Runs cap g → g.dead ≡ false → Hears s (Some token) t
     → has_presented s ≡ false
     → LivesFor (client_at g.clients m) (Some s) → LivesFor (client_at (next g (presented m token)).clients m) (Some (let_in g m token t))
@@ -336,24 +351,24 @@ token_lives l cap g m s t token r a h first k = by (client_at g.clients m) refl 
 
     is : (d : Client) → IsNewcomer g (presented m token) m d → LivesNobody s → LivesClient d t
     is d c nobody =
-        let same = presented_text m m token c.0 c.1 in
-        admitted_lives s t d token h nobody (ap (λ (x : Client). x.digest) c.3 ∙ ap sha256 (sym same)) (ap (λ (x : Client). x.messages) c.3)
-        (ap (λ (x : Client). x.handed) c.3)
+        let same = presented_text m m token c.text c.event in
+        admitted_lives s t d token h nobody (ap (λ (x : Client). x.digest) c.is ∙ (digest_of g.tokens (sha256 c.text) c.token c.opened ∙ ap sha256 (sym same)))
+        (ap (λ (x : Client). x.messages) c.is) (ap (λ (x : Client). x.handed) c.is)
 
-    none : client_at g.clients m ≡ None → LivesNobody s → (o : Option Name) → role_for g m token ≡ o
+    none : client_at g.clients m ≡ None → LivesNobody s → (o : Option Token) → token_for g m token ≡ o
         → LivesFor (client_at after.clients m) (Some (cond (is_some o) t (away t)))
     none nobody k None e =
         let unchanged : client_at after.clients m ≡ None = ap (λ (x : Gate). client_at x.clients m) (alive_next g m token a)
-        ∙ (ap (λ o. client_at (if_some o g (came_as g m token)).clients m) e ∙ nobody) in
+        ∙ (ap (λ o. client_at (if_some o g (came_as g m)).clients m) e ∙ nobody) in
         subst (λ z. LivesFor z (Some (away t))) (sym unchanged) (sent_away s t token h k (is_some (role_opened g.tokens (sha256 token))))
-    none nobody k (Some role) e =
+    none nobody k (Some opened) e =
         let there = ap (λ (x : Gate). client_at x.clients m) (alive_next g m token a)
-        ∙ (ap (λ o. client_at (if_some o g (came_as g m token)).clients m) e ∙ came_there g m token role (free_by_role g m token role e)) in
-        subst (λ z. LivesFor z (Some t)) (sym there) (is _ ((event_touches l cap g (presented m token) r a).comes m _ nobody there) k)
+        ∙ (ap (λ o. client_at (if_some o g (came_as g m)).clients m) e ∙ came_there g m opened (free_by_token g m token opened e)) in
+        subst (λ z. LivesFor z (Some t)) (sym there) (is _ ((event_touches l cap g (presented m token) tt r a).comes m _ nobody there) k)
 
     by : (o : Option Client) → client_at g.clients m ≡ o → LivesFor o (Some s) → LivesFor (client_at after.clients m) (Some (let_in g m token t))
     by (Some c) e k = absurd (token_first l k.token c.messages (map text_shown c.handed) s k.life first)
-    by None e k = none e k (role_for g m token) refl
+    by None e k = none e k (token_for g m token) refl
 
 -- a message is heard of a client that is heard
 heard_client : (o : Option Client) → if_some o false may_say ≡ true → (c : Client) × (o ≡ Some c) × (may_say c ≡ true)
@@ -364,7 +379,7 @@ message_lives : Laws → (cap : ℕ) (g : Gate) (m : ℕ) (s t : Socket) (text :
     → LivesFor (client_at g.clients m) (Some s) → LivesFor (client_at (next g (message m text)).clients m) (Some t)
 message_lives l cap g m s t text r a h may k =
     let w = heard_client (client_at g.clients m) may in
-    let now = (event_touches l cap g (message m text) r a).stays m w.0 w.1 (does_not_go m (message m text) refl) in
+    let now = (event_touches l cap g (message m text) tt r a).stays m w.0 w.1 (does_not_go m (message m text) refl) in
     let own : LivesClient w.0 s = subst (λ o. LivesFor o (Some s)) w.1 k in
     let heard : known_of now.now ≡ known_of (saying text w.0) =
     ap known_of now.is
@@ -384,18 +399,18 @@ heard_leads l cap m g s _ _ r a k (no_text h b t x e) =
 heard_leads l cap m g s _ _ r a k (first_text h b t text x first e) =
     let w = heard_leads l cap m g s h b r a k x in
     record {
-      runs = gate.goes_on h (presented m text) w.runs;
-      alive = event_marks l cap h (presented m text) w.runs w.alive ∙ w.alive;
+      runs = gate.goes_on h (presented m text) tt w.runs;
+      alive = event_marks l cap h (presented m text) tt w.runs w.alive ∙ w.alive;
       own = token_lives l cap h m b t text w.runs w.alive e first w.own;
-      others = λ n ne. beside_token h m n text ne (event_touches l cap h (presented m text) w.runs w.alive) ∙ w.others n ne;
+      others = λ n ne. beside_token h m n text ne (event_touches l cap h (presented m text) tt w.runs w.alive) ∙ w.others n ne;
     }
 heard_leads l cap m g s _ _ r a k (later_text h b t text x may e) =
     let w = heard_leads l cap m g s h b r a k x in
     record {
-      runs = gate.goes_on h (message m text) w.runs;
-      alive = event_marks l cap h (message m text) w.runs w.alive ∙ w.alive;
+      runs = gate.goes_on h (message m text) tt w.runs;
+      alive = event_marks l cap h (message m text) tt w.runs w.alive ∙ w.alive;
       own = message_lives l cap h m b t text w.runs w.alive e may w.own;
-      others = λ n ne. beside_message h m n text ne (event_touches l cap h (message m text) w.runs w.alive) ∙ w.others n ne;
+      others = λ n ne. beside_message h m n text ne (event_touches l cap h (message m text) tt w.runs w.alive) ∙ w.others n ne;
     }
 
 -- ---- what is offered
@@ -427,11 +442,11 @@ handed_lives : Laws → (cap : ℕ) (g : Gate) (m : ℕ) (s : Socket) → Runs c
 handed_lives l cap g m s r a opened k = by (client_at g.clients m) refl k
   where
     t : AreTouched g (handed m)
-    t = event_touches l cap g (handed m) r a
+    t = event_touches l cap g (handed m) tt r a
 
     none : client_at g.clients m ≡ None → (p : Option Client) → client_at (next g (handed m)).clients m ≡ p → LivesNobody s → LivesFor p (Some s)
     none e None h k = k
-    none e (Some d) h k = let c = t.comes m d e h in absurd (handed_comes m m c.0 c.1)
+    none e (Some d) h k = let c = t.comes m d e h in absurd (handed_comes m m c.text c.event)
 
     by : (o : Option Client) → client_at g.clients m ≡ o → LivesFor o (Some s)
         → LivesFor (client_at (next g (handed m)).clients m) (Some (told_some (if_some o [] (λ c. text_shown c.sendable)) s))
@@ -460,10 +475,10 @@ offered_leads l cap g m s r a k = by (is_open s) refl
 
     told : is_open s ≡ true → Led cap m g (next g (handed m)) (told_some (text_for g m) s)
     told opened = record {
-      runs = gate.goes_on g (handed m) r;
-      alive = event_marks l cap g (handed m) r a ∙ a;
+      runs = gate.goes_on g (handed m) tt r;
+      alive = event_marks l cap g (handed m) tt r a ∙ a;
       own = handed_lives l cap g m s r a opened k;
-      others = λ n ne. beside_handed g m n ne (event_touches l cap g (handed m) r a);
+      others = λ n ne. beside_handed g m n ne (event_touches l cap g (handed m) tt r a);
     }
 
     told_if : Bool → Gate × Socket
@@ -512,9 +527,9 @@ socket_living cap d m f step v = record {
 }
 
 -- an event by which no client says or is handed anything
-event_living : (cap : ℕ) (d : Front) (e : Event) → IsLiving cap d → ((n : ℕ) → IsSame d.gate (next d.gate e) n) → IsLiving cap (by_event e d)
-event_living cap d e v same = record {
-  runs = gate.goes_on d.gate e v.runs;
+event_living : (cap : ℕ) (d : Front) (e : Event) → IsWell e → IsLiving cap d → ((n : ℕ) → IsSame d.gate (next d.gate e) n) → IsLiving cap (by_event e d)
+event_living cap d e w v same = record {
+  runs = gate.goes_on d.gate e w v.runs;
   numbers = λ n. same_lives (client_at d.gate.clients n) (client_at (next d.gate e).clients n) (socket_at d n) (same n) (v.numbers n);
 }
 
@@ -537,9 +552,9 @@ begun_living cap d m v = by (is_free m d.sockets) refl
 
 left_living : Laws → (cap : ℕ) (d : Front) (m : ℕ) → d.gate.dead ≡ false → IsLiving cap d → IsLiving cap (left m d)
 left_living l cap d m a v =
-    let t = event_touches l cap d.gate (gone m) v.runs a in
+    let t = event_touches l cap d.gate (gone m) tt v.runs a in
     record {
-      runs = gate.goes_on d.gate (gone m) v.runs;
+      runs = gate.goes_on d.gate (gone m) tt v.runs;
       numbers = at_each_number (λ n. LivesFor (client_at (next d.gate (gone m)).clients n) (client_at (set d.sockets m None) n)) m
           (subst (λ o. LivesFor o (client_at (set d.sockets m None) m)) (sym (t.leaves m refl)) (subst (LivesFor None) (sym (set_gone m d.sockets)) tt))
           (λ n ne. subst (LivesFor (client_at (next d.gate (gone m)).clients n)) (sym (set_other m n None d.sockets ne))
@@ -568,16 +583,19 @@ happens_living l cap d _ a v (dismisses m) = by (is_dropped d.gate m)
 happens_living l cap d _ a v (sends m n) = socket_living cap d m (passing n) (sends_lives n) v
 happens_living l cap d _ a v (leaves m) = left_living l cap d m a v
 happens_living l cap d _ a v syncs =
-    event_living cap d synced v (λ n. stays_same d.gate synced n (event_touches l cap d.gate synced v.runs a) (does_not_go n synced refl) (λ c. refl)
+    event_living cap d synced tt v (λ n. stays_same d.gate synced n (event_touches l cap d.gate synced tt v.runs a) (does_not_go n synced refl) (λ c. refl)
     (synced_comes n))
 happens_living l cap d _ a v (knows tokens) =
-    event_living cap d (known tokens) v (λ n. stays_same d.gate (known tokens) n (event_touches l cap d.gate (known tokens) v.runs a)
+    event_living cap d (known tokens) tt v (λ n. stays_same d.gate (known tokens) n (event_touches l cap d.gate (known tokens) tt v.runs a)
     (does_not_go n (known tokens) refl) (λ c. refl) (known_comes tokens n))
 happens_living l cap d _ a v ticks =
-    event_living cap d ticked v (λ n. stays_same d.gate ticked n (event_touches l cap d.gate ticked v.runs a) (does_not_go n ticked refl) (λ c. refl)
+    event_living cap d ticked tt v (λ n. stays_same d.gate ticked n (event_touches l cap d.gate ticked tt v.runs a) (does_not_go n ticked refl) (λ c. refl)
     (ticked_comes n))
+happens_living l cap d _ a v forgives =
+    event_living cap d forgave tt v (λ n. stays_same d.gate forgave n (event_touches l cap d.gate forgave tt v.runs a) (does_not_go n forgave refl) (λ c. refl)
+    (forgave_comes n))
 happens_living l cap d _ a v front_fails =
-    event_living cap d failed v (λ n. stays_same d.gate failed n (event_touches l cap d.gate failed v.runs a) (does_not_go n failed refl) (λ c. refl)
+    event_living cap d failed tt v (λ n. stays_same d.gate failed n (event_touches l cap d.gate failed tt v.runs a) (does_not_go n failed refl) (λ c. refl)
     (failed_comes n))
 
 starts_living : (cap : ℕ) (g : Gate) (most : ℕ) → Runs cap g → ((m : ℕ) → client_at g.clients m ≡ None) → IsLiving cap (front_at_start g most)

@@ -7,10 +7,9 @@ use Rattle.sha2.specs.Sha256.{sha256}
 use Rattle.httparse.specs.Grammar.{HasNoRequest}
 use Rattle.websocket.specs.Content.{Content, text, binary, ping, pong, close}
 use Rattle.websocket.specs.Connection.{Connection, Effect}
-use Rattle.iv_access.specs.Rights.{Name}
-use Rattle.iv_clients.specs.Tokens.{role_opened}
-use Rattle.iv_gate.specs.Events.{Event, handed, message, next, presented}
-use Rattle.iv_gate.specs.Gate.{Gate, is_heard, role_for}
+use Rattle.iv_clients.specs.Tokens.{Token, role_opened}
+use Rattle.iv_gate.specs.Events.{handed, message, next, presented, Event, IsWell}
+use Rattle.iv_gate.specs.Gate.{Gate, is_heard, token_for}
 use Rattle.iv_gate.specs.Laws.{marked}
 use Rattle.iv_gate.specs.Laws as law
 use Rattle.iv_gateway.specs.Views.{IsGate}
@@ -168,10 +167,10 @@ heard_text g m s x p t y w held is =
 
 -- the marks that an event leaves
 abbrev pub LeavesMarks : Type 0
-LeavesMarks = (g : Gate) (e : Event) → g.dead ≡ false → law.LeavesMarks g e
+LeavesMarks = (g : Gate) (e : Event) → IsWell e → g.dead ≡ false → law.LeavesMarks g e
 
-pub dead_by : LeavesMarks → (g : Gate) (e : Event) → g.dead ≡ false → (next g e).dead ≡ (marked g e).dead
-dead_by k g e a = ap (λ (x : Gate). x.dead) (k g e a)
+pub dead_by : LeavesMarks → (g : Gate) (e : Event) → IsWell e → g.dead ≡ false → (next g e).dead ≡ (marked g e).dead
+dead_by k g e w a = ap (λ (x : Gate). x.dead) (k g e w a).marks
 
 lived_on : (s t : Socket) (bytes : List ℕ) → (l : IsLived s) → Hears s (Some bytes) t → Lives (l.0 ++ bytes ∷ []) l.1 t
 lived_on s t bytes l h = life.hears l.0 l.1 s t (Some bytes) l.2 h
@@ -185,7 +184,7 @@ message_heard l k g m s bytes x p y w known is =
       now = next w.now (message m bytes);
       socket = w.after;
       heard = later_text w.now w.before w.after bytes w.heard (w.may (ap (λ (q : Place). q.presented) (sym w.place) ∙ known)) w.next;
-      alive = dead_by k w.now (message m bytes) w.alive ∙ w.alive;
+      alive = dead_by k w.now (message m bytes) tt w.alive ∙ w.alive;
       gate = is;
       place = place_parts p (forget w.after) (has_presented w.after) (ap (λ (q : Place). q.peer) w.place)
           (known ∙ sym (text_presents l w.lived.0 w.lived.1 bytes w.after lives));
@@ -209,7 +208,7 @@ token_heard l k g m s bytes x p y q t w new is e peer known has lived = record {
   socket = t;
   heard = subst (HearsAt m g s (next w.now (presented m bytes))) e
       (first_text w.now w.before w.after bytes w.heard (ap (λ (r : Place). r.presented) (sym w.place) ∙ new) w.next);
-  alive = dead_by k w.now (presented m bytes) w.alive ∙ w.alive;
+  alive = dead_by k w.now (presented m bytes) tt w.alive ∙ w.alive;
   gate = is;
   place = place_parts q (forget t) (has_presented t) peer (known ∙ sym has);
   lived = lived;
@@ -217,7 +216,7 @@ token_heard l k g m s bytes x p y q t w new is e peer known has lived = record {
 
 pub token_admitted : AlwaysCarries → LeavesMarks → (g : Gate) (m : ℕ) (s : Socket) (bytes : List ℕ) (x : Gateway) (p : Place) (y : Gateway)
     → (w : IsTextNext g m s bytes x p)
-    → p.presented ≡ false → IsGate (next w.now (presented m bytes)) y → true ≡ is_some (role_for w.now m bytes)
+    → p.presented ≡ false → IsGate (next w.now (presented m bytes)) y → true ≡ is_some (token_for w.now m bytes)
     → IsHearing g m s y (record p { presented = true })
 token_admitted l k g m s bytes x p y w new is came =
     let lives = lived_on w.before w.after bytes w.lived w.next in
@@ -239,17 +238,17 @@ away_lived false s l = (l.0, l.1, life.closes l.0 l.1 s 4401 (codes "This token 
 
 -- by a token that was refused nothing changes, and the code asks then whether it opens a role
 opens_still : (g : Gate) (m : ℕ) (token : List ℕ) (y : Gateway) (b : Bool) → g.dead ≡ false → IsGate (next g (presented m token)) y
-    → false ≡ is_some (role_for g m token)
+    → false ≡ is_some (token_for g m token)
     → ((h : Gate) → IsGate h y → h.dead ≡ false → b ≡ opens h token) → b ≡ opens g token
-opens_still g m token y b a is none asked = asked g (subst (λ h. IsGate h y) (none_comes g m token a (by (role_for g m token) none)) is) a
+opens_still g m token y b a is none asked = asked g (subst (λ h. IsGate h y) (none_comes g m token a (by (token_for g m token) none)) is) a
   where
-    by : (o : Option Name) → false ≡ is_some o → o ≡ None
+    by : (o : Option Token) → false ≡ is_some o → o ≡ None
     by None e = refl
-    by (Some role) e = absurd (false≢true e)
+    by (Some t) e = absurd (false≢true e)
 
 pub token_refused : AlwaysCarries → LeavesMarks → (g : Gate) (m : ℕ) (s : Socket) (bytes : List ℕ) (x : Gateway) (p : Place) (y : Gateway) (peer : Socket)
     (b : Bool) → (w : IsTextNext g m s bytes x p)
-    → p.presented ≡ false → IsGate (next w.now (presented m bytes)) y → false ≡ is_some (role_for w.now m bytes)
+    → p.presented ≡ false → IsGate (next w.now (presented m bytes)) y → false ≡ is_some (token_for w.now m bytes)
     → ((h : Gate) → IsGate h y → h.dead ≡ false → b ≡ opens h bytes) → peer ≡ forget (sent_away b p.peer)
     → IsHearing g m s y (record { peer = peer; presented = true })
 token_refused l k g m s bytes x p y peer b w new is came asked closes =
@@ -336,5 +335,5 @@ offered_alive k g m s a = by (is_open s) (is_dropped g m) (length s.output == 0)
     by : (b d c : Bool) → (offered_by g m s b d c).0.dead ≡ false
     by false d c = a
     by true true c = a
-    by true false true = dead_by k g (handed m) a ∙ a
+    by true false true = dead_by k g (handed m) tt a ∙ a
     by true false false = a

@@ -3,9 +3,10 @@ use Rattle.std.proofs.Common.{◌≡◌, ℕ, Bool, true, false, cond, List, [],
 use Rattle.iv_rows.specs.Options.{if_some}
 use Rattle.iv_clients.specs.Clients.{Shown, client_at}
 use Rattle.iv_clients.specs.Tokens.{Token}
-use Rattle.iv_gate.specs.Gate.{Gate}
+use Rattle.iv_gate.specs.Gate.{Gate, Head}
 use Rattle.iv_gate.specs.Restoring.{Restores, gate_at_start}
 use Rattle.iv_gate.specs.Runs.{Runs}
+use Rattle.iv_journal.specs.Journal.{Line}
 use Rattle.iv_peer.specs.Socket.{Socket}
 use Rattle.iv_desk.specs.Front.{Front, FrontRuns, at_socket, dismissed, dismisses, front_at_start, goes_on, hears, is_dropped, offered, offered_to, offers}
 use Rattle.iv_desk.specs.Front.{socket_at, starts, turned_away, with_both}
@@ -14,10 +15,10 @@ use Rattle.iv_desk.specs.declared.place.Hearing.{Hearing}
 use Rattle.iv_desk.proofs.Slots.{nobody_there}
 use Rattle.iv_desk.proofs.OneNumber.{LeavesMarks, offered_alive}
 
-pub restored_runs : (cap most places : ℕ) (tokens : List Token) (sent : List Shown) (journal : List ℕ) (g : Gate)
-    → Restores (gate_at_start cap tokens most sent) journal g → Runs cap g
+pub restored_runs : (cap most places : ℕ) (tokens : List Token) (head : Head) (sent : List Shown) (journal : List Line) (g : Gate)
+    → Restores (gate_at_start cap tokens most head sent) journal g → Runs cap g
     → FrontRuns cap (front_at_start g places)
-restored_runs cap most places tokens sent journal g r runs = starts g places runs (λ m. ap (λ (x : Gate). client_at x.clients m) r.gate ∙ nobody_there most m)
+restored_runs cap most places tokens head sent journal g r runs = starts g places runs (λ m. ap (λ (x : Gate). client_at x.clients m) r.leads.gate ∙ nobody_there most m)
 
 pub heard_runs : (cap m : ℕ) (d e : Front) (hearing : Hearing) → FrontRuns cap d → d.gate.dead ≡ false → IsHeardBy d m (socket_at d m) hearing e
     → FrontRuns cap e

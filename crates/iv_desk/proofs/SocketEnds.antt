@@ -7,11 +7,10 @@ use Rattle.sha2.specs.Sha256.{sha256}
 use Rattle.websocket.specs.Content.{Content, text, binary, ping, pong, close}
 use Rattle.websocket.specs.Connection.{Connection, read_step}
 use Rattle.iv_rows.specs.Options.{if_some}
-use Rattle.iv_access.specs.Rights.{Name}
 use Rattle.iv_clients.specs.Clients.{Client, at_client, client_at, is_free, text_shown}
-use Rattle.iv_clients.specs.Tokens.{role_opened}
+use Rattle.iv_clients.specs.Tokens.{Token, role_opened}
 use Rattle.iv_gate.specs.Events.{handed, message, next, presented}
-use Rattle.iv_gate.specs.Gate.{Gate, role_for}
+use Rattle.iv_gate.specs.Gate.{Gate, token_for}
 use Rattle.iv_gate.specs.Runs.{Runs}
 use Rattle.httparse.specs.Grammar.{HasNoRequest}
 use Rattle.websocket.specs.declared.error.Error.{Error}
@@ -21,7 +20,7 @@ use Rattle.iv_peer.specs.Hearing.{AsksOther, Hears, IsBadHead, accepts, refuses_
 use Rattle.iv_peer.specs.Lives.{CarriesAt, listed, texts_of}
 use Rattle.iv_desk.specs.Front.{Front, FrontRuns, Happens, HearsAt, at_socket, begins, dismisses, fails as front_fails, first_text, has_presented, hears}
 use Rattle.iv_desk.specs.Front.{is_dropped, knows, later_text, leaves, let_in, no_text, nothing, offered, offered_to, offers, put_off, sends, socket_at, syncs}
-use Rattle.iv_desk.specs.Front.{takes, text_for, ticks, told_some, turned_away, with_both}
+use Rattle.iv_desk.specs.Front.{forgives, takes, text_for, ticks, told_some, turned_away, with_both}
 use Rattle.iv_desk.specs.Desks.{IsLived}
 use Rattle.iv_desk.specs.Causes.{HasFailed, IsOverFor, asked_none, dropped, ended, failed, is_last, refused}
 use Rattle.iv_desk.proofs.OneNumber.{offered_by}
@@ -111,7 +110,7 @@ still_nobody l (Some c) s k first = absurd (token_first l k.token c.messages (ma
 token_ends : Laws → (g : Gate) (m : ℕ) (s t : Socket) (token : List ℕ) → g.dead ≡ false → LivesNobody s → Hears s (Some token) t
     → (let_in g m token t).over ≡ true
     → IsOverFor (next g (presented m token)) m (let_in g m token t)
-token_ends l g m s t token a k h e = by (role_for g m token) refl e
+token_ends l g m s t token a k h e = by (token_for g m token) refl e
   where
     away : Bool → Socket
     away b = cond b (put_off t) (turned_away t)
@@ -122,14 +121,14 @@ token_ends l g m s t token a k h e = by (role_for g m token) refl e
     said false = ap texts_of (closed_effects 4401 (codes "This token opens no role.") t)
         ∙ sym (texts_heard l.carries (token ∷ []) [] t (first_lives s t token h k))
 
-    by : (o : Option Name) → role_for g m token ≡ o → (cond (is_some o) t (away (is_some (role_opened g.tokens (sha256 token))))).over ≡ true
+    by : (o : Option Token) → token_for g m token ≡ o → (cond (is_some o) t (away (is_some (role_opened g.tokens (sha256 token))))).over ≡ true
         → IsOverFor (next g (presented m token)) m (cond (is_some o) t (away (is_some (role_opened g.tokens (sha256 token)))))
     by None none e = refused (record {
       token = token;
       said = said (is_some (role_opened g.tokens (sha256 token)));
-      nobody = ap (λ (x : Gate). role_for x m token) (none_comes g m token a none) ∙ none;
+      nobody = ap (λ (x : Gate). token_for x m token) (none_comes g m token a none) ∙ none;
     })
-    by (Some role) some e = absurd (not_over t (text_goes_on s t (Some token) token h refl) e)
+    by (Some opened) some e = absurd (not_over t (text_goes_on s t (Some token) token h refl) e)
 
 hearing_ends : Laws → (cap m : ℕ) (g : Gate) (s : Socket) (h : Gate) (t : Socket) → Runs cap g → g.dead ≡ false → LivesFor (client_at g.clients m) (Some s)
     → HearsAt m g s h t → s.over ≡ false
@@ -244,4 +243,5 @@ closed_for_cause l cap m d _ s t r a (leaves n) here live there over = absurd (b
 closed_for_cause l cap m d _ s t r a syncs here live there over = absurd (stays_going s t (sym (one_some s t (sym here ∙ there))) live over)
 closed_for_cause l cap m d _ s t r a (knows tokens) here live there over = absurd (stays_going s t (sym (one_some s t (sym here ∙ there))) live over)
 closed_for_cause l cap m d _ s t r a ticks here live there over = absurd (stays_going s t (sym (one_some s t (sym here ∙ there))) live over)
+closed_for_cause l cap m d _ s t r a forgives here live there over = absurd (stays_going s t (sym (one_some s t (sym here ∙ there))) live over)
 closed_for_cause l cap m d _ s t r a front_fails here live there over = absurd (stays_going s t (sym (one_some s t (sym here ∙ there))) live over)

@@ -2,7 +2,7 @@
 use Rattle.std.specs.Prelude.{◌≡◌, ℕ, false, List, [], ◌∷◌, map, Option, Some, None}
 use Rattle.sha2.specs.Sha256.{sha256}
 use Rattle.iv_clients.specs.Clients.{Client, client_at, text_shown}
-use Rattle.iv_gate.specs.Events.{Event}
+use Rattle.iv_gate.specs.Events.{Event, IsWell}
 use Rattle.iv_gate.specs.Laws.{Holds, HoldsBy}
 use Rattle.iv_peer.specs.Socket.{Socket}
 use Rattle.iv_peer.specs.Lives.{Carries, listed}
@@ -32,7 +32,7 @@ CarriesFor (Some c) (Some s) = CarriesClient c s
 pub record IsServed (cap : ℕ) (d : Front) : Type 0 where
   pub numbers : (m : ℕ) → CarriesFor (client_at d.gate.clients m) (socket_at d m)
   pub gate : Holds cap d.gate
-  pub events : (e : Event) → HoldsBy d.gate e
+  pub events : (e : Event) → IsWell e → HoldsBy d.gate e
 
 -- in whatever runs, over restarts
 abbrev pub BrowsersAreTold : Type 0

@@ -241,10 +241,10 @@ impl Desk {
     pub fn forgive(&mut self)
         ensures front { (d : Front) → IsDesk d self.old → IsDesk (by_event forgave d) self.new }
     {
+        events_leave_their_marks();
         if self.dead {
             return;
         }
-        events_leave_their_marks();
         self.gateway.forgive();
     }
 

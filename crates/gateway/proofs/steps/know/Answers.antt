@@ -5,7 +5,7 @@ use Rattle.gateway.proofs.RunsByCalls.{called_on, failed_on}
 use Rattle.gateway.proofs.steps.know.Goals as goal
 
 pub returns-in-Ok : goal.returns-in-Ok
-returns-in-Ok c = called_on c.events_leave_their_marks.ensures.marks dismissed c.calls_lead_from_runs_to_runs.ensures.dismisses (known c.args.tokens.items) (λ k. refl) (λ d. knows c.args.tokens.items)
+returns-in-Ok c = called_on c.events_leave_their_marks.ensures.marks dismissed c.calls_lead_from_runs_to_runs.ensures.dismisses (known c.args.tokens.items) tt (λ k. refl) (λ d. knows c.args.tokens.items)
     c.args.desk.now _ (λ d s e. let h = c.in-Ok.ensures.dead d s e in cc) c.in-Ok.ensures.front
 
 pub returns-in-Err : goal.returns-in-Err

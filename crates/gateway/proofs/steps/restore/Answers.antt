@@ -2,4 +2,4 @@ use Rattle.gateway.proofs.RunsByCalls.{restored_on}
 use Rattle.gateway.proofs.steps.restore.Goals as goal
 
 pub returns-in-Ok : goal.returns-in-Ok
-returns-in-Ok c = λ cap new. restored_on c.calls_lead_from_runs_to_runs.ensures.restores cap c.args.journal.now c.in-Ok.kept c.args.desk.now _ new c.in-Ok.ensures.restored
+returns-in-Ok c = λ cap new. restored_on c.calls_lead_from_runs_to_runs.ensures.restores cap c.args.journal.now c.args.desk.now _ new c.in-Ok.ensures.restored

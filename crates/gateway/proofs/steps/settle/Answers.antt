@@ -5,7 +5,7 @@ use Rattle.gateway.proofs.RunsByCalls.{called_on, failed_on}
 use Rattle.gateway.proofs.steps.settle.Goals as goal
 
 pub returns-in-Ok : goal.returns-in-Ok
-returns-in-Ok g c = called_on c.events_leave_their_marks.ensures.marks offered c.calls_lead_from_runs_to_runs.ensures.offers synced (λ k. refl) (λ d. syncs)
+returns-in-Ok g c = called_on c.events_leave_their_marks.ensures.marks offered c.calls_lead_from_runs_to_runs.ensures.offers synced tt (λ k. refl) (λ d. syncs)
     c.args.desk.now _ (λ d s e. let h = c.in-Ok.ensures.dead d s e in cc) c.in-Ok.ensures.front
 
 pub returns-in-Err : goal.returns-in-Err

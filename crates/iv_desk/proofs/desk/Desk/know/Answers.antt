@@ -9,5 +9,5 @@ returns-in-Ok-clause-front c = λ d b.
     let a = desk_alive d c.args.self.now b c.if-self.false in
     called_desk dismissed (by_event (known c.args.tokens.items) d) _
     (c.in-Ok.ensures (by_event (known c.args.tokens.items) d)
-    (event_behind c.events_leave_their_marks.ensures.marks d (known c.args.tokens.items) c.args.self.now.gateway c.know.new.self c.args.self.now.places.items a
+    (event_behind c.events_leave_their_marks.ensures.marks d (known c.args.tokens.items) tt c.args.self.now.gateway c.know.new.self c.args.self.now.places.items a
     (c.know.ensures d.gate a.gate) refl)) c.if-self.false

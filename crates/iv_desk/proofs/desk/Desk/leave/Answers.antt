@@ -14,4 +14,4 @@ returns-in-Ok-clause-front c = λ d b.
     (subst (IsBehind (left c.args.at d) c.left.new.self) (sym c.put_at.ensures)
     (behind_put None tt d c.args.at (next d.gate (gone c.args.at)) c.args.self.now.gateway c.args.self.now.places.items a c.left.new.self
     (c.in-Ok.ensures.gate d.gate a.gate)
-    (dead_by c.events_leave_their_marks.ensures.marks d.gate (gone c.args.at) a.alive ∙ a.alive))) c.if-self.false
+    (dead_by c.events_leave_their_marks.ensures.marks d.gate (gone c.args.at) tt a.alive ∙ a.alive))) c.if-self.false

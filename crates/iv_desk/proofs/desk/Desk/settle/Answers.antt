@@ -1,5 +1,4 @@
-use Rattle.std.proofs.Common.{◌∙◌, length, refl, subst, sym, take}
-use Rattle.std.specs.Io.KnownBytes.{Appends}
+use Rattle.std.proofs.Common.{◌∙◌, ◌++◌, ap, length, option_map, refl, sym, take}
 use Rattle.std.proofs.Math.Seq.{take-length}
 use Rattle.std.proofs.lemmas.Bool.{false≢true}
 use Rattle.iv_gate.specs.Events.{synced}
@@ -12,7 +11,7 @@ returns-in-Ok-offer_told-clause-front g c = λ d b.
     let a = desk_alive d c.args.self.now b c.if-self.false in
     called_desk offered (by_event synced d) _
     (c.in-Ok-offer_told.ensures (by_event synced d)
-    (event_behind c.events_leave_their_marks.ensures.marks d synced c.args.self.now.gateway c.settle.new.self c.args.self.now.places.items a
+    (event_behind c.events_leave_their_marks.ensures.marks d synced tt c.args.self.now.gateway c.settle.new.self c.args.self.now.places.items a
     (c.in-Ok.ensures.gate d.gate a.gate) refl))
     c.if-self.false
 
@@ -23,16 +22,16 @@ pub returns-in-Err-clause-torn : goal.returns-in-Err-clause-torn
 returns-in-Err-clause-torn g c = λ d b alive.
     let t = c.in-Err.ensures.torn in (
       t.0,
-      subst (λ z. Appends (g.J.Journal.kept c.args.journal.now) (g.J.Journal.kept c.settle.new.journal) (take t.0 z))
-          ((desk_alive d c.args.self.now b c.if-self.false).gate.alive alive).pending.text t.1,
+      t.1 ∙ ap (λ z. option_map (λ ls. ls ++ take t.0 z) (g.J.Journal.kept c.args.journal.now))
+          ((desk_alive d c.args.self.now b c.if-self.false).gate.alive alive).pending.lines,
     )
 
 pub returns-in-Err-offer_told-clause-torn : goal.returns-in-Err-offer_told-clause-torn
 returns-in-Err-offer_told-clause-torn g c = λ d b alive.
     let n = length c.args.self.now.gateway.pending.items in (
       n,
-      subst (λ z. Appends (g.J.Journal.kept c.args.journal.now) (g.J.Journal.kept c.settle.new.journal) (take n z))
-          ((desk_alive d c.args.self.now b c.if-self.false).gate.alive alive).pending.text
-          (subst (Appends (g.J.Journal.kept c.args.journal.now) (g.J.Journal.kept c.settle.new.journal))
-          (sym (take-length c.args.self.now.gateway.pending.items)) c.in-Ok.ensures.kept),
+      c.in-Ok.ensures.kept
+          ∙ (ap (λ z. option_map (λ ls. ls ++ z) (g.J.Journal.kept c.args.journal.now)) (sym (take-length c.args.self.now.gateway.pending.items))
+          ∙ ap (λ z. option_map (λ ls. ls ++ take n z) (g.J.Journal.kept c.args.journal.now))
+          ((desk_alive d c.args.self.now b c.if-self.false).gate.alive alive).pending.lines),
     )

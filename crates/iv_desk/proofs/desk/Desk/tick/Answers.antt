@@ -8,6 +8,6 @@ pub returns-in-Ok-clause-front : goal.returns-in-Ok-clause-front
 returns-in-Ok-clause-front c = λ d b.
     let a = desk_alive d c.args.self.now b c.if-self.false in
     live_desk (by_event ticked d) _
-    (event_behind c.events_leave_their_marks.ensures.marks d ticked c.args.self.now.gateway c.tick.new.self c.args.self.now.places.items a
+    (event_behind c.events_leave_their_marks.ensures.marks d ticked tt c.args.self.now.gateway c.tick.new.self c.args.self.now.places.items a
     (c.in-Ok.ensures.gate d.gate a.gate) refl)
     c.if-self.false
