@@ -55,7 +55,7 @@ fn begins_with(rt: &HostRuntime, epoch: &str, begun: Begun) -> Result<Head, u8>
 }
 
 /// 32 digits that no other journal has.
-fn digits(rt: &HostRuntime) -> Result<[u8; 32], u8> {
+fn new_digits(rt: &HostRuntime) -> Result<[u8; 32], u8> {
     match random_digits(rt) {
         Ok(digits) => Ok(digits),
         Err(_) => Err(no_random_bytes(rt)),
@@ -116,7 +116,8 @@ fn modern(rt: &HostRuntime, settings: &Settings, bytes: &[u8]) -> Result<Vec<u8>
     if plain.length < bytes.len() {
         say_cut(rt, settings.journal.as_str(), bytes.len() - plain.length);
     }
-    match anew(rt.alloc(), &digits(rt)?, &plain.lines) {
+    let digits = new_digits(rt)?;
+    match anew(rt.alloc(), &digits, &plain.lines) {
         Ok(bytes) => Ok(bytes),
         Err(fault) => { Err(no_journal(rt, settings.journal.as_str(), &OpenFault::from(fault))) }
     }
@@ -182,7 +183,7 @@ fn epoch_of(
     audit: &Audit<'_>,
     digits: &[u8; 32],
 ) -> Result<String, u8> {
-    match epoch_in(rt.alloc(), audit.epoch.unwrap_or(digits)) {
+    match epoch_in(rt.alloc(), audit.epoch.unwrap_or(digits.as_slice())) {
         Ok(Some(epoch)) => Ok(epoch),
         Ok(None) => Err(damaged_at(rt, path, bytes, 0)),
         Err(_) => Err(out_of_memory(rt)),
@@ -254,7 +255,7 @@ pub fn come_back(
     ensures { IfOk result (λ p. IsRunning settings.now.rows p.0) }
 {
     let path = settings.journal.as_str();
-    let digits = digits(rt)?;
+    let digits = new_digits(rt)?;
     let audit = read(rt, path, &bytes)?;
     let (desk, said) = led(rt, settings, tokens, &bytes, &audit, &digits)?;
     let journal = begin_journal(rt, path, file, bytes.len(), &audit, said, &digits)?;

@@ -1,7 +1,6 @@
 //! `work`: opens all that the settings name, brings the desk to where the journal leads, and serves.
-ghost use Rattle.std.specs.Prelude.{IfOk};
 ghost use Rattle.iv_host.specs.Settings.{AreValid};
-ghost use Rattle.gateway.specs.Running.{IsRunning, Leads};
+ghost use Rattle.gateway.specs.Running.{Leads};
 
 use crate::doors::Doors;
 use crate::fault::Fault;

@@ -171,7 +171,7 @@ fn push_noted(
     make_text(made, at, holder, line.text)?;
     let line = Line {
         is_last: line.is_last,
-        text: made,
+        text: made.as_slice(),
     };
     push_line(chain, out, &line)
 }

@@ -1,13 +1,16 @@
 //! `Begun`: what a journal says before its first entry; `push_begun` writes its lines, `read_begun` reads them.
-ghost use Rattle.std.specs.Prelude.{◌≡◌, ◌++◌, ◌∷◌, [], ◌≤◌, Bool, false, IfOk, OnOk, List, ℕ, codes, decimal, drop, length, map, option_map, string_bytes};
+ghost use Rattle.std.specs.Prelude.{◌≡◌, ◌++◌, ◌∷◌, ◌||◌, [], ◌≤◌, false, IfOk, OnOk, codes, decimal, drop, length, map, option_and_then, option_map, string_bytes};
+ghost use Rattle.std.specs.Str.{is_utf8};
 ghost use Rattle.serde_json.specs.Data.{string};
+ghost use Rattle.serde_json.specs.Find.{as_str};
 ghost use Rattle.serde_json.specs.Written.{compact_text};
-ghost use Rattle.iv_clients.specs.Names.{count_in, is_epoch, place_text};
+ghost use Rattle.iv_request.specs.Documents.{value_data};
+ghost use Rattle.iv_request.specs.Request.{passing};
+ghost use Rattle.iv_clients.specs.Names.{count_in, is_between};
 ghost use Rattle.iv_clients.specs.Parsed.{cut_quote, string_in};
 ghost use Rattle.iv_head.specs.Begun as spec;
-ghost use Rattle.iv_head.specs.Begun.{begun_in, followed_in, is_epoch_text, lines_of, log_text, place_in, standing_in, standing_text, standings_in};
+ghost use Rattle.iv_head.specs.Begun.{begun_in, followed_in, is_epoch_text, lines_of, log_in, log_text, member_in, place_in, said_log, said_standing, standing_in, standing_text, standings_in};
 
-use itoa::Buffer;
 use iv_clients::{OwnedLine, behind, cut_at};
 use iv_journal::Line;
 use iv_message::{Id, quoted, read_id};
@@ -176,7 +179,9 @@ fn cut_quote(bytes: &[u8]) -> Option<(&[u8], &[u8])>
 }
 
 /// The text of a JSON value that is one.
-fn str_of(alloc: Global, value: &Json<'_>) -> Result<Option<String>, AllocError> {
+fn str_of(alloc: Global, value: &Json<'_>) -> Result<Option<String>, AllocError>
+    ensures { IfOk result (λ o. option_map string_bytes o ≡ option_and_then (passing is_utf8) (as_str (value_data value.now))) }
+{
     match value {
         Json::String(text) => Ok(Some(String::from_str(alloc, text)?)),
         _ => Ok(None),
@@ -212,7 +217,9 @@ fn count_in(alloc: Global, digits: &[u8], scratch: &mut Scratch) -> Result<Optio
 }
 
 /// Whether a byte is a hexadecimal digit, of small letters.
-fn is_digit(byte: u8) -> bool {
+fn is_digit(byte: u8) -> bool
+    ensures { result ≡ (is_between 48 57 byte || is_between 97 102 byte) }
+{
     b'0' <= byte && byte <= b'9' || b'a' <= byte && byte <= b'f'
 }
 
@@ -249,7 +256,9 @@ fn place_in(alloc: Global, text: &[u8], scratch: &mut Scratch) -> Result<Option<
 }
 
 /// What a member of a text says between quotation marks, and what stands behind these.
-fn member_in<'a>(text: &'a [u8], key: &[u8]) -> Option<(&'a [u8], &'a [u8])> {
+fn member_in<'a>(text: &'a [u8], key: &[u8]) -> Option<(&'a [u8], &'a [u8])>
+    ensures { option_map (λ p. (p.0.now, p.1.now)) result ≡ member_in key.now text.now }
+{
     cut_quote(behind(text, key)?)
 }
 
@@ -258,7 +267,9 @@ fn said_standing(
     alloc: Global,
     text: &[u8],
     scratch: &mut Scratch,
-) -> Result<Option<Standing>, AllocError> {
+) -> Result<Option<Standing>, AllocError>
+    ensures { IfOk result (λ o. o ≡ said_standing text.now) }
+{
     let Some((holder, rest)) = member_in(text, b"\"holder\":\"") else {
         return Ok(None);
     };
@@ -299,7 +310,9 @@ fn said_log(
     alloc: Global,
     text: &[u8],
     scratch: &mut Scratch,
-) -> Result<Option<Followed>, AllocError> {
+) -> Result<Option<Followed>, AllocError>
+    ensures { IfOk result (λ o. o ≡ said_log text.now) }
+{
     let Some((name, rest)) = member_in(text, b"\"log\":\"") else {
         return Ok(None);
     };
@@ -374,7 +387,9 @@ fn log_in(
     alloc: Global,
     lines: &[Line],
     scratch: &mut Scratch,
-) -> Result<Option<Followed>, AllocError> {
+) -> Result<Option<Followed>, AllocError>
+    ensures { IfOk result (λ o. o ≡ log_in lines.now) }
+{
     match lines.first() {
         Some(line) if line.is_last => followed_in(alloc, line.text, scratch),
         _ => Ok(None),
