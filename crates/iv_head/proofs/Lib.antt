@@ -1,0 +1,3 @@
+pub mod WrittenThere
+pub mod ReadThere
+pub mod Standings

@@ -8,7 +8,7 @@ use Rattle.iv_rows.specs.Options.{if_some}
 use Rattle.iv_request.specs.Request.{passing}
 use Rattle.iv_journal.specs.Journal.{Line}
 use Rattle.iv_once.specs.Names.{Known, Place, begun}
-use Rattle.iv_clients.specs.Names.{count_in, is_count, is_epoch, place_text}
+use Rattle.iv_clients.specs.Names.{between, count_in, is_count, is_epoch, place_text}
 use Rattle.iv_clients.specs.Parsed.{cut_quote, string_in}
 use Rattle.iv_clients.specs.Tokens.{behind, cut_at}
 
@@ -62,8 +62,11 @@ member_in key text = option_and_then (cut_quote false) (behind key text)
 abbrev pub standing_with : (holder : List ℕ) → List ℕ × List ℕ → Option Standing
 standing_with holder p = option_and_then (λ at. option_map (λ h. record { holder = h; at = at }) (string_in holder)) (place_in p.0)
 
+abbrev pub standing_parts : List ℕ × List ℕ → Option Standing
+standing_parts p = option_and_then (standing_with p.0) (between (codes ",\"at\":\"") 34 p.1)
+
 abbrev pub said_standing : List ℕ → Option Standing
-said_standing text = option_and_then (λ (p : List ℕ × List ℕ). option_and_then (standing_with p.0) (member_in (codes ",\"at\":\"") p.1)) (member_in (codes "\"holder\":\"") text)
+said_standing text = option_and_then standing_parts (member_in (codes "\"holder\":\"") text)
 
 -- it is read if it is written so
 abbrev pub standing_in : List ℕ → Option Standing
@@ -73,10 +76,13 @@ abbrev pub log_with : (name epoch : List ℕ) → List ℕ × List ℕ → Optio
 log_with name epoch p = if is_epoch epoch then option_and_then (λ position. option_map (λ n. record { name = n; epoch = epoch; position = position }) (string_in name)) (count_in p.0) else None
 
 abbrev pub log_behind : (name : List ℕ) → List ℕ × List ℕ → Option Followed
-log_behind name e = option_and_then (log_with name e.0) (option_and_then (cut_at 125) (behind (codes ",\"step\":") e.1))
+log_behind name e = option_and_then (log_with name e.0) (between (codes ",\"step\":") 125 e.1)
+
+abbrev pub log_parts : List ℕ × List ℕ → Option Followed
+log_parts n = option_and_then (log_behind n.0) (between (codes ",\"epoch\":\"") 34 n.1)
 
 abbrev pub said_log : List ℕ → Option Followed
-said_log text = option_and_then (λ (n : List ℕ × List ℕ). option_and_then (log_behind n.0) (member_in (codes ",\"epoch\":\"") n.1)) (member_in (codes "\"log\":\"") text)
+said_log text = option_and_then log_parts (member_in (codes "\"log\":\"") text)
 
 abbrev pub followed_in : List ℕ → Option Followed
 followed_in text = option_and_then (passing (λ f. bytes_eq (log_text f) text)) (said_log text)

@@ -6,7 +6,7 @@ ghost use Rattle.serde_json.specs.Find.{as_str};
 ghost use Rattle.serde_json.specs.Written.{compact_text};
 ghost use Rattle.iv_request.specs.Documents.{value_data};
 ghost use Rattle.iv_request.specs.Request.{passing};
-ghost use Rattle.iv_clients.specs.Names.{count_in, is_between};
+ghost use Rattle.iv_clients.specs.Names.{between, count_in, is_between};
 ghost use Rattle.iv_clients.specs.Parsed.{cut_quote, string_in};
 ghost use Rattle.iv_head.specs.Begun as spec;
 ghost use Rattle.iv_head.specs.Begun.{begun_in, followed_in, is_epoch_text, lines_of, log_in, log_text, member_in, place_in, said_log, said_standing, standing_in, standing_text, standings_in};
@@ -262,6 +262,13 @@ fn member_in<'a>(text: &'a [u8], key: &[u8]) -> Option<(&'a [u8], &'a [u8])>
     cut_quote(behind(text, key)?)
 }
 
+/// What stands between a key and the first such byte, and behind that.
+fn between<'a>(text: &'a [u8], key: &[u8], byte: u8) -> Option<(&'a [u8], &'a [u8])>
+    ensures { option_map (λ p. (p.0.now, p.1.now)) result ≡ between key.now byte text.now }
+{
+    cut_at(behind(text, key)?, byte)
+}
+
 /// Where names stand that a text says.
 fn said_standing(
     alloc: Global,
@@ -273,7 +280,7 @@ fn said_standing(
     let Some((holder, rest)) = member_in(text, b"\"holder\":\"") else {
         return Ok(None);
     };
-    let Some((place, _)) = member_in(rest, b",\"at\":\"") else {
+    let Some((place, _)) = between(rest, b",\"at\":\"", b'"') else {
         return Ok(None);
     };
     let Some(at) = place_in(alloc, place, scratch)? else {
@@ -316,13 +323,10 @@ fn said_log(
     let Some((name, rest)) = member_in(text, b"\"log\":\"") else {
         return Ok(None);
     };
-    let Some((epoch, rest)) = member_in(rest, b",\"epoch\":\"") else {
+    let Some((epoch, rest)) = between(rest, b",\"epoch\":\"", b'"') else {
         return Ok(None);
     };
-    let Some(digits) = behind(rest, b",\"step\":") else {
-        return Ok(None);
-    };
-    let Some((digits, _)) = cut_at(digits, b'}') else {
+    let Some((digits, _)) = between(rest, b",\"step\":", b'}') else {
         return Ok(None);
     };
     let Some(epoch) = epoch_in(alloc, epoch)? else {
