@@ -1,3 +1,4 @@
+pub mod GivenLines
 pub mod RoleCounts
 pub mod PageAnswers
 pub mod Fields
