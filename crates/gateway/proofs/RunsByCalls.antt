@@ -97,7 +97,7 @@ called_on law f calls e v same happens x y lives h = λ cap r. by cap r r.front.
 -- ---- it begins
 
 pub restored_on : ((cap most places : ℕ) (tokens : List Token) (head : Head) (sent : List Shown) (journal : List Line) (g : Gate) → Restores (gate_at_start cap tokens most head sent) journal g
-        → Runs cap g → FrontRuns cap (front_at_start g places))
+    → Runs cap g → FrontRuns cap (front_at_start g places))
     → (cap : ℕ) (journal : List Line) (x y : Desk) → IsNew cap x → ((d : Front) → is.IsNew d.gate → IsDesk d x → IsRestored d journal y) → IsRunning cap y
 restored_on law cap journal x y new h =
     let w = h (front_at_start (gate_at_start cap new.tokens new.most new.head []) new.places) (record { entries = refl; kept = refl; forgiven = refl }) new.stands in

@@ -62,7 +62,7 @@ fn new_digits(rt: &HostRuntime) -> Result<[u8; 32], u8> {
     }
 }
 
-/// Brings a new desk to where entries lead, which stand behind so many lines of the journal.
+/// Brings a new desk to where entries lead, which stand after so many lines of the journal.
 fn lead(
     rt: &HostRuntime,
     desk: &mut Desk,
@@ -190,7 +190,7 @@ fn epoch_of(
     }
 }
 
-/// What a journal says before its first entry, and in how many lines behind its head.
+/// What a journal says before its first entry, and in how many lines after its head.
 fn begun_in(rt: &HostRuntime, lines: &[Line<'_>]) -> Result<(Begun, usize), u8> {
     let mut scratch = Scratch::new(rt.alloc());
     match read_begun(rt.alloc(), lines, &mut scratch) {
@@ -199,7 +199,7 @@ fn begun_in(rt: &HostRuntime, lines: &[Line<'_>]) -> Result<(Begun, usize), u8> 
     }
 }
 
-/// A desk with these tokens that is where a journal leads, and in how many lines behind its head that says something before its first entry.
+/// A desk with these tokens that is where a journal leads, and in how many lines after its head that says something before its first entry.
 fn led(
     rt: &HostRuntime,
     settings: &Settings,

@@ -83,7 +83,7 @@ plain_text (b ∷ line) = if b == 123 then line else []
 abbrev pub plain_line : List ℕ → Line
 plain_line line = record { is_last = true; text = plain_text line }
 
--- these are its lines, and behind them is none that has its end
+-- these are its lines, and after them is none that has its end
 pub record IsPlain (bytes : List ℕ) (p : Plain) : Type 0 where
   pub lines : p.lines.items ≡ map plain_line (ended_lines [] bytes)
   pub rest : list_any (λ b. b == 10) (drop p.length bytes) ≡ false

@@ -55,7 +55,7 @@ place_by p = if is_epoch p.0 then option_map (λ count. record { epoch = p.0; co
 abbrev pub place_in : List ℕ → Option Place
 place_in text = option_and_then place_by (cut_at 46 text)
 
--- what a member says between quotation marks, and what stands behind these
+-- what a member says between quotation marks, and what follows these
 abbrev pub member_in : List ℕ → List ℕ → Option (List ℕ × List ℕ)
 member_in key text = option_and_then (cut_quote false) (behind key text)
 
@@ -96,7 +96,7 @@ abbrev pub log_in : List Line → Option Followed
 log_in [] = None
 log_in (l ∷ ls) = if l.is_last then followed_in l.text else None
 
--- what lines say before the first entry, and the lines behind that
+-- what lines say before the first entry, and the lines after that
 abbrev pub begun_in : List Line → Begun × List Line
 begun_in ls = let log = log_in ls in let rest = if is_some log then drop 1 ls else ls in let standings = standings_in rest in
     (record { log = log; standings = standings }, drop (length standings) rest)

@@ -164,7 +164,7 @@ pub fn push_begun(
 
 // ---- read
 
-/// What stands before the first quotation mark that no backslash escapes, and behind it.
+/// What stands before the first quotation mark that no backslash escapes, and after it.
 fn cut_quote(bytes: &[u8]) -> Option<(&[u8], &[u8])>
     ensures { option_map (λ p. (p.0.now, p.1.now)) result ≡ cut_quote false bytes.now }
 {
@@ -255,14 +255,14 @@ fn place_in(alloc: Global, text: &[u8], scratch: &mut Scratch) -> Result<Option<
     Ok(Some(Place { epoch, count }))
 }
 
-/// What a member of a text says between quotation marks, and what stands behind these.
+/// What a member of a text says between quotation marks, and what follows these.
 fn member_in<'a>(text: &'a [u8], key: &[u8]) -> Option<(&'a [u8], &'a [u8])>
     ensures { option_map (λ p. (p.0.now, p.1.now)) result ≡ member_in key.now text.now }
 {
     cut_quote(behind(text, key)?)
 }
 
-/// What stands between a key and the first such byte, and behind that.
+/// What stands between a key and the first such byte, and after that.
 fn between<'a>(text: &'a [u8], key: &[u8], byte: u8) -> Option<(&'a [u8], &'a [u8])>
     ensures { option_map (λ p. (p.0.now, p.1.now)) result ≡ between key.now byte text.now }
 {
@@ -400,7 +400,7 @@ fn log_in(
     }
 }
 
-/// What a journal's lines behind its head say before its first entry, and how many of them say it.
+/// What a journal's lines after its head say before its first entry, and how many of them say it.
 ///
 /// # Errors
 /// `AllocError` if a growth of memory was refused.
