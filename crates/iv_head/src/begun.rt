@@ -11,6 +11,7 @@ ghost use Rattle.iv_clients.specs.Parsed.{cut_quote, string_in};
 ghost use Rattle.iv_head.specs.Begun as spec;
 ghost use Rattle.iv_head.specs.Begun.{begun_in, followed_in, is_epoch_text, lines_of, log_in, log_text, member_in, place_in, said_log, said_standing, standing_in, standing_text, standings_in};
 
+use itoa::Buffer;
 use iv_clients::{OwnedLine, behind, cut_at};
 use iv_journal::Line;
 use iv_message::{Id, quoted, read_id};
