@@ -376,7 +376,8 @@ impl Gateway {
         ensures { OnOk result ((g : Gate) → IsAlive g self.old
             → IsAlive (by_verdict g asked.now.client asked.now.id (request_of asked.now (act_of act)) ask (verdict (names_of g) ask)) self.new) }
     {
-        match self.names.verdict(&ask)? {
+        let verdict = self.names.verdict(&ask)?;
+        match verdict {
             Verdict::Carry => {
                 self.decide(asked, Some(ask), act)?;
                 Ok(())
