@@ -4,6 +4,7 @@ use Rattle.std.specs.Prelude.{◌&&◌, filter, flat_map, nat_lt, option_and_the
 use Rattle.std.specs.List.{AllByRecursion}
 use Rattle.std.proofs.Math.Seq.{drop-length, length-drop, take-length}
 use Rattle.std.proofs.lemmas.Bool.{false≢true}
+use Rattle.std.proofs.lemmas.Bool.Decides.{nat_tests}
 use Rattle.std.proofs.lemmas.List.{drop-drop, drop_all, map-append}
 use Rattle.std.proofs.lemmas.List.Concat.{flat_map-append}
 use Rattle.iv_rows.specs.Options.{if_some}
@@ -166,6 +167,40 @@ name_more g s es e n names x b h =
 pub name_new : (g : Gate) (s : State) (es : List Entry) (x : Gateway) (ask : once.Ask) (is : Bool) → IsAlive (behind g s es) x
     → is ≡ once.is_new (names_in_code x.names).limits (names_in_code x.names).known ask → is ≡ is_new (known_of (behind g s es)) ask
 name_new g s es x ask is b h = h ∙ ap (λ (n : Names). once.is_new n.limits n.known ask) b.names
+
+-- ---- whether it may be so
+
+pub not_later : (q p at : ℕ) → p ≤ at → at ≡ q → false ≡ nat_lt q p
+not_later q p at h e = grind (arith, nat_tests)
+
+pub later : (q p at : ℕ) → at < p → at ≡ q → true ≡ nat_lt q p
+later q p at h e = grind (arith, nat_tests)
+
+passed_as : (g : Gate) (s : State) (o : Option State) (is : Bool) (x : Gateway) → IsPassed (record g { machine = s }) o is x → IsPassed g o is x
+passed_as g s None is x p = p
+passed_as g s (Some t) is x p = p
+
+never_carried : (g : Gate) (o : Option State) (x : Gateway) → o ≡ None → IsPassed g o false x
+never_carried g o x e = subst (λ z. IsPassed g z false x) (sym e) refl
+
+-- no session is begun
+pub runs_unbegun : (g : Gate) (q : Request) (is : Bool) (x y : Gateway) → is_shared q.act ≡ true → IsPassed g (passed (begin q.role) g.machine) is x → is ≡ false
+    → IsPassed g (carried (fact_of q) g.machine) false y
+runs_unbegun g q is x y h p e = never_carried g (carried (fact_of q) g.machine) y (unbegun q g.machine h (none_passed g (passed (begin q.role) g.machine) is x p e))
+
+-- the act is refused
+pub runs_unaccepted : (g : Gate) (q : Request) (is : Bool) (x y z : Gateway) → is_shared q.act ≡ true → (b : PassesTo g (passed (begin q.role) g.machine) x)
+    → IsPassed (record g { machine = b.state }) (passed q.act b.state) is y → is ≡ false → IsPassed g (carried (fact_of q) g.machine) false z
+runs_unaccepted g q is x y z h b p e =
+    never_carried g (carried (fact_of q) g.machine) z
+    (unaccepted q g.machine b.state h b.is (none_passed (record g { machine = b.state }) (passed q.act b.state) is y p e))
+
+-- and then the session is finished
+pub runs_out : (g : Gate) (q : Request) (is : Bool) (x y z : Gateway) → is_shared q.act ≡ true → (b : PassesTo g (passed (begin q.role) g.machine) x)
+    → (d : PassesTo (record g { machine = b.state }) (passed q.act b.state) y) → IsPassed (record g { machine = d.state }) (passed finish d.state) is z
+    → IsPassed g (carried (fact_of q) g.machine) is z
+runs_out g q is x y z h b d p =
+    subst (λ o. IsPassed g o is z) (sym (finishes q g.machine b.state d.state h b.is d.is)) (passed_as g d.state (passed finish d.state) is z p)
 
 -- ---- all requests, in their order
 

@@ -10,19 +10,20 @@ returns-then-not-is_new c = λ g s es e b.
 
 pub returns : goal.returns
 returns c = λ g s es e b.
-    let k = name_more g s es e c.args.name (names_of c.push.new.self) c.args.self.now b c.in_ok-push.ensures in
-    (sym c.if-not-is_new.false ∙ name_new g s _ c.args.self.now c.args.name.ask c.is_new.result b c.is_new.ensures,
-    λ t. record {
-      tokens = b.tokens;
-      machine = b.machine;
-      seats = b.seats;
-      feeds = b.feeds;
-      clients = b.clients;
-      names = k.names;
-      log = b.log;
-      position = k.position;
-      settled = settled_here g s _ c.args.self.now b ∙ k.settled;
-      forgiven = k.forgiven;
-      pending = k.pending;
-      shape = k.shape;
-    })
+    let k = name_more g s es e c.args.name (names_of c.push.new.self) c.args.self.now b c.in_ok-push.ensures in (
+      sym c.if-not-is_new.false ∙ name_new g s _ c.args.self.now c.args.name.ask c.is_new.result b c.is_new.ensures,
+      λ t. record {
+        tokens = b.tokens;
+        machine = b.machine;
+        seats = b.seats;
+        feeds = b.feeds;
+        clients = b.clients;
+        names = k.names;
+        log = b.log;
+        position = k.position;
+        settled = settled_here g s _ c.args.self.now b ∙ k.settled;
+        forgiven = k.forgiven;
+        pending = k.pending;
+        shape = k.shape;
+      },
+    )

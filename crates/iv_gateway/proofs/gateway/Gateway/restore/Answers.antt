@@ -12,18 +12,18 @@ returns-in-Ok-clause-restored c = λ g n b.
       gate = record {
         dead = sym (ap (λ h. h.dead) w.restores.leads.gate ∙ lives);
         alive = λ _. record {
-      tokens = a.tokens;
-      machine = a.machine;
-      seats = a.seats;
-      feeds = a.feeds;
-      clients = a.clients;
-      names = a.names;
-      log = a.log;
-      position = a.position;
-      settled = a.settled;
-      forgiven = a.forgiven;
-      pending = a.pending;
-      shape = a.shape;
-    };
+          tokens = a.tokens;
+          machine = a.machine;
+          seats = a.seats;
+          feeds = a.feeds;
+          clients = a.clients;
+          names = a.names;
+          log = a.log;
+          position = a.position;
+          settled = a.settled;
+          forgiven = a.forgiven;
+          pending = a.pending;
+          shape = a.shape;
+        };
       };
     }
