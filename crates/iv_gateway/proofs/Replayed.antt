@@ -30,7 +30,7 @@ use Rattle.iv_clients.proofs.Slots.{one_some, some_is_none}
 use Rattle.iv_gate.specs.Arriving.{fact_of, first_known, is_new, not_new, position}
 use Rattle.iv_gate.specs.Gate.{Gate, in_session, is_accepted, known_at, known_by, known_of, names_of, reply_in, shape_text, spent_in}
 use Rattle.iv_gate.specs.Restoring.{IsDamagedAt, LeadOn, Restores, are_rising}
-use Rattle.iv_gate.proofs.Damage.{behind_all, both_so, carried_append, facts_append, facts_of, journal_one, journal_pushed, lines_of, names_append, push_all, read_one}
+use Rattle.iv_gate.proofs.Damage.{behind_all, both_so, carried_append, facts_append, facts_of, journal_one, journal_pushed, led, lines_of, names_append, push_all, read_one}
 use Rattle.iv_gate.proofs.Granting.{text_well}
 use Rattle.iv_gateway.specs.Replays.{AreNamesReplayed, HasReplayed, IsNew, IsPassed, IsRecordOf, IsRecordReplayed, IsReplayed, IsReplaying, behind, is_later, part, with_name, with_request}
 use Rattle.iv_gateway.specs.Shaping.{shape_in}
@@ -269,7 +269,7 @@ goes_to_end g s es p all rest x e w =
 
 -- ---- all names, in their order
 
-are_new : List Named → Known → Bool
+abbrev pub are_new : List Named → Known → Bool
 are_new [] k = true
 are_new (e ∷ es) k = is_new k e.ask && are_new es (learned limits (once.named e) k)
 
@@ -489,12 +489,8 @@ reads_on g journal at count x y w r =
     both : (a b c d e : ℕ) → a ≡ c → b ≡ d → e ≡ c + d → a + b ≡ e
     both a b c d e h k l = omega (arith, h, k, l)
 
--- where the entries have led it, with all refusals forgiven
-abbrev pub led : Gate → State → List Entry → Gate
-led g s es = record g { machine = s; entries = es; kept = length es; forgiven = length es }
-
 pub reads_all : (g : Gate) (journal : List Line) (at : ℕ) (x : Gateway) → (w : HasRead g journal at x) → length journal ≤ at
-    → Restores g journal (led g w.gate.state w.entries)
+    → Restores g journal (led g w.entries w.gate.state)
 reads_all g journal at x w h = record {
   all = w.lines ∙ (ap (λ z. journal_of w.entries ++ z) (drop_all at journal h) ∙ append-nil (journal_of w.entries));
   leads = w.gate.leads;
@@ -514,7 +510,7 @@ pub stops_here : (g : Gate) (journal : List Line) (at : ℕ) (x y : Gateway) →
     → IsRecordReplayed g w.entries (drop at journal) None y → IsDamagedAt g journal at
 stops_here g journal at x y w h r = record {
   entries = w.entries;
-  gate = led g w.gate.state w.entries;
+  gate = led g w.entries w.gate.state;
   rest = drop at journal;
   all = w.lines;
   leads = w.gate.leads;
