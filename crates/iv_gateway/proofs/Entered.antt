@@ -138,13 +138,13 @@ pends_more kept es fs old new p h = record {
 -- ---- what a request adds
 
 -- what of the code's values hangs on the entries
-pub record AreKept (g : Gate) (names : Names) (at settled : ℕ) (lines : List Line) (shape : List ℕ) : Type 0 where
-  pub names : names ≡ names_of g
+pub record AreKept (g : Gate) (known : Names) (at done : ℕ) (lines : List Line) (text : List ℕ) : Type 0 where
+  pub names : known ≡ names_of g
   pub position : at ≡ position g
-  pub settled : settled ≡ settled_at g
+  pub settled : done ≡ settled_at g
   pub forgiven : g.forgiven ≤ length g.entries
   pub pending : IsPending g.kept g.entries lines
-  pub shape : shape ≡ shape_text g.entries
+  pub shape : text ≡ shape_text g.entries
 
 one_kept : (g : Gate) (qs : List Request) (ns : List Named) (x : Gateway) (names : Names) (lines : List Line) (shape : List ℕ) → IsAlive g x
     → names ≡ names_of (entered g (entry_with qs ns ∷ [])) → lines ≡ x.pending.items ++ journal_of (entry_with qs ns ∷ [])
@@ -200,17 +200,17 @@ kept_by false g a act (Some ask) r x names lines shape b n l s =
     one_kept g [] (e ∷ []) x names lines shape b (n ∙ (ap (λ z. pushed z (once.named e)) b.names ∙ sym (names_pushed g [] e b.forgiven))) l s
 
 -- behind its entry
-pub entry_kept : (g : Gate) (a : Asking) (act : Act) (by : Option Ask) (r : Reply) (accepted : Bool) (name : Option Named) (x : Gateway) (names : Names) (lines : List Line) (old made shape : List ℕ)
+pub entry_kept : (g : Gate) (a : Asking) (act : Act) (by : Option Ask) (r : Reply) (accepted : Bool) (name : Option Named) (x : Gateway) (names : Names) (lines : List Line) (old text shape : List ℕ)
     → IsAlive g x → is_shared act ≡ true → accepted ≡ is_accepted r → name ≡ named_by by r
     → names ≡ names_with (names_in_code x.names) name → lines ≡ x.pending.items ++ lines_entered a accepted name
-    → old ≡ shape_text g.entries → made ≡ shape_text (entries_of (request_of a act) by r) → shape ≡ old ++ made
+    → old ≡ shape_text g.entries → text ≡ shape_text (entries_of (request_of a act) by r) → shape ≡ old ++ text
     → AreKept (entered g (entries_of (request_of a act) by r)) names x.position x.settled lines shape
-entry_kept g a act by r accepted name x names lines old made shape b h t e n l o m s =
+entry_kept g a act by r accepted name x names lines old text shape b h t e n l o m s =
     let are = entries_are accepted (request_of a act) by r h t in
     subst (λ es. AreKept (entered g es) names x.position x.settled lines shape) are
     (kept_by accepted g a act by r x names lines shape b (n ∙ ap (names_with (names_in_code x.names)) e)
     (l ∙ ap (λ z. x.pending.items ++ lines_entered a accepted z) e)
-    (shape_added g.entries (entries_of (request_of a act) by r) old made shape o m s ∙ ap (λ es. shape_text (g.entries ++ es)) (sym are)))
+    (shape_added g.entries (entries_of (request_of a act) by r) old text shape o m s ∙ ap (λ es. shape_text (g.entries ++ es)) (sym are)))
 
 -- what the entry makes of the shape
 made_by : (accepted : Bool) (q : Request) (by : Option Ask) (r : Reply) → shape_text (entries_by accepted q by r) ≡ cond accepted (shape_in q) []

@@ -1,8 +1,8 @@
 -- The journal, as the code carries it out again.
-use Rattle.std.proofs.Common.{◌≡◌, ◌∙◌, ℕ, ◌+◌, ◌-◌, ◌<◌, ◌≤◌, Bool, true, false, cond, not, List, [], ◌∷◌, ◌++◌, length, map, drop, Option, Some, None, is_none, is_some, refl, ap, sym, subst, arith, append-nil, append_assoc, length-append}
+use Rattle.std.proofs.Common.{◌≡◌, ◌∙◌, ℕ, ◌+◌, ◌-◌, ◌<◌, ◌≤◌, Bool, true, false, cond, not, List, [], ◌∷◌, ◌++◌, length, map, drop, Option, Some, None, is_none, is_some, refl, ap, sym, subst, arith, append-nil, append_assoc, length-append, length-drop}
 use Rattle.std.specs.Prelude.{◌&&◌, filter, flat_map, nat_lt, option_and_then, option_map, unwrap_or}
 use Rattle.std.specs.List.{AllByRecursion}
-use Rattle.std.proofs.Math.Seq.{drop-length, length-drop, take-length}
+use Rattle.std.proofs.Math.Seq.{drop-length, take-length}
 use Rattle.std.proofs.lemmas.Bool.{false≢true}
 use Rattle.std.proofs.lemmas.Bool.Decides.{nat_tests}
 use Rattle.std.proofs.lemmas.List.{drop-drop, drop_all, map-append}
@@ -205,9 +205,9 @@ runs_out g q is x y z h b d p =
 -- ---- all requests, in their order
 
 -- so many are done, and the rest are left
-pub record GoesOn (g : Gate) (s : State) (es : List Entry) (p : Option ℕ) (all rest : List Request) (x : Gateway) : Type 0 where
+pub record GoesOn (g : Gate) (s : State) (es : List Entry) (p : Option ℕ) (every rest : List Request) (x : Gateway) : Type 0 where
   pub done : List Request
-  pub all : all ≡ done ++ rest
+  pub all : every ≡ done ++ rest
   pub state : State
   pub carries : all_carried (map fact_of done) s ≡ Some state
   pub gate : IsAlive (behind g state (es ++ part done [] p ∷ [])) x
@@ -275,11 +275,12 @@ are_new (e ∷ es) k = is_new k e.ask && are_new es (learned limits (once.named 
 
 new_by : (n : ℕ) (es : List Named) (k : Known) → not (is_some (first_known n es k)) ≡ are_new es k
 new_by n [] k = refl
-new_by n (e ∷ es) k = by (is_new k e.ask)
+new_by n (e ∷ es) k = by (is_new k e.ask) (new_by (n + 1) es (learned limits (once.named e) k))
   where
-    by : (b : Bool) → not (is_some (cond b (first_known (n + 1) es (learned limits (once.named e) k)) (Some (not_new n)))) ≡ (b && are_new es (learned limits (once.named e) k))
-    by true = new_by (n + 1) es (learned limits (once.named e) k)
-    by false = refl
+    by : (b : Bool) → not (is_some (first_known (n + 1) es (learned limits (once.named e) k))) ≡ are_new es (learned limits (once.named e) k)
+        → not (is_some (cond b (first_known (n + 1) es (learned limits (once.named e) k)) (Some (not_new n)))) ≡ (b && are_new es (learned limits (once.named e) k))
+    by true h = h
+    by false h = refl
 
 and_both : (a b c : Bool) → (a && (b && c)) ≡ ((a && b) && c)
 and_both true b c = refl
@@ -297,9 +298,9 @@ known_append k (x ∷ xs) ys = known_append (learned limits (once.named x) k) xs
 known_part : (g : Gate) (s t : State) (es : List Entry) (e : Entry) → known_of (behind g s (es ++ e ∷ [])) ≡ known_by (known_of (behind g t es)) e.names
 known_part g s t es e = ap (known_by (known_at g.head)) (names_last es e) ∙ known_append (known_at g.head) (names_in es) e.names
 
-pub record AreLearning (g : Gate) (s : State) (es : List Entry) (qs : List Request) (p : Option ℕ) (all rest : List Named) (x : Gateway) : Type 0 where
+pub record AreLearning (g : Gate) (s : State) (es : List Entry) (qs : List Request) (p : Option ℕ) (every rest : List Named) (x : Gateway) : Type 0 where
   pub done : List Named
-  pub all : all ≡ done ++ rest
+  pub all : every ≡ done ++ rest
   pub new : are_new done (known_of (behind g s es)) ≡ true
   pub gate : IsAlive (behind g s (es ++ part qs done p ∷ [])) x
 
@@ -363,6 +364,10 @@ rises : (g : Gate) (es : List Entry) (e : Entry) → g.entries ≡ [] → are_ri
     → are_rising (position g) (es ++ e ∷ []) ≡ is_later (position_of g.head.position es) e.position
 rises g es e n h = later_last (position g) es e ∙ (λ i. h i && is_later (position_of (start_position g n i) es) e.position)
 
+-- the state to which they lead is that of what leads on
+leads_there : (g : Gate) (es : List Entry) (x : Gateway) → (w : IsReplaying g es x) → all_carried (facts_of es) g.machine ≡ Some w.state
+leads_there g es x w = w.leads.accepted ∙ ap Some (sym (ap (λ (h : Gate). h.machine) w.leads.gate))
+
 carries : (g : Gate) (s : State) (es : List Entry) (e : Entry) → all_carried (facts_of es) g.machine ≡ Some s
     → all_carried (facts_of (es ++ e ∷ [])) g.machine ≡ all_carried (map fact_of e.requests) s
 carries g s es e h =
@@ -393,7 +398,7 @@ pub stops_at_request : (g : Gate) (es : List Entry) (e : Entry) (x y z : Gateway
     → IsPassed (behind g w.state (es ++ part e.requests [] e.position ∷ [])) (all_carried (map fact_of e.requests) w.state) is y → is ≡ false
     → IsReplayed g es e false z
 stops_at_request g es e x y z is w r h = λ k l.
-    some_is_none l.state (sym l.accepted ∙ (carries g w.state es e w.leads.accepted ∙ none_passed (behind g w.state (es ++ part e.requests [] e.position ∷ [])) (all_carried (map fact_of e.requests) w.state) is y r h))
+    some_is_none l.state (sym l.accepted ∙ (carries g w.state es e (leads_there g es x w) ∙ none_passed (behind g w.state (es ++ part e.requests [] e.position ∷ [])) (all_carried (map fact_of e.requests) w.state) is y r h))
 
 -- its names decide
 pub ends_with_names : (g : Gate) (es : List Entry) (e : Entry) (x y z : Gateway) (is all : Bool) → IsEntry e → (w : IsReplaying g es x)
@@ -408,7 +413,7 @@ ends_with_names g es e x y z is true well w h p n = record {
   leads = record {
     state = p.state;
     well = push_all IsEntry es e w.leads.well well;
-    accepted = carries g w.state es e w.leads.accepted ∙ p.is;
+    accepted = carries g w.state es e (leads_there g es x w) ∙ p.is;
     names = none_if (first_known 1 (names_in (es ++ e ∷ [])) (known_of g)) (news g p.state es e w.began w.leads.names ∙ sym n.0);
     steps = rises g es e w.began w.leads.steps ∙ h;
     gate = refl;
@@ -442,7 +447,7 @@ reads_good reads g es lines entry count x r n w =
       entry = entry;
       lines = b.lines ∙ sym (journal_one entry (drop count lines));
       count = of_length (length lines) (length (lines_of entry)) (length (drop count lines))
-          (ap length b.lines ∙ length-append (lines_of entry) (drop count lines)) (length-drop count lines)
+          (ap length b.lines ∙ length-append (lines_of entry) (drop count lines)) (length-drop count lines) n
           ∙ ap length (sym (append-nil (lines_of entry)));
       gate = w;
     }
