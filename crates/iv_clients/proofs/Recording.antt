@@ -71,7 +71,8 @@ names_left qs ns (n ∷ more) p rest w h some =
     (λ e. ended more p e)
     (λ s. names_left qs (ns ++ n ∷ []) more p rest w.1 h s ∙ ap (λ z. Some (made qs z p, rest)) (append_assoc ns (n ∷ []) more))
   where
-    ended : (later : List Named) (o : Option ℕ) → name_texts later o ≡ [] → Some (made qs (ns ++ n ∷ []) None, rest) ≡ Some (made qs (ns ++ n ∷ later) o, rest)
+    ended : (later : List Named) (o : Option ℕ) → name_texts later o ≡ []
+        → ◌≡◌ {A = Option (Entry × List Line)} (Some (made qs (ns ++ n ∷ []) None, rest)) (Some (made qs (ns ++ n ∷ later) o, rest))
     ended [] None e = refl
     ended [] (Some q) e = absurd (no_cons (position_text q) [] e)
     ended (m ∷ ms) o e = absurd (no_cons (name_text m) (name_texts ms o) e)
@@ -85,7 +86,8 @@ requests_left qs (q ∷ more) ns p rest w v h some =
     (text_of_request q w.0) refl (λ e. ended more ns p e)
     (λ s. requests_left (qs ++ q ∷ []) more ns p rest w.1 v h s ∙ ap (λ z. Some (made z ns p, rest)) (append_assoc qs (q ∷ []) more))
   where
-    ended : (later : List Request) (ms : List Named) (o : Option ℕ) → map request_text later ++ name_texts ms o ≡ [] → Some (made (qs ++ q ∷ []) [] None, rest) ≡ Some (made (qs ++ q ∷ later) ms o, rest)
+    ended : (later : List Request) (ms : List Named) (o : Option ℕ) → map request_text later ++ name_texts ms o ≡ []
+        → ◌≡◌ {A = Option (Entry × List Line)} (Some (made (qs ++ q ∷ []) [] None, rest)) (Some (made (qs ++ q ∷ later) ms o, rest))
     ended [] [] None e = refl
     ended [] [] (Some n) e = absurd (no_cons (position_text n) [] e)
     ended [] (m ∷ ms) o e = absurd (no_cons (name_text m) (name_texts ms o) e)
@@ -146,9 +148,9 @@ position_more qs ns None n g a w h = more_of (made qs ns None) (made qs ns (Some
 })
 
 one_more : (e g : Entry) (t : List ℕ) (x : Text) → IsFront e → Is t x → with_text e x ≡ Some g → IsMore e g t
-one_more e g t (of_request q) a w h = subst (IsMore e g) (sym w.text) (request_more e.requests e.names e.position q g a w.well h)
-one_more e g t (of_name n) a w h = subst (IsMore e g) (sym w.text) (name_more e.requests e.names e.position n g a w.well h)
-one_more e g t (of_position p) a w h = subst (IsMore e g) (sym w.text) (position_more e.requests e.names e.position p g a w.well h)
+one_more e g t (of_request q) a w h = subst (IsMore e g) (sym w.written) (request_more e.requests e.names e.position q g a w.well h)
+one_more e g t (of_name n) a w h = subst (IsMore e g) (sym w.written) (name_more e.requests e.names e.position n g a w.well h)
+one_more e g t (of_position p) a w h = subst (IsMore e g) (sym w.written) (position_more e.requests e.names e.position p g a w.well h)
 
 -- the rest of a record
 record IsRest (e : Entry) (ls : List Line) (f : Entry) (rest : List Line) : Type 0 where
