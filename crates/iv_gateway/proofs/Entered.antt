@@ -210,7 +210,7 @@ entry_kept g a act by r accepted name x names lines old text shape b h t e n l o
     subst (λ es. AreKept (entered g es) names x.position x.settled lines shape) are
     (kept_by accepted g a act by r x names lines shape b (n ∙ ap (names_with (names_in_code x.names)) e)
     (l ∙ ap (λ z. x.pending.items ++ lines_entered a accepted z) e)
-    (shape_added g.entries (entries_of (request_of a act) by r) old text shape o m s ∙ ap (λ es. shape_text (g.entries ++ es)) (sym are)))
+    (shape_added g.entries (entries_of (request_of a act) by r) old shape text o m s ∙ ap (λ es. shape_text (g.entries ++ es)) (sym are)))
 
 -- what the entry makes of the shape
 made_by : (accepted : Bool) (q : Request) (by : Option Ask) (r : Reply) → shape_text (entries_by accepted q by r) ≡ cond accepted (shape_in q) []
