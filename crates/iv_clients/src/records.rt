@@ -1,5 +1,5 @@
 //! `Entry`: what the journal has at once; `push_step`, `push_accepted` and `push_named` write the lines of one, `read_record` reads them.
-ghost use Rattle.std.specs.Prelude.{length, IfSome, ◌≤◌, ◌<◌, ◌≡◌, ◌++◌, ◌∷◌, [], if◌then◌else◌, IfOk, OnOk, List, None, Some, codes, decimal, drop, map, option_map, string_bytes, true};
+ghost use Rattle.std.specs.Prelude.{◌≡◌, ◌≤◌, ◌<◌, ◌++◌, ◌∷◌, [], if◌then◌else◌, IfOk, IfSome, OnOk, List, None, Some, codes, decimal, drop, length, map, option_map, string_bytes, true};
 ghost use Rattle.iv_command.specs.Views.{act_of};
 ghost use Rattle.iv_message.specs.Seen.{said_of};
 ghost use Rattle.iv_journal.specs.Journal.{Line as LineSpec};
