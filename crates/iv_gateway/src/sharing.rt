@@ -92,11 +92,15 @@ fn push_entry(
     ensures { OnOk result (lines.new.items ≡ lines.old.items ++ lines_entered asked.now accepted name.now) }
 {
     if accepted {
-        return push_accepted(alloc, lines, asked.role, asked.line, name);
+        push_accepted(alloc, lines, asked.role, asked.line, name)?;
+        return Ok(());
     }
     match name {
         None => Ok(()),
-        Some(named) => push_named(alloc, lines, named),
+        Some(named) => {
+            push_named(alloc, lines, named)?;
+            Ok(())
+        }
     }
 }
 
@@ -106,7 +110,10 @@ fn push_name(names: &mut Names, name: Option<Named>) -> Result<(), AllocError>
 {
     match name {
         None => Ok(()),
-        Some(named) => names.push(named),
+        Some(named) => {
+            names.push(named)?;
+            Ok(())
+        }
     }
 }
 
