@@ -1,5 +1,5 @@
 -- What the code keeps of entries that are added: names, positions, lines and the shape.
-use Rattle.std.proofs.Common.{◌≡◌, ◌∙◌, ◌≤◌, ℕ, ◌+◌, Bool, true, false, cond, not, ◌||◌, List, [], ◌∷◌, ◌++◌, length, drop, Option, Some, None, is_some, refl, ap, sym, subst, append-nil, append_assoc, arith, length-append}
+use Rattle.std.proofs.Common.{◌≡◌, ◌∙◌, ◌≤◌, ℕ, ◌+◌, Bool, true, false, cond, not, ◌||◌, List, [], ◌∷◌, ◌++◌, length, drop, Option, Some, None, is_some, refl, ap, sym, subst, append-nil, arith, length-append}
 use Rattle.std.specs.Prelude.{◌&&◌, bytes_eq, option_map, unwrap_or}
 use Rattle.std.proofs.lemmas.Bool.{false≢true}
 use Rattle.std.proofs.lemmas.List.{drop-append-le, take-append-le}
@@ -10,10 +10,10 @@ use Rattle.iv_once.specs.Names as once
 use Rattle.iv_machine.specs.Act.{Act, Reply}
 use Rattle.iv_once.specs.Names.{Ask, Known, Named, Names, blamed, learned, own_of, pushed, spent_by, spent_more}
 use Rattle.iv_once.specs.Views.{names_of as names_in_code}
-use Rattle.iv_clients.specs.Journal.{Entry, Request, is_shared, journal_of, name_text, names_in, position_of, record_of, request_text, texts_of}
+use Rattle.iv_clients.specs.Journal.{Entry, Request, is_shared, journal_of, names_in, position_of, record_of, texts_of}
 use Rattle.iv_clients.specs.Names.{limits, place_text}
 use Rattle.iv_gate.specs.Arriving.{position, settled_at}
-use Rattle.iv_gate.specs.Gate.{Gate, answer_text, answering, entered, entries_of, is_accepted, known_at, known_by, known_of, names_of, place_of, shape_text, spent_in}
+use Rattle.iv_gate.specs.Gate.{Gate, answer_text, answering, entered, entries_of, is_accepted, known_at, known_by, names_of, place_of, shape_text, spent_in}
 use Rattle.iv_rows.specs.Options.{if_some}
 use Rattle.iv_gateway.specs.Shaping.{shape_in}
 use Rattle.iv_gateway.specs.Speaking.{Asking, lines_entered, request_of}

@@ -1,7 +1,6 @@
 -- The journal, as the code carries it out again.
 use Rattle.std.proofs.Common.{◌≡◌, ◌∙◌, ℕ, ◌+◌, ◌-◌, ◌<◌, ◌≤◌, Bool, true, false, cond, not, List, [], ◌∷◌, ◌++◌, length, map, drop, Option, Some, None, is_none, is_some, refl, ap, sym, subst, arith, append-nil, append_assoc, length-append, length-drop}
-use Rattle.std.specs.Prelude.{◌&&◌, filter, flat_map, nat_lt, option_and_then, option_map, unwrap_or}
-use Rattle.std.specs.List.{AllByRecursion}
+use Rattle.std.specs.Prelude.{◌&&◌, filter, flat_map, nat_lt, option_and_then, unwrap_or}
 use Rattle.std.proofs.Math.Seq.{drop-length, take-length}
 use Rattle.std.proofs.lemmas.Bool.{false≢true}
 use Rattle.std.proofs.lemmas.Bool.Decides.{nat_tests}
@@ -21,20 +20,20 @@ use Rattle.iv_once.specs.Names as once
 use Rattle.iv_once.specs.Names.{Known, Named, Names, learned}
 use Rattle.iv_once.specs.Runs.{unspent}
 use Rattle.iv_once.specs.Views.{names_of as names_in_code}
-use Rattle.iv_steps.specs.Steps.{Fact, all_carried, carried, passed}
-use Rattle.iv_clients.specs.Journal.{Entry, IsEntry, IsRequest, Request, is_shape, is_shared, journal_of, names_in, position_of, record_of, requests_in, texts_of}
-use Rattle.iv_clients.specs.Laws.{Begins, ReadsBack}
+use Rattle.iv_steps.specs.Steps.{all_carried, carried, passed}
+use Rattle.iv_clients.specs.Journal.{Entry, IsEntry, IsRequest, Request, is_shape, is_shared, journal_of, names_in, position_of, requests_in}
+use Rattle.iv_clients.specs.Laws.{ReadsBack}
 use Rattle.iv_clients.specs.Names.{limits}
 use Rattle.iv_clients.specs.Parsed.{record_in}
 use Rattle.iv_clients.proofs.Slots.{one_some, some_is_none}
 use Rattle.iv_gate.specs.Arriving.{fact_of, first_known, is_new, not_new, position}
 use Rattle.iv_gate.specs.Gate.{Gate, in_session, is_accepted, known_at, known_by, known_of, names_of, reply_in, shape_text, spent_in}
 use Rattle.iv_gate.specs.Restoring.{IsDamagedAt, LeadOn, Restores, are_rising}
-use Rattle.iv_gate.proofs.Damage.{behind_all, both_so, carried_append, facts_append, facts_of, journal_one, journal_pushed, led, lines_of, names_append, push_all, read_one}
+use Rattle.iv_gate.proofs.Damage.{behind_all, carried_append, facts_append, facts_of, journal_one, journal_pushed, led, lines_of, names_append, push_all, read_one}
 use Rattle.iv_gate.proofs.Granting.{text_well}
-use Rattle.iv_gateway.specs.Replays.{AreNamesReplayed, HasReplayed, IsNew, IsPassed, IsRecordOf, IsRecordReplayed, IsReplayed, IsReplaying, behind, is_later, part, with_name, with_request}
+use Rattle.iv_gateway.specs.Replays.{AreNamesReplayed, IsNew, IsPassed, IsRecordReplayed, IsReplayed, IsReplaying, behind, is_later, part, with_name, with_request}
 use Rattle.iv_gateway.specs.Shaping.{shape_in}
-use Rattle.iv_gateway.specs.Views.{IsAlive, IsGate}
+use Rattle.iv_gateway.specs.Views.{IsAlive}
 use Rattle.iv_gateway.specs.declared.gateway.Gateway.{Gateway}
 use Rattle.iv_gateway.proofs.Entered.{AreKept, one_pushed, position_push}
 use Rattle.iv_gateway.proofs.Refused.{accepted_iff}

@@ -1,5 +1,5 @@
 -- For contracts of the code: where the lines of a journal lead it.
-use Rattle.std.specs.Prelude.{◌≡◌, ◌+◌, ℕ, Bool, true, false, if◌then◌else◌, List, [], ◌∷◌, ◌++◌, drop, is_some, length, nat_lt, not, Option, Some, None}
+use Rattle.std.specs.Prelude.{◌≡◌, ℕ, Bool, true, false, List, [], ◌∷◌, ◌++◌, drop, is_some, length, nat_lt, not, Option, Some, None}
 use Rattle.iv_rows.specs.Options.{if_some}
 use Rattle.iv_machine.specs.State.{State}
 use Rattle.iv_clients.specs.Journal.{Entry, Request, journal_of, position_of}

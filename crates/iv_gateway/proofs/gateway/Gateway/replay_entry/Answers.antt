@@ -1,5 +1,5 @@
-use Rattle.std.proofs.Common.{◌∙◌, refl, sym}
-use Rattle.iv_gateway.specs.Replays.{behind, part}
+use Rattle.std.proofs.Common.{◌∙◌, sym}
+use Rattle.iv_gateway.specs.Replays.{behind}
 use Rattle.iv_gateway.proofs.Replayed.{ends_with_names, some_passed, stops_at_position, stops_at_request}
 use Rattle.iv_gateway.proofs.gateway.Gateway.replay_entry.Goals as goal
 

@@ -1,15 +1,25 @@
-use Rattle.std.proofs.Common.{◌≡◌, ◌∙◌, List, [], ◌∷◌, ◌++◌, ap, rules, subst, sym}
+use Rattle.std.proofs.Common.{◌≡◌, ◌∙◌, [], ◌∷◌, ◌++◌, ap, rules, subst}
 use Rattle.std.specs.Prelude.{string_bytes}
+use Rattle.iv_rows.specs.Names.{is_name}
 use Rattle.iv_machine.specs.Act.{begin}
-use Rattle.iv_machine.specs.State.{State}
+use Rattle.iv_machine.specs.Well.{is_well_act}
 use Rattle.iv_command.specs.Views.{act_of}
-use Rattle.iv_clients.specs.Journal.{Entry}
 use Rattle.iv_steps.specs.Steps.{passed}
 use Rattle.iv_gate.specs.Gate.{Gate}
 use Rattle.iv_gateway.specs.Replays.{IsPassed, behind, with_request}
 use Rattle.iv_gateway.specs.Shaping.{shape_in}
 use Rattle.iv_gateway.proofs.Replayed.{PassesTo, request_more, request_well, runs_out, runs_unaccepted, runs_unbegun, settled_here, some_passed}
 use Rattle.iv_gateway.proofs.gateway.Gateway.replay_request.Goals as goal
+
+pub pass-requires : goal.pass-requires
+pass-requires c =
+    let role : string_bytes c.request.inside.role ≡ c.args.request.role = search rules in
+    ap is_name role ∙ c.requires.role
+
+pub pass-2-requires : goal.pass-2-requires
+pass-2-requires c =
+    let act : act_of c.request.inside.act ≡ c.args.request.act = search rules in
+    ap is_well_act act ∙ request_well c.requests_are_well.ensures c.args.request c.requires
 
 pub returns-then-not-branch : goal.returns-then-not-branch
 returns-then-not-branch c = λ g s es e b.

@@ -1,4 +1,4 @@
-use Rattle.std.proofs.Common.{◌≡◌, ◌∙◌, List, [], ap, arith, rules, subst, sym}
+use Rattle.std.proofs.Common.{◌≡◌, List, [], arith, rules, subst, sym}
 use Rattle.std.specs.List.{AllByRecursion}
 use Rattle.std.specs.Vec.Iter.{into_iter_items}
 use Rattle.iv_clients.specs.Journal.{IsRequest, Request}

@@ -1,4 +1,4 @@
-use Rattle.std.proofs.Common.{◌∙◌, ap, refl, sym}
+use Rattle.std.proofs.Common.{◌∙◌, ap, sym}
 use Rattle.iv_gateway.proofs.gateway.Gateway.restore.Goals as goal
 
 pub returns-in-Ok-clause-restored : goal.returns-in-Ok-clause-restored
