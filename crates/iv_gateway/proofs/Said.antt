@@ -9,8 +9,9 @@ use Rattle.iv_command.specs.Views.{act_of}
 use Rattle.iv_command.specs.declared.command.Act as code
 use Rattle.iv_command.specs.declared.command.Act.TheVariants as asks
 use Rattle.iv_machine.specs.Act.{Act, begin, finish, create_role, create_table, create_view, grant, revoke, grant_role, revoke_role, row_security}
-use Rattle.iv_machine.specs.Act.{create_policy, drop_policy, subscribe, unsubscribe, write, Line, refused, limit, no_session}
+use Rattle.iv_machine.specs.Act.{create_policy, drop_policy, subscribe, unsubscribe, write, Line, Reply, refused, limit, no_session}
 use Rattle.iv_machine.specs.Machine.{step}
+use Rattle.iv_machine.specs.State.{State}
 use Rattle.iv_message.specs.Message.{request, unknown}
 use Rattle.iv_message.specs.Told.{fault, unasked}
 use Rattle.iv_once.specs.Names.{Ask, Verdict, verdict}
@@ -18,13 +19,13 @@ use Rattle.iv_once.specs.Views.{names_of as names_in_code, verdict_of}
 use Rattle.iv_once.specs.declared.asks.Verdict as code_once
 use Rattle.iv_clients.specs.Feeds.{seat_of}
 use Rattle.iv_clients.specs.Clients.{Client, Slots, answered, at_client, client_at, may_say, saying}
-use Rattle.iv_clients.specs.Journal.{Request, claim_said, is_shared, line_said, said_by}
+use Rattle.iv_clients.specs.Journal.{Entry, Request, claim_said, is_shared, line_said, said_by}
 use Rattle.iv_clients.specs.Kept.{Kept, Places, answering, kept, kept_slots}
 use Rattle.iv_clients.specs.Names.{Claim}
 use Rattle.iv_clients.proofs.Slots.{at_same, one_some}
 use Rattle.iv_gate.specs.Events.{message}
 use Rattle.iv_gate.specs.Gate.{Gate, acts, done_for, hears, in_session, is_heard, replies_to, reply_in, reply_to, said, shares}
-use Rattle.iv_gate.specs.Gate.{asked_by, by_verdict, carries, decided_elsewhere, decides, done_in, has_shape_room, names_of, settles, tells}
+use Rattle.iv_gate.specs.Gate.{asked_by, by_verdict, carries, decided_elsewhere, decides, done_in, entered, entries_of, has_shape_room, names_of, reply_told, settles, tells}
 use Rattle.iv_gate.specs.Laws.{LeavesMarks}
 use Rattle.iv_gate.proofs.Growing.{Grown, grows}
 use Rattle.iv_gate.proofs.Walking.{to_done, to_settles, to_then}
@@ -200,15 +201,26 @@ acts_none g m c id text (asks.Write entries) h n k = cc
 
 -- ---- what is replied
 
+-- what a reply tells does not hang on the machine
+told_the_same : (g : Gate) (t : State) (es : List Entry) (id : Option Data) (name : Option Ask) (r : Reply)
+    → reply_told (entered (record g { machine = t }) es) id name r ≡ reply_told (entered g es) id name r
+told_the_same g t es id None r = refl
+told_the_same g t es id (Some a) r = refl
+
 -- the machine has answered; what the journal is to have waits for it, and the reply is told
 pub replied_first : (g : Gate) (m : ℕ) (id : Option Data) (q : Request) (name : Option Ask) (n : ℕ) (ls : List Line) (x : Gateway)
     → ls ≡ (step g.machine (in_session n q.act)).lines
     → IsAlive (replies_to (record g { machine = (step g.machine (in_session n q.act)).state }) m id q name (reply_in ls)) x
     → IsRun (replies_to g m id q name (reply_to g (in_session n q.act))) (in_session n q.act) ls x
-replied_first g m id q name n ls x l h = record {
-  lines = l;
-  gate = subst (λ (p : List Line). IsAlive (replies_to (record g { machine = (step g.machine (in_session n q.act)).state }) m id q name (reply_in p)) x) l h;
-}
+replied_first g m id q name n ls x l h =
+    let s = (step g.machine (in_session n q.act)).state in
+    let r = reply_to g (in_session n q.act) in
+    let es = entries_of q name (reply_to g (in_session n q.act)) in
+    record {
+      lines = l;
+      gate = subst (λ t. IsAlive (tells (entered (record g { machine = s }) es) m t) x) (told_the_same g s es id name r)
+          (subst (λ (p : List Line). IsAlive (replies_to (record g { machine = s }) m id q name (reply_in p)) x) l h);
+    }
 
 -- ---- how it is shared
 
