@@ -1,9 +1,10 @@
 -- The record of an entry is read back, whatever stands behind it, and nothing else is read.
 use Rattle.std.proofs.Common.{◌≡◌, ℕ, suc, arith, length, Bool, true, false, cond, List, [], ◌∷◌, ◌++◌, map, Option, Some, None, refl, ap, ◌∙◌, sym, subst, append_assoc, append-nil}
-use Rattle.std.specs.Prelude.{◌≢◌, ◌==◌, option_and_then}
+use Rattle.std.specs.Prelude.{◌≢◌, ◌==◌, OnOk, Result, Ok, Err, option_and_then}
 use Rattle.std.proofs.lemmas.Bool.{ne_eqb}
 use Rattle.std.specs.List.{AllByRecursion}
 use Rattle.std.proofs.lemmas.List.{map-append}
+use Rattle.std.proofs.lemmas.Simd.{map-map}
 use Rattle.iv_rows.specs.Options.{if_some}
 use Rattle.iv_once.specs.Names.{Named}
 use Rattle.iv_journal.specs.Journal.{Line}
@@ -42,6 +43,26 @@ record_pushed (u ∷ us) t = record_next u (us ++ t ∷ []) (some_behind us) ∙
     some_behind : (xs : List (List ℕ)) → (xs ++ t ∷ []) ≡ [] → ⊥
     some_behind [] h = no_cons t [] h
     some_behind (x ∷ xs) h = no_cons x (xs ++ t ∷ []) h
+
+abbrev last_line : List ℕ → Line
+last_line t = record { is_last = true; text = t }
+
+-- requests, names and a position, one after another, are the record of a step
+pub step_pushed : {E : Type 0} (r : Result (Unit {0}) E) (qs : List Request) (ns : List Named) (p : ℕ) (t a b n : List Line)
+    → a ≡ t ++ map (λ q. part (request_text q)) qs → b ≡ a ++ map (λ e. part (name_text e)) ns → OnOk r (n ≡ b ++ last_line (position_text p) ∷ [])
+    → OnOk r (n ≡ t ++ record_of (texts_of (made qs ns (Some p))))
+step_pushed (Err e) qs ns p t a b n h k l = tt
+step_pushed (Ok u) qs ns p t a b n h k l =
+    let last = last_line (position_text p) ∷ [] in
+    let first = map (λ q. part (request_text q)) qs in
+    let second = map (λ e. part (name_text e)) ns in
+    let whole : record_of (texts_of (made qs ns (Some p))) ≡ first ++ (second ++ last) =
+    ap record_of (sym (append_assoc (map request_text qs) (map name_text ns) (position_text p ∷ [])))
+    ∙ (record_pushed (map request_text qs ++ map name_text ns) (position_text p)
+    ∙ (ap (λ z. z ++ last) (map-append part (map request_text qs) (map name_text ns) ∙ (λ i. map-map part request_text qs i ++ map-map part name_text ns i))
+    ∙ append_assoc first second last)) in
+    l ∙ (ap (λ z. z ++ last) (k ∙ ap (λ z. z ++ second) h)
+    ∙ (append_assoc (t ++ first) second last ∙ (append_assoc t first (second ++ last) ∙ ap (λ z. t ++ z) (sym whole))))
 
 -- ---- what was written is read
 
