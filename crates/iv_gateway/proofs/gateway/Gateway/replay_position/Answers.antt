@@ -26,17 +26,17 @@ returns-in-None c = λ g s es b.
       },
     )
 
-pub returns-then-place-leself : goal.returns-then-place-leself
-returns-then-place-leself c = λ g s es b. (
-  not_later (position_of g.head.position es) c.in-Some.place c.args.self.now.position c.if-place-leself.true b.position
+pub returns-then-place-self : goal.returns-then-place-self
+returns-then-place-self c = λ g s es b. (
+  not_later (position_of g.head.position es) c.in-Some.place c.args.self.now.position c.if-place-self.true b.position
       ∙ sym (ap (is_later (position_of g.head.position es)) c.in-Some.is),
   λ t. absurd (false≢true t),
 )
 
-pub returns-in-Some : goal.returns-in-Some
-returns-in-Some c = λ g s es b.
+pub returns-else-place-self : goal.returns-else-place-self
+returns-else-place-self c = λ g s es b.
     let k = position_more g s es c.args.position c.in-Some.place c.args.self.now b (sym (ap (λ o. unwrap_or o c.args.self.now.position) c.in-Some.is)) in (
-      later (position_of g.head.position es) c.in-Some.place c.args.self.now.position c.if-place-leself.false b.position
+      later (position_of g.head.position es) c.in-Some.place c.args.self.now.position c.if-place-self.false b.position
           ∙ sym (ap (is_later (position_of g.head.position es)) c.in-Some.is),
       λ t. record {
         tokens = b.tokens;

@@ -18,7 +18,7 @@ returns-in-None-clause-replayed c = λ g es w.
 pub returns-then-branch-clause-replayed : goal.returns-then-branch-clause-replayed
 returns-then-branch-clause-replayed c = λ g es w.
     let x = w.gate in
-    let r = c.in_ok-replay_entry.ensures g es (record {
+    let r = c.in_ok-replay_entry-in-Some.ensures g es (record {
       began = w.began;
       state = w.state;
       leads = w.leads;
@@ -45,7 +45,7 @@ returns-then-branch-clause-replayed c = λ g es w.
 pub returns-else-branch-clause-replayed : goal.returns-else-branch-clause-replayed
 returns-else-branch-clause-replayed c = λ g es w.
     let x = w.gate in
-    let r = c.in_ok-replay_entry.ensures g es (record {
+    let r = c.in_ok-replay_entry-in-Some.ensures g es (record {
       began = w.began;
       state = w.state;
       leads = w.leads;
