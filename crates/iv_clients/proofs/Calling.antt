@@ -1,8 +1,8 @@
 -- Names are ASCII, and so UTF-8.
-use Rattle.std.proofs.Common.{◌≡◌, ◌⊎◌, inl, inr, ℕ, zero, suc, ◌<◌, Bool, true, false, cond, List, [], ◌∷◌, Some, None, refl, ap, ◌∙◌, sym, arith}
+use Rattle.std.proofs.Common.{◌≡◌, ◌⊎◌, inl, inr, ℕ, zero, suc, ◌<◌, Bool, true, false, cond, List, [], ◌∷◌, ◌++◌, Some, None, refl, ap, ◌∙◌, sym, append_assoc, arith}
 use Rattle.std.specs.Prelude.{◌&&◌, ◌||◌, option_and_then}
 use Rattle.std.specs.List.{list_all, slice_index}
-use Rattle.std.specs.Str.{IsAscii, IsUtf8}
+use Rattle.std.specs.Str.{IsAscii, IsUtf8, is_utf8}
 use Rattle.std.proofs.lemmas.Bool.Decides.{nat_tests}
 use Rattle.std.proofs.lemmas.Str.{IsUtf8-from_ascii}
 use Rattle.iv_rows.specs.Names.{is_further, is_name}
@@ -10,7 +10,7 @@ use Rattle.hex.specs.declared.error.FromHexError.{FromHexError}
 use Rattle.hex.specs.declared.error.FromHexError.TheVariants.{OutOfMemory}
 use Rattle.std.specs.Prelude.{Result, Err}
 use Rattle.iv_request.specs.Request.{passing}
-use Rattle.iv_clients.specs.Names.{is_between, is_epoch, is_letter, is_random}
+use Rattle.iv_clients.specs.Names.{holder_of, is_between, is_epoch, is_letter, is_random}
 use Rattle.iv_clients.specs.Tokens.{decoded, role_in}
 use Rattle.iv_clients.specs.Parsed.{request_in, request_parts, named_request}
 
@@ -78,3 +78,8 @@ no_random name h = no_pass is_random name (λ k. IsUtf8-from_ascii name (ascii_b
 
 pub no_epoch : (epoch : List ℕ) → ¬ (IsUtf8 epoch) → None ≡ passing is_epoch epoch
 no_epoch epoch h = no_pass is_epoch epoch (λ k. IsUtf8-from_ascii epoch (ascii_by (λ b. is_between 48 57 b || is_between 97 102 b) epoch_ascii epoch (and_both _ _ k).1)) h
+
+-- a role, a slash and a user that is text
+pub holder_joined : (role user a b d : List ℕ) → is_utf8 user ≡ true → a ≡ role → b ≡ a ++ 47 ∷ [] → d ≡ b ++ user → d ≡ holder_of role user
+holder_joined role user a b d u h k e =
+    e ∙ (ap (λ z. z ++ user) (k ∙ ap (λ z. z ++ 47 ∷ []) h) ∙ (append_assoc role (47 ∷ []) user ∙ ap (λ t. role ++ 47 ∷ cond t user []) (sym u)))

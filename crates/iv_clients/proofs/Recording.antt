@@ -1,9 +1,10 @@
 -- The record of an entry is read back, whatever stands behind it, and nothing else is read.
 use Rattle.std.proofs.Common.{◌≡◌, ℕ, suc, arith, length, Bool, true, false, cond, List, [], ◌∷◌, ◌++◌, map, Option, Some, None, refl, ap, ◌∙◌, sym, subst, append_assoc, append-nil}
-use Rattle.std.specs.Prelude.{◌≢◌, ◌==◌, option_and_then}
+use Rattle.std.specs.Prelude.{◌≢◌, ◌==◌, OnOk, Result, Ok, Err, option_and_then}
 use Rattle.std.proofs.lemmas.Bool.{ne_eqb}
 use Rattle.std.specs.List.{AllByRecursion}
 use Rattle.std.proofs.lemmas.List.{map-append}
+use Rattle.std.proofs.lemmas.Simd.{map-map}
 use Rattle.iv_rows.specs.Options.{if_some}
 use Rattle.iv_once.specs.Names.{Named}
 use Rattle.iv_journal.specs.Journal.{Line}
@@ -43,6 +44,26 @@ record_pushed (u ∷ us) t = record_next u (us ++ t ∷ []) (some_behind us) ∙
     some_behind [] h = no_cons t [] h
     some_behind (x ∷ xs) h = no_cons x (xs ++ t ∷ []) h
 
+abbrev last_line : List ℕ → Line
+last_line t = record { is_last = true; text = t }
+
+-- requests, names and a position, one after another, are the record of a step
+pub step_pushed : {E : Type 0} (r : Result (Unit {0}) E) (qs : List Request) (ns : List Named) (p : ℕ) (t a b n : List Line)
+    → a ≡ t ++ map (λ q. part (request_text q)) qs → b ≡ a ++ map (λ e. part (name_text e)) ns → OnOk r (n ≡ b ++ last_line (position_text p) ∷ [])
+    → OnOk r (n ≡ t ++ record_of (texts_of (made qs ns (Some p))))
+step_pushed (Err e) qs ns p t a b n h k l = tt
+step_pushed (Ok u) qs ns p t a b n h k l =
+    let last = last_line (position_text p) ∷ [] in
+    let first = map (λ q. part (request_text q)) qs in
+    let second = map (λ e. part (name_text e)) ns in
+    let whole : record_of (texts_of (made qs ns (Some p))) ≡ first ++ (second ++ last) =
+    ap record_of (sym (append_assoc (map request_text qs) (map name_text ns) (position_text p ∷ [])))
+    ∙ (record_pushed (map request_text qs ++ map name_text ns) (position_text p)
+    ∙ (ap (λ z. z ++ last) (map-append part (map request_text qs) (map name_text ns) ∙ (λ i. map-map part request_text qs i ++ map-map part name_text ns i))
+    ∙ append_assoc first second last)) in
+    l ∙ (ap (λ z. z ++ last) (k ∙ ap (λ z. z ++ second) h)
+    ∙ (append_assoc (t ++ first) second last ∙ (append_assoc t first (second ++ last) ∙ ap (λ z. t ++ z) (sym whole))))
+
 -- ---- what was written is read
 
 -- one text more is read, and then the rest of the record, if it has any
@@ -71,7 +92,8 @@ names_left qs ns (n ∷ more) p rest w h some =
     (λ e. ended more p e)
     (λ s. names_left qs (ns ++ n ∷ []) more p rest w.1 h s ∙ ap (λ z. Some (made qs z p, rest)) (append_assoc ns (n ∷ []) more))
   where
-    ended : (later : List Named) (o : Option ℕ) → name_texts later o ≡ [] → Some (made qs (ns ++ n ∷ []) None, rest) ≡ Some (made qs (ns ++ n ∷ later) o, rest)
+    ended : (later : List Named) (o : Option ℕ) → name_texts later o ≡ []
+        → ◌≡◌ {A = Option (Entry × List Line)} (Some (made qs (ns ++ n ∷ []) None, rest)) (Some (made qs (ns ++ n ∷ later) o, rest))
     ended [] None e = refl
     ended [] (Some q) e = absurd (no_cons (position_text q) [] e)
     ended (m ∷ ms) o e = absurd (no_cons (name_text m) (name_texts ms o) e)
@@ -85,7 +107,8 @@ requests_left qs (q ∷ more) ns p rest w v h some =
     (text_of_request q w.0) refl (λ e. ended more ns p e)
     (λ s. requests_left (qs ++ q ∷ []) more ns p rest w.1 v h s ∙ ap (λ z. Some (made z ns p, rest)) (append_assoc qs (q ∷ []) more))
   where
-    ended : (later : List Request) (ms : List Named) (o : Option ℕ) → map request_text later ++ name_texts ms o ≡ [] → Some (made (qs ++ q ∷ []) [] None, rest) ≡ Some (made (qs ++ q ∷ later) ms o, rest)
+    ended : (later : List Request) (ms : List Named) (o : Option ℕ) → map request_text later ++ name_texts ms o ≡ []
+        → ◌≡◌ {A = Option (Entry × List Line)} (Some (made (qs ++ q ∷ []) [] None, rest)) (Some (made (qs ++ q ∷ later) ms o, rest))
     ended [] [] None e = refl
     ended [] [] (Some n) e = absurd (no_cons (position_text n) [] e)
     ended [] (m ∷ ms) o e = absurd (no_cons (name_text m) (name_texts ms o) e)
@@ -146,9 +169,9 @@ position_more qs ns None n g a w h = more_of (made qs ns None) (made qs ns (Some
 })
 
 one_more : (e g : Entry) (t : List ℕ) (x : Text) → IsFront e → Is t x → with_text e x ≡ Some g → IsMore e g t
-one_more e g t (of_request q) a w h = subst (IsMore e g) (sym w.text) (request_more e.requests e.names e.position q g a w.well h)
-one_more e g t (of_name n) a w h = subst (IsMore e g) (sym w.text) (name_more e.requests e.names e.position n g a w.well h)
-one_more e g t (of_position p) a w h = subst (IsMore e g) (sym w.text) (position_more e.requests e.names e.position p g a w.well h)
+one_more e g t (of_request q) a w h = subst (IsMore e g) (sym w.written) (request_more e.requests e.names e.position q g a w.well h)
+one_more e g t (of_name n) a w h = subst (IsMore e g) (sym w.written) (name_more e.requests e.names e.position n g a w.well h)
+one_more e g t (of_position p) a w h = subst (IsMore e g) (sym w.written) (position_more e.requests e.names e.position p g a w.well h)
 
 -- the rest of a record
 record IsRest (e : Entry) (ls : List Line) (f : Entry) (rest : List Line) : Type 0 where

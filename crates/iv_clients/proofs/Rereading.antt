@@ -98,7 +98,7 @@ plain_is (request (Some id) a) act h = absurd (some_is_none act (sym h))
 -- it is the text of the request
 pub record IsTextOf (text : List ℕ) (q : Request) : Type 0 where
   pub well : IsRequest q
-  pub text : text ≡ request_text q
+  pub written : text ≡ request_text q
 
 of_act : (text : List ℕ) (q : Request) (p : Name × List ℕ) → IsPart text p → (act : Act) → message_of p.1 ≡ request None act
     → Passes is_asked (record { role = p.0; line = p.1; act = act }) q → IsTextOf text q
@@ -113,7 +113,7 @@ of_act text q p x act m t =
         line = turned (has_newline q.line) tests.1;
         asks = ap (λ (z : Request). message_of z.line) (sym same) ∙ (m ∙ ap (λ (z : Request). request None z.act) same);
       };
-      text = x.is ∙ (ap (λ z. codes "\"as\":\"" ++ (p.0 ++ (codes "\"," ++ drop 1 z))) (sym x.brace) ∙ ap request_text same);
+      written = x.is ∙ (ap (λ z. codes "\"as\":\"" ++ (p.0 ++ (codes "\"," ++ drop 1 z))) (sym x.brace) ∙ ap request_text same);
     }
   where
     turned : (b : Bool) → not b ≡ true → b ≡ false
@@ -185,13 +185,13 @@ name_back e w =
     ap (option_and_then (passing (λ f. bytes_eq (name_text f) (name_text e)))) (ap (option_and_then named_in) (spelled_back e w) ∙ named_back e w)
     ∙ let_pass (λ f. bytes_eq (name_text f) (name_text e)) e (bytes_same (name_text e))
 
-record AreThere (name epoch answer digest : Option (List ℕ)) (count : Option ℕ) (holder : Option (List ℕ)) (e : Named) : Type 0 where
-  name : name ≡ Some e.ask.name
-  epoch : epoch ≡ Some e.ask.at.epoch
-  answer : answer ≡ Some e.answer
-  digest : digest ≡ Some e.ask.digest
-  count : count ≡ Some e.ask.at.count
-  holder : holder ≡ Some e.ask.holder
+record AreThere (names epochs answers digests : Option (List ℕ)) (counts : Option ℕ) (holders : Option (List ℕ)) (e : Named) : Type 0 where
+  name : names ≡ Some e.ask.name
+  epoch : epochs ≡ Some e.ask.at.epoch
+  answer : answers ≡ Some e.answer
+  digest : digests ≡ Some e.ask.digest
+  count : counts ≡ Some e.ask.at.count
+  holder : holders ≡ Some e.ask.holder
 
 are_there : (refused : Bool) (name epoch answer digest : Option (List ℕ)) (count : Option ℕ) (holder : Option (List ℕ)) (e : Named)
     → named_of refused name epoch answer digest count holder ≡ Some e → AreThere name epoch answer digest count holder e
@@ -210,7 +210,7 @@ are_there refused _ _ _ _ _ _ e h = absurd (some_is_none e (sym h))
 -- it is the text of the name
 pub record IsTextOfName (text : List ℕ) (e : Named) : Type 0 where
   pub well : IsNamed e
-  pub text : text ≡ name_text e
+  pub written : text ≡ name_text e
 
 pub name_sound : (text : List ℕ) (e : Named) → name_in text ≡ Some e → IsTextOfName text e
 name_sound text e h =
@@ -227,7 +227,7 @@ name_sound text e h =
         digest = (passed is_digest (decoded (decode_sized q.of.digits 32)) e.ask.digest t.digest).passes;
         line = turned (has_newline e.answer) (passes is_answer (but_last q.of.answer) e.answer t.answer).passes;
       };
-      text = sym ((bytes_eq-Decides (name_text e) text).0 p.passes);
+      written = sym ((bytes_eq-Decides (name_text e) text).0 p.passes);
     }
   where
     turned : (b : Bool) → not b ≡ true → b ≡ false
@@ -244,7 +244,7 @@ position_back p h =
 
 pub record IsTextOfPosition (text : List ℕ) (p : ℕ) : Type 0 where
   pub well : is_count p ≡ true
-  pub text : text ≡ position_text p
+  pub written : text ≡ position_text p
 
 pub position_sound : (text : List ℕ) (p : ℕ) → position_in text ≡ Some p → IsTextOfPosition text p
 position_sound text p h =
@@ -252,7 +252,7 @@ position_sound text p h =
     let d = found count_first (between (codes "\"step\":") 125 text) p t.there in
     record {
       well = (passed is_count (option_and_then as_u64 (option_and_then as_number (option_and_then id_in (value_of d.of.0)))) p d.is).passes;
-      text = sym ((bytes_eq-Decides (position_text p) text).0 t.passes);
+      written = sym ((bytes_eq-Decides (position_text p) text).0 t.passes);
     }
 
 -- ---- texts

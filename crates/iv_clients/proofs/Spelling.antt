@@ -1,16 +1,17 @@
 -- Numbers, strings and digests as the journal spells them are read back.
-use Rattle.std.proofs.Common.{◌≡◌, ℕ, zero, suc, ◌<◌, ◌/◌, ◌%◌, ◌^◌, Bool, true, false, cond, ◌==◌, ◌||◌, List, [], ◌∷◌, length, Some, None, option_map, refl, ap, ◌∙◌, ◌≤◌, sym, append-nil, arith}
-use Rattle.std.specs.Prelude.{decimal, nat_lt, option_and_then}
+use Rattle.std.proofs.Common.{◌≡◌, ℕ, zero, suc, ◌<◌, ◌/◌, ◌%◌, ◌^◌, Bool, true, false, cond, ◌==◌, ◌&&◌, ◌||◌, List, [], ◌∷◌, length, Some, None, option_map, refl, ap, ◌∙◌, ◌≤◌, sym, append-nil, arith}
+use Rattle.std.specs.Prelude.{MatchResult, Result, Ok, Err, decimal, nat_lt, option_and_then}
 use Rattle.std.specs.Fmt.{digits, digits_onto, digit_glyph}
 use Rattle.std.specs.List.{list_all, slice_index}
 use Rattle.std.specs.Str.{is_utf8}
-use Rattle.std.proofs.lemmas.Bool.{eqb-true, ltb-true}
+use Rattle.std.proofs.lemmas.Bool.{eq-eqb, eqb-true, lt-ltb, ltb-true}
 use Rattle.std.proofs.lemmas.Bool.Decides.{nat_tests}
 use Rattle.std.proofs.lemmas.Fmt.{IsAscii-decimal}
 use Rattle.std.proofs.lemmas.List.Sums.{list_all-from_AllPass}
 use Rattle.std.proofs.lemmas.Str.{IsUtf8-from_ascii, IsUtf8-from_is_utf8, is_utf8-from_IsUtf8}
-use Rattle.hex.specs.Hex.{IsBytes, encode_lower, is_hex_digit}
-use Rattle.hex.proofs.HexLemmas.{decode_of-encode_lower, decode_of-ok, decode_sized-encode_lower}
+use Rattle.hex.specs.Hex.{IsBytes, decode_sized, encode_lower, is_hex_digit}
+use Rattle.hex.specs.declared.error.FromHexError.{FromHexError}
+use Rattle.hex.proofs.HexLemmas.{decode_of-encode_lower, decode_of-ok, decode_sized-encode_lower, decode_sized-ok, decode_sized-twice}
 use Rattle.json.specs.Token as token
 use Rattle.json.specs.Json as json
 use Rattle.json.specs.Lex.{tokens}
@@ -133,3 +134,24 @@ pub digits_no_quote : (digest : List ℕ) → is_digest digest ≡ true → HasN
 digits_no_quote digest h =
     let ok = decode_of-ok (encode_lower digest) digest (decode_of-encode_lower digest (digest_by digest h).bytes) in
     none_passes is_hex_digit 34 refl (encode_lower digest) (list_all-from_AllPass is_hex_digit (encode_lower digest) ok.1)
+
+all_bytes : (xs : List ℕ) → IsBytes xs → list_all (λ b. nat_lt b 256) xs ≡ true
+all_bytes [] h = refl
+all_bytes (x ∷ xs) h = (λ i. lt-ltb x 256 (h 0) i && all_bytes xs (λ j. h (suc j)) i)
+
+digest_whole : (digits bytes : List ℕ) → decode_sized digits 32 ≡ Ok bytes → digest_of_32 digits ≡ Some bytes
+digest_whole digits bytes h =
+    let twice = decode_sized-ok digits 32 bytes h in
+    let ok = decode_of-ok digits bytes (sym (decode_sized-twice digits 32 twice) ∙ h) in
+    let size : length bytes ≡ 32 = omega (arith, twice, ok.2) in
+    ap (λ r. option_and_then (passing is_digest) (decoded r)) h ∙ let_pass is_digest bytes (λ i. eq-eqb (length bytes) 32 size i && all_bytes bytes ok.3 i)
+
+-- what is decoded into room for it
+pub digest_decoded : (digits out : List ℕ) (u : Unit {0}) (r : Result (List ℕ) FromHexError) → decode_sized digits 32 ≡ r
+    → MatchResult r (λ bytes. (◌≡◌ {A = Result (Unit {0}) FromHexError} (Ok u) (Ok tt)) × (out ≡ bytes)) (λ e. ◌≡◌ {A = Result (Unit {0}) FromHexError} (Ok u) (Err e))
+    → Some out ≡ digest_of_32 digits
+digest_decoded digits out u (Ok bytes) h m = sym (digest_whole digits out (h ∙ ap Ok (sym m.1)))
+digest_decoded digits out u (Err e) h m = absurd (not_err u e m)
+  where
+    not_err : (u : Unit {0}) (e : FromHexError) → ◌≡◌ {A = Result (Unit {0}) FromHexError} (Ok u) (Err e) → ⊥
+    not_err u e k = cc k

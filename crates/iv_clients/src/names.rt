@@ -1,8 +1,11 @@
 //! `Claim`: the name of a request, as a client says it; `claim_in` reads it; `spelled_in`: how a text spells a name and its place.
-ghost use Rattle.std.specs.Prelude.{◌≡◌, ◌&&◌, ℕ, List, IfOk, Some, option_map, string_bytes};
+ghost use Rattle.std.specs.Prelude.{◌≡◌, ◌&&◌, ◌||◌, ℕ, List, IfOk, Some, option_and_then, option_map, string_bytes};
+ghost use Rattle.std.specs.List.{list_all};
+ghost use Rattle.serde_json.specs.Find.{as_number, as_u64};
+ghost use Rattle.iv_message.specs.Seen.{id_data};
 ghost use Rattle.iv_clients.specs.Names as spec;
 ghost use Rattle.iv_request.specs.Request.{passing};
-ghost use Rattle.iv_clients.specs.Names.{between, claim_in, claimed, count_in, holder_of, is_between, is_epoch, is_letter, is_random, spelled_in};
+ghost use Rattle.iv_clients.specs.Names.{between, claim_in, claimed, count_in, holder_of, is_between, is_count, is_epoch, is_letter, is_random, spelled_in};
 
 use crate::journal::{behind, cut_at};
 use crate::said::with_brace;
@@ -59,19 +62,37 @@ pub fn holder_of(alloc: Global, role: &str, user: &str) -> Result<String, AllocE
     Ok(holder)
 }
 
+fn are_letters(name: &[u8]) -> bool
+    ensures { result ≡ list_all is_letter name.now }
+{
+    name.iter().all(|byte| is_letter(*byte))
+}
+
 /// Whether a text may be a name.
 fn is_random(name: &[u8]) -> bool
     ensures { result ≡ is_random name.now }
 {
-    name.len() == 22 && name.iter().all(|byte| is_letter(*byte))
+    name.len() == 22 && are_letters(name)
+}
+
+/// Whether a byte is a hexadecimal digit.
+fn is_digit(byte: u8) -> bool
+    ensures { result ≡ (is_between 48 57 byte || is_between 97 102 byte) }
+{
+    is_between(b'0', b'9', byte) || is_between(b'a', b'f', byte)
+}
+
+fn are_digits(text: &[u8]) -> bool
+    ensures { result ≡ list_all (λ b. is_between 48 57 b || is_between 97 102 b) text.now }
+{
+    text.iter().all(|byte| is_digit(*byte))
 }
 
 /// Whether a text may be an epoch.
 fn is_epoch(text: &[u8]) -> bool
     ensures { result ≡ is_epoch text.now }
 {
-    text.len() == 32
-        && text.iter().all(|byte| is_between(b'0', b'9', *byte) || is_between(b'a', b'f', *byte))
+    text.len() == 32 && are_digits(text)
 }
 
 /// What stands between a prefix and the first such byte, and behind it.
@@ -80,6 +101,17 @@ pub(crate) fn between<'a>(text: &'a [u8], prefix: &[u8], byte: u8) -> Option<(&'
 {
     let rest = behind(text, prefix)?;
     cut_at(rest, byte)
+}
+
+/// The number that an id is, if it is none below 0 and no text.
+fn count_of(id: &Id) -> Option<u64>
+    ensures { result ≡ option_and_then (passing is_count) (option_and_then as_u64 (as_number (id_data id.now))) }
+{
+    match id {
+        Id::Natural(count) => Some(*count),
+        Id::Whole(count) => u64::try_from(*count).ok(),
+        Id::Text(_) => None,
+    }
 }
 
 /// The number of 64 bits of a place or a position.
@@ -91,8 +123,8 @@ pub(crate) fn count_in(
     ensures { IfOk result (λ o. o ≡ count_in text.now) }
 {
     match read_id(alloc, text, scratch)? {
-        Some(Id::Natural(count)) => Ok(Some(count)),
-        _ => Ok(None),
+        None => Ok(None),
+        Some(id) => Ok(count_of(&id)),
     }
 }
 

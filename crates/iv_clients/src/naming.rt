@@ -1,5 +1,5 @@
 //! The texts of a journal that are names: `push_name` writes one, `name_in` reads it.
-ghost use Rattle.std.specs.Prelude.{◌≡◌, ◌++◌, ◌&&◌, ◌∷◌, [], Bool, false, is_some, length, nat_le, IfOk, OnOk, List, ℕ, bytes_eq, codes, option_and_then, option_map, string_bytes};
+ghost use Rattle.std.specs.Prelude.{◌≡◌, ◌==◌, ◌++◌, ◌&&◌, not, ◌∷◌, [], Bool, false, is_some, length, nat_le, IfOk, OnOk, List, ℕ, bytes_eq, codes, option_and_then, option_map, string_bytes};
 ghost use Rattle.std.specs.Str.{is_utf8};
 ghost use Rattle.hex.specs.Hex.{encode_lower};
 ghost use Rattle.serde_json.specs.Data.{string};
@@ -48,10 +48,10 @@ fn push_spelled(text: &mut Vec<u8>, ask: &Ask) -> Result<(), AllocError>
 }
 
 /// Appends whose a name is.
-fn push_holder(alloc: Global, text: &mut Vec<u8>, holder: &str) -> Result<(), AllocError>
-    ensures { OnOk result (text.new.items ≡ text.old.items ++ (codes "\",\"by\":" ++ compact_text (string holder.now))) }
+fn push_holder(alloc: Global, text: &mut Vec<u8>, ask: &Ask) -> Result<(), AllocError>
+    ensures { OnOk result (text.new.items ≡ text.old.items ++ (codes "\",\"by\":" ++ compact_text (string ask.now.holder))) }
 {
-    let holder = quoted(alloc, holder)?;
+    let holder = quoted(alloc, &ask.holder)?;
     text.extend_from_slice(b"\",\"by\":")?;
     text.extend_from_slice(holder.as_bytes())?;
     Ok(())
@@ -67,11 +67,11 @@ fn digits_of(digest: &[u8; 32]) -> [u8; 64]
 }
 
 /// Appends a digest.
-fn push_digest(text: &mut Vec<u8>, digest: &[u8; 32]) -> Result<(), AllocError>
-    ensures { OnOk result (text.new.items ≡ text.old.items ++ (codes ",\"digest\":\"" ++ encode_lower digest.now)) }
+fn push_digest(text: &mut Vec<u8>, ask: &Ask) -> Result<(), AllocError>
+    ensures { OnOk result (text.new.items ≡ text.old.items ++ (codes ",\"digest\":\"" ++ encode_lower ask.now.digest)) }
 {
     text.extend_from_slice(b",\"digest\":\"")?;
-    text.extend_from_slice(&digits_of(digest))?;
+    text.extend_from_slice(&digits_of(&ask.digest))?;
     Ok(())
 }
 
@@ -94,8 +94,8 @@ pub fn push_name(alloc: Global, text: &mut Vec<u8>, name: &Named) -> Result<(), 
     ensures { OnOk result (text.new.items ≡ text.old.items ++ name_text name.now) }
 {
     push_spelled(text, &name.ask)?;
-    push_holder(alloc, text, &name.ask.holder)?;
-    push_digest(text, &name.ask.digest)?;
+    push_holder(alloc, text, &name.ask)?;
+    push_digest(text, &name.ask)?;
     text.extend_from_slice(answer_key(name.refused))?;
     text.extend_from_slice(&name.answer)?;
     text.extend_from_slice(b"}")?;
@@ -104,16 +104,23 @@ pub fn push_name(alloc: Global, text: &mut Vec<u8>, name: &Named) -> Result<(), 
 
 // ---- read
 
+/// Whether a byte is this one, and no backslash escapes it.
+fn is_plain(escaped: bool, byte: u8, wanted: u8) -> bool
+    ensures { result ≡ (not escaped && (byte == wanted)) }
+{
+    !escaped && byte == wanted
+}
+
 /// What stands before the first quotation mark that no backslash escapes, and behind it.
 fn cut_quote(bytes: &[u8]) -> Option<(&[u8], &[u8])>
     ensures { option_map (λ p. (p.0.now, p.1.now)) result ≡ cut_quote false bytes.now }
 {
     let mut escaped = false;
     for at in 0..bytes.len() {
-        if !escaped && bytes[at] == b'"' {
+        if is_plain(escaped, bytes[at], b'"') {
             return Some((&bytes[..at], &bytes[at + 1..]));
         }
-        escaped = !escaped && bytes[at] == b'\\';
+        escaped = is_plain(escaped, bytes[at], b'\\');
     }
     None
 }

@@ -1,5 +1,5 @@
 //! `Entry`: what the journal has at once; `push_step`, `push_accepted` and `push_named` write the lines of one, `read_record` reads them.
-ghost use Rattle.std.specs.Prelude.{◌≡◌, ◌++◌, ◌∷◌, [], if◌then◌else◌, IfOk, OnOk, List, None, Some, codes, decimal, drop, map, option_map, string_bytes, true};
+ghost use Rattle.std.specs.Prelude.{◌≡◌, ◌≤◌, ◌<◌, ◌++◌, ◌∷◌, [], if◌then◌else◌, IfOk, IfSome, OnOk, List, None, Some, codes, decimal, drop, length, map, option_map, string_bytes, true};
 ghost use Rattle.iv_command.specs.Views.{act_of};
 ghost use Rattle.iv_message.specs.Seen.{said_of};
 ghost use Rattle.iv_journal.specs.Journal.{Line as LineSpec};
@@ -326,7 +326,9 @@ impl Entry {
         lines: &[Line<'_>],
         scratch: &mut Scratch,
     ) -> Result<Option<usize>, AllocError>
-        ensures { IfOk result (λ o. option_map {U = spec.Entry × List LineSpec} (λ count. (self.new, drop count lines.now)) o ≡ record_from self.old lines.now) }
+        ensures read { IfOk result (λ o. option_map {U = spec.Entry × List LineSpec} (λ count. (self.new, drop count lines.now)) o ≡ record_from self.old lines.now) }
+        ensures within { IfOk result (λ o. IfSome o (λ n. n ≤ length lines.now)) }
+        ensures some { IfOk result (λ o. IfSome o (λ n. 0 < n)) }
     {
         for at in 0..lines.len() {
             let line = &lines[at];
@@ -350,7 +352,9 @@ pub fn read_record(
     lines: &[Line<'_>],
     scratch: &mut Scratch,
 ) -> Result<Option<(Entry, usize)>, AllocError>
-    ensures { IfOk result (λ o. option_map {U = spec.Entry × List LineSpec} (λ p. (p.0, drop p.1 lines.now)) o ≡ record_in lines.now) }
+    ensures read { IfOk result (λ o. option_map {U = spec.Entry × List LineSpec} (λ p. (p.0, drop p.1 lines.now)) o ≡ record_in lines.now) }
+    ensures within { IfOk result (λ o. IfSome o (λ p. p.1 ≤ length lines.now)) }
+    ensures some { IfOk result (λ o. IfSome o (λ p. 0 < p.1)) }
 {
     let mut entry = Entry {
         requests: Vec::new(alloc),

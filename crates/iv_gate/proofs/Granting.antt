@@ -40,7 +40,7 @@ use Rattle.iv_gate.proofs.Summing.{same_self}
 
 -- ---- messages ask what the machine may be given
 
-text_well : ReadsWell → (text : List ℕ) → is_well_message (message_of text) ≡ true
+pub text_well : ReadsWell → (text : List ℕ) → is_well_message (message_of text) ≡ true
 text_well h text = by (nat_lt most_bytes (length text))
   where
     by : (b : Bool) → is_well_message (cond b too_long (message_of_value (value_of (on_one_line text)))) ≡ true

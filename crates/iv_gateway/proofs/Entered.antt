@@ -1,5 +1,5 @@
 -- What the code keeps of entries that are added: names, positions, lines and the shape.
-use Rattle.std.proofs.Common.{◌≡◌, ◌∙◌, ◌≤◌, ℕ, ◌+◌, Bool, true, false, cond, not, ◌||◌, List, [], ◌∷◌, ◌++◌, length, drop, Option, Some, None, is_some, refl, ap, sym, subst, append-nil, append_assoc, arith, length-append}
+use Rattle.std.proofs.Common.{◌≡◌, ◌∙◌, ◌≤◌, ℕ, ◌+◌, Bool, true, false, cond, not, ◌||◌, List, [], ◌∷◌, ◌++◌, length, drop, Option, Some, None, is_some, refl, ap, sym, subst, append-nil, arith, length-append}
 use Rattle.std.specs.Prelude.{◌&&◌, bytes_eq, option_map, unwrap_or}
 use Rattle.std.proofs.lemmas.Bool.{false≢true}
 use Rattle.std.proofs.lemmas.List.{drop-append-le, take-append-le}
@@ -10,10 +10,10 @@ use Rattle.iv_once.specs.Names as once
 use Rattle.iv_machine.specs.Act.{Act, Reply}
 use Rattle.iv_once.specs.Names.{Ask, Known, Named, Names, blamed, learned, own_of, pushed, spent_by, spent_more}
 use Rattle.iv_once.specs.Views.{names_of as names_in_code}
-use Rattle.iv_clients.specs.Journal.{Entry, Request, is_shared, journal_of, name_text, names_in, position_of, record_of, request_text, texts_of}
+use Rattle.iv_clients.specs.Journal.{Entry, Request, is_shared, journal_of, names_in, position_of, record_of, texts_of}
 use Rattle.iv_clients.specs.Names.{limits, place_text}
 use Rattle.iv_gate.specs.Arriving.{position, settled_at}
-use Rattle.iv_gate.specs.Gate.{Gate, answer_text, answering, entered, entries_of, is_accepted, known_at, known_by, known_of, names_of, place_of, shape_text, spent_in}
+use Rattle.iv_gate.specs.Gate.{Gate, answer_text, answering, entered, entries_of, is_accepted, known_at, known_by, names_of, place_of, shape_text, spent_in}
 use Rattle.iv_rows.specs.Options.{if_some}
 use Rattle.iv_gateway.specs.Shaping.{shape_in}
 use Rattle.iv_gateway.specs.Speaking.{Asking, lines_entered, request_of}
@@ -138,13 +138,13 @@ pends_more kept es fs old new p h = record {
 -- ---- what a request adds
 
 -- what of the code's values hangs on the entries
-pub record AreKept (g : Gate) (names : Names) (at settled : ℕ) (lines : List Line) (shape : List ℕ) : Type 0 where
-  pub names : names ≡ names_of g
+pub record AreKept (g : Gate) (known : Names) (at done : ℕ) (lines : List Line) (text : List ℕ) : Type 0 where
+  pub names : known ≡ names_of g
   pub position : at ≡ position g
-  pub settled : settled ≡ settled_at g
+  pub settled : done ≡ settled_at g
   pub forgiven : g.forgiven ≤ length g.entries
   pub pending : IsPending g.kept g.entries lines
-  pub shape : shape ≡ shape_text g.entries
+  pub shape : text ≡ shape_text g.entries
 
 one_kept : (g : Gate) (qs : List Request) (ns : List Named) (x : Gateway) (names : Names) (lines : List Line) (shape : List ℕ) → IsAlive g x
     → names ≡ names_of (entered g (entry_with qs ns ∷ [])) → lines ≡ x.pending.items ++ journal_of (entry_with qs ns ∷ [])
@@ -200,17 +200,17 @@ kept_by false g a act (Some ask) r x names lines shape b n l s =
     one_kept g [] (e ∷ []) x names lines shape b (n ∙ (ap (λ z. pushed z (once.named e)) b.names ∙ sym (names_pushed g [] e b.forgiven))) l s
 
 -- behind its entry
-pub entry_kept : (g : Gate) (a : Asking) (act : Act) (by : Option Ask) (r : Reply) (accepted : Bool) (name : Option Named) (x : Gateway) (names : Names) (lines : List Line) (old made shape : List ℕ)
+pub entry_kept : (g : Gate) (a : Asking) (act : Act) (by : Option Ask) (r : Reply) (accepted : Bool) (name : Option Named) (x : Gateway) (names : Names) (lines : List Line) (old text shape : List ℕ)
     → IsAlive g x → is_shared act ≡ true → accepted ≡ is_accepted r → name ≡ named_by by r
     → names ≡ names_with (names_in_code x.names) name → lines ≡ x.pending.items ++ lines_entered a accepted name
-    → old ≡ shape_text g.entries → made ≡ shape_text (entries_of (request_of a act) by r) → shape ≡ old ++ made
+    → old ≡ shape_text g.entries → text ≡ shape_text (entries_of (request_of a act) by r) → shape ≡ old ++ text
     → AreKept (entered g (entries_of (request_of a act) by r)) names x.position x.settled lines shape
-entry_kept g a act by r accepted name x names lines old made shape b h t e n l o m s =
+entry_kept g a act by r accepted name x names lines old text shape b h t e n l o m s =
     let are = entries_are accepted (request_of a act) by r h t in
     subst (λ es. AreKept (entered g es) names x.position x.settled lines shape) are
     (kept_by accepted g a act by r x names lines shape b (n ∙ ap (names_with (names_in_code x.names)) e)
     (l ∙ ap (λ z. x.pending.items ++ lines_entered a accepted z) e)
-    (shape_added g.entries (entries_of (request_of a act) by r) old made shape o m s ∙ ap (λ es. shape_text (g.entries ++ es)) (sym are)))
+    (shape_added g.entries (entries_of (request_of a act) by r) old shape text o m s ∙ ap (λ es. shape_text (g.entries ++ es)) (sym are)))
 
 -- what the entry makes of the shape
 made_by : (accepted : Bool) (q : Request) (by : Option Ask) (r : Reply) → shape_text (entries_by accepted q by r) ≡ cond accepted (shape_in q) []

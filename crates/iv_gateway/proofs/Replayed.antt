@@ -1,9 +1,9 @@
 -- The journal, as the code carries it out again.
-use Rattle.std.proofs.Common.{◌≡◌, ◌∙◌, ℕ, ◌+◌, ◌-◌, ◌<◌, ◌≤◌, Bool, true, false, cond, not, List, [], ◌∷◌, ◌++◌, length, map, drop, Option, Some, None, is_none, is_some, refl, ap, sym, subst, arith, append-nil, append_assoc, length-append}
-use Rattle.std.specs.Prelude.{◌&&◌, filter, flat_map, nat_lt, option_and_then, option_map, unwrap_or}
-use Rattle.std.specs.List.{AllByRecursion}
-use Rattle.std.proofs.Math.Seq.{drop-length, length-drop, take-length}
+use Rattle.std.proofs.Common.{◌≡◌, ◌∙◌, ℕ, ◌+◌, ◌-◌, ◌<◌, ◌≤◌, Bool, true, false, cond, not, List, [], ◌∷◌, ◌++◌, length, map, drop, Option, Some, None, is_none, is_some, refl, ap, sym, subst, arith, append-nil, append_assoc, length-append, length-drop}
+use Rattle.std.specs.Prelude.{◌&&◌, filter, flat_map, nat_lt, option_and_then, unwrap_or}
+use Rattle.std.proofs.Math.Seq.{drop-length, take-length}
 use Rattle.std.proofs.lemmas.Bool.{false≢true}
+use Rattle.std.proofs.lemmas.Bool.Decides.{nat_tests}
 use Rattle.std.proofs.lemmas.List.{drop-drop, drop_all, map-append}
 use Rattle.std.proofs.lemmas.List.Concat.{flat_map-append}
 use Rattle.iv_rows.specs.Options.{if_some}
@@ -20,20 +20,20 @@ use Rattle.iv_once.specs.Names as once
 use Rattle.iv_once.specs.Names.{Known, Named, Names, learned}
 use Rattle.iv_once.specs.Runs.{unspent}
 use Rattle.iv_once.specs.Views.{names_of as names_in_code}
-use Rattle.iv_steps.specs.Steps.{Fact, all_carried, carried, passed}
-use Rattle.iv_clients.specs.Journal.{Entry, IsEntry, IsRequest, Request, is_shape, is_shared, journal_of, names_in, position_of, record_of, requests_in, texts_of}
-use Rattle.iv_clients.specs.Laws.{Begins, ReadsBack}
+use Rattle.iv_steps.specs.Steps.{all_carried, carried, passed}
+use Rattle.iv_clients.specs.Journal.{Entry, IsEntry, IsRequest, Request, is_shape, is_shared, journal_of, names_in, position_of, requests_in}
+use Rattle.iv_clients.specs.Laws.{ReadsBack}
 use Rattle.iv_clients.specs.Names.{limits}
 use Rattle.iv_clients.specs.Parsed.{record_in}
 use Rattle.iv_clients.proofs.Slots.{one_some, some_is_none}
 use Rattle.iv_gate.specs.Arriving.{fact_of, first_known, is_new, not_new, position}
 use Rattle.iv_gate.specs.Gate.{Gate, in_session, is_accepted, known_at, known_by, known_of, names_of, reply_in, shape_text, spent_in}
 use Rattle.iv_gate.specs.Restoring.{IsDamagedAt, LeadOn, Restores, are_rising}
-use Rattle.iv_gate.proofs.Damage.{behind_all, both_so, carried_append, facts_append, facts_of, journal_one, journal_pushed, lines_of, names_append, push_all, read_one}
+use Rattle.iv_gate.proofs.Damage.{behind_all, carried_append, facts_append, facts_of, journal_one, journal_pushed, led, lines_of, names_append, push_all, read_one}
 use Rattle.iv_gate.proofs.Granting.{text_well}
-use Rattle.iv_gateway.specs.Replays.{AreNamesReplayed, HasReplayed, IsNew, IsPassed, IsRecordOf, IsRecordReplayed, IsReplayed, IsReplaying, behind, is_later, part, with_name, with_request}
+use Rattle.iv_gateway.specs.Replays.{AreNamesReplayed, IsNew, IsPassed, IsRecordReplayed, IsReplayed, IsReplaying, behind, is_later, part, with_name, with_request}
 use Rattle.iv_gateway.specs.Shaping.{shape_in}
-use Rattle.iv_gateway.specs.Views.{IsAlive, IsGate}
+use Rattle.iv_gateway.specs.Views.{IsAlive}
 use Rattle.iv_gateway.specs.declared.gateway.Gateway.{Gateway}
 use Rattle.iv_gateway.proofs.Entered.{AreKept, one_pushed, position_push}
 use Rattle.iv_gateway.proofs.Refused.{accepted_iff}
@@ -167,12 +167,46 @@ pub name_new : (g : Gate) (s : State) (es : List Entry) (x : Gateway) (ask : onc
     → is ≡ once.is_new (names_in_code x.names).limits (names_in_code x.names).known ask → is ≡ is_new (known_of (behind g s es)) ask
 name_new g s es x ask is b h = h ∙ ap (λ (n : Names). once.is_new n.limits n.known ask) b.names
 
+-- ---- whether it may be so
+
+pub not_later : (q p at : ℕ) → p ≤ at → at ≡ q → false ≡ nat_lt q p
+not_later q p at h e = grind (arith, nat_tests)
+
+pub later : (q p at : ℕ) → at < p → at ≡ q → true ≡ nat_lt q p
+later q p at h e = grind (arith, nat_tests)
+
+passed_as : (g : Gate) (s : State) (o : Option State) (is : Bool) (x : Gateway) → IsPassed (record g { machine = s }) o is x → IsPassed g o is x
+passed_as g s None is x p = p
+passed_as g s (Some t) is x p = p
+
+never_carried : (g : Gate) (o : Option State) (x : Gateway) → o ≡ None → IsPassed g o false x
+never_carried g o x e = subst (λ z. IsPassed g z false x) (sym e) refl
+
+-- no session is begun
+pub runs_unbegun : (g : Gate) (q : Request) (is : Bool) (x y : Gateway) → is_shared q.act ≡ true → IsPassed g (passed (begin q.role) g.machine) is x → is ≡ false
+    → IsPassed g (carried (fact_of q) g.machine) false y
+runs_unbegun g q is x y h p e = never_carried g (carried (fact_of q) g.machine) y (unbegun q g.machine h (none_passed g (passed (begin q.role) g.machine) is x p e))
+
+-- the act is refused
+pub runs_unaccepted : (g : Gate) (q : Request) (is : Bool) (x y z : Gateway) → is_shared q.act ≡ true → (b : PassesTo g (passed (begin q.role) g.machine) x)
+    → IsPassed (record g { machine = b.state }) (passed q.act b.state) is y → is ≡ false → IsPassed g (carried (fact_of q) g.machine) false z
+runs_unaccepted g q is x y z h b p e =
+    never_carried g (carried (fact_of q) g.machine) z
+    (unaccepted q g.machine b.state h b.is (none_passed (record g { machine = b.state }) (passed q.act b.state) is y p e))
+
+-- and then the session is finished
+pub runs_out : (g : Gate) (q : Request) (is : Bool) (x y z : Gateway) → is_shared q.act ≡ true → (b : PassesTo g (passed (begin q.role) g.machine) x)
+    → (d : PassesTo (record g { machine = b.state }) (passed q.act b.state) y) → IsPassed (record g { machine = d.state }) (passed finish d.state) is z
+    → IsPassed g (carried (fact_of q) g.machine) is z
+runs_out g q is x y z h b d p =
+    subst (λ o. IsPassed g o is z) (sym (finishes q g.machine b.state d.state h b.is d.is)) (passed_as g d.state (passed finish d.state) is z p)
+
 -- ---- all requests, in their order
 
 -- so many are done, and the rest are left
-pub record GoesOn (g : Gate) (s : State) (es : List Entry) (p : Option ℕ) (all rest : List Request) (x : Gateway) : Type 0 where
+pub record GoesOn (g : Gate) (s : State) (es : List Entry) (p : Option ℕ) (every rest : List Request) (x : Gateway) : Type 0 where
   pub done : List Request
-  pub all : all ≡ done ++ rest
+  pub all : every ≡ done ++ rest
   pub state : State
   pub carries : all_carried (map fact_of done) s ≡ Some state
   pub gate : IsAlive (behind g state (es ++ part done [] p ∷ [])) x
@@ -234,17 +268,18 @@ goes_to_end g s es p all rest x e w =
 
 -- ---- all names, in their order
 
-are_new : List Named → Known → Bool
+abbrev pub are_new : List Named → Known → Bool
 are_new [] k = true
 are_new (e ∷ es) k = is_new k e.ask && are_new es (learned limits (once.named e) k)
 
 new_by : (n : ℕ) (es : List Named) (k : Known) → not (is_some (first_known n es k)) ≡ are_new es k
 new_by n [] k = refl
-new_by n (e ∷ es) k = by (is_new k e.ask)
+new_by n (e ∷ es) k = by (is_new k e.ask) (new_by (n + 1) es (learned limits (once.named e) k))
   where
-    by : (b : Bool) → not (is_some (cond b (first_known (n + 1) es (learned limits (once.named e) k)) (Some (not_new n)))) ≡ (b && are_new es (learned limits (once.named e) k))
-    by true = new_by (n + 1) es (learned limits (once.named e) k)
-    by false = refl
+    by : (b : Bool) → not (is_some (first_known (n + 1) es (learned limits (once.named e) k))) ≡ are_new es (learned limits (once.named e) k)
+        → not (is_some (cond b (first_known (n + 1) es (learned limits (once.named e) k)) (Some (not_new n)))) ≡ (b && are_new es (learned limits (once.named e) k))
+    by true h = h
+    by false h = refl
 
 and_both : (a b c : Bool) → (a && (b && c)) ≡ ((a && b) && c)
 and_both true b c = refl
@@ -262,9 +297,9 @@ known_append k (x ∷ xs) ys = known_append (learned limits (once.named x) k) xs
 known_part : (g : Gate) (s t : State) (es : List Entry) (e : Entry) → known_of (behind g s (es ++ e ∷ [])) ≡ known_by (known_of (behind g t es)) e.names
 known_part g s t es e = ap (known_by (known_at g.head)) (names_last es e) ∙ known_append (known_at g.head) (names_in es) e.names
 
-pub record AreLearning (g : Gate) (s : State) (es : List Entry) (qs : List Request) (p : Option ℕ) (all rest : List Named) (x : Gateway) : Type 0 where
+pub record AreLearning (g : Gate) (s : State) (es : List Entry) (qs : List Request) (p : Option ℕ) (every rest : List Named) (x : Gateway) : Type 0 where
   pub done : List Named
-  pub all : all ≡ done ++ rest
+  pub all : every ≡ done ++ rest
   pub new : are_new done (known_of (behind g s es)) ≡ true
   pub gate : IsAlive (behind g s (es ++ part qs done p ∷ [])) x
 
@@ -328,6 +363,10 @@ rises : (g : Gate) (es : List Entry) (e : Entry) → g.entries ≡ [] → are_ri
     → are_rising (position g) (es ++ e ∷ []) ≡ is_later (position_of g.head.position es) e.position
 rises g es e n h = later_last (position g) es e ∙ (λ i. h i && is_later (position_of (start_position g n i) es) e.position)
 
+-- the state to which they lead is that of what leads on
+leads_there : (g : Gate) (es : List Entry) (x : Gateway) → (w : IsReplaying g es x) → all_carried (facts_of es) g.machine ≡ Some w.state
+leads_there g es x w = w.leads.accepted ∙ ap Some (sym (ap (λ (h : Gate). h.machine) w.leads.gate))
+
 carries : (g : Gate) (s : State) (es : List Entry) (e : Entry) → all_carried (facts_of es) g.machine ≡ Some s
     → all_carried (facts_of (es ++ e ∷ [])) g.machine ≡ all_carried (map fact_of e.requests) s
 carries g s es e h =
@@ -358,7 +397,7 @@ pub stops_at_request : (g : Gate) (es : List Entry) (e : Entry) (x y z : Gateway
     → IsPassed (behind g w.state (es ++ part e.requests [] e.position ∷ [])) (all_carried (map fact_of e.requests) w.state) is y → is ≡ false
     → IsReplayed g es e false z
 stops_at_request g es e x y z is w r h = λ k l.
-    some_is_none l.state (sym l.accepted ∙ (carries g w.state es e w.leads.accepted ∙ none_passed (behind g w.state (es ++ part e.requests [] e.position ∷ [])) (all_carried (map fact_of e.requests) w.state) is y r h))
+    some_is_none l.state (sym l.accepted ∙ (carries g w.state es e (leads_there g es x w) ∙ none_passed (behind g w.state (es ++ part e.requests [] e.position ∷ [])) (all_carried (map fact_of e.requests) w.state) is y r h))
 
 -- its names decide
 pub ends_with_names : (g : Gate) (es : List Entry) (e : Entry) (x y z : Gateway) (is all : Bool) → IsEntry e → (w : IsReplaying g es x)
@@ -373,7 +412,7 @@ ends_with_names g es e x y z is true well w h p n = record {
   leads = record {
     state = p.state;
     well = push_all IsEntry es e w.leads.well well;
-    accepted = carries g w.state es e w.leads.accepted ∙ p.is;
+    accepted = carries g w.state es e (leads_there g es x w) ∙ p.is;
     names = none_if (first_known 1 (names_in (es ++ e ∷ [])) (known_of g)) (news g p.state es e w.began w.leads.names ∙ sym n.0);
     steps = rises g es e w.began w.leads.steps ∙ h;
     gate = refl;
@@ -407,7 +446,7 @@ reads_good reads g es lines entry count x r n w =
       entry = entry;
       lines = b.lines ∙ sym (journal_one entry (drop count lines));
       count = of_length (length lines) (length (lines_of entry)) (length (drop count lines))
-          (ap length b.lines ∙ length-append (lines_of entry) (drop count lines)) (length-drop count lines)
+          (ap length b.lines ∙ length-append (lines_of entry) (drop count lines)) (length-drop count lines) n
           ∙ ap length (sym (append-nil (lines_of entry)));
       gate = w;
     }
@@ -454,12 +493,8 @@ reads_on g journal at count x y w r =
     both : (a b c d e : ℕ) → a ≡ c → b ≡ d → e ≡ c + d → a + b ≡ e
     both a b c d e h k l = omega (arith, h, k, l)
 
--- where the entries have led it, with all refusals forgiven
-abbrev pub led : Gate → State → List Entry → Gate
-led g s es = record g { machine = s; entries = es; kept = length es; forgiven = length es }
-
 pub reads_all : (g : Gate) (journal : List Line) (at : ℕ) (x : Gateway) → (w : HasRead g journal at x) → length journal ≤ at
-    → Restores g journal (led g w.gate.state w.entries)
+    → Restores g journal (led g w.entries w.gate.state)
 reads_all g journal at x w h = record {
   all = w.lines ∙ (ap (λ z. journal_of w.entries ++ z) (drop_all at journal h) ∙ append-nil (journal_of w.entries));
   leads = w.gate.leads;
@@ -479,7 +514,7 @@ pub stops_here : (g : Gate) (journal : List Line) (at : ℕ) (x y : Gateway) →
     → IsRecordReplayed g w.entries (drop at journal) None y → IsDamagedAt g journal at
 stops_here g journal at x y w h r = record {
   entries = w.entries;
-  gate = led g w.gate.state w.entries;
+  gate = led g w.entries w.gate.state;
   rest = drop at journal;
   all = w.lines;
   leads = w.gate.leads;

@@ -1,5 +1,5 @@
 -- A message, as the code has it done.
-use Rattle.std.proofs.Common.{◌≡◌, ◌∙◌, ℕ, zero, suc, Bool, true, false, cond, ◌||◌, not, List, ◌∷◌, Option, Some, None, is_some, option_map, refl, ap}
+use Rattle.std.proofs.Common.{◌≡◌, ◌∙◌, ℕ, zero, suc, Bool, true, false, cond, ◌||◌, not, List, [], ◌∷◌, Option, Some, None, is_some, option_map, refl, ap}
 use Rattle.std.proofs.Common.{sym, subst}
 use Rattle.std.specs.Prelude.{codes}
 use Rattle.serde_json.specs.Data.{Data}
@@ -9,19 +9,23 @@ use Rattle.iv_command.specs.Views.{act_of}
 use Rattle.iv_command.specs.declared.command.Act as code
 use Rattle.iv_command.specs.declared.command.Act.TheVariants as asks
 use Rattle.iv_machine.specs.Act.{Act, begin, finish, create_role, create_table, create_view, grant, revoke, grant_role, revoke_role, row_security}
-use Rattle.iv_machine.specs.Act.{create_policy, drop_policy, subscribe, unsubscribe, write, Line}
+use Rattle.iv_machine.specs.Act.{create_policy, drop_policy, subscribe, unsubscribe, write, Line, Reply, refused, limit, no_session}
 use Rattle.iv_machine.specs.Machine.{step}
+use Rattle.iv_machine.specs.State.{State}
 use Rattle.iv_message.specs.Message.{request, unknown}
 use Rattle.iv_message.specs.Told.{fault, unasked}
-use Rattle.iv_once.specs.Names.{Ask}
+use Rattle.iv_once.specs.Names.{Ask, Verdict, verdict}
+use Rattle.iv_once.specs.Views.{names_of as names_in_code, verdict_of}
+use Rattle.iv_once.specs.declared.asks.Verdict as code_once
+use Rattle.iv_clients.specs.Feeds.{seat_of}
 use Rattle.iv_clients.specs.Clients.{Client, Slots, answered, at_client, client_at, may_say, saying}
-use Rattle.iv_clients.specs.Journal.{Request, claim_said, is_shared, line_said, said_by}
+use Rattle.iv_clients.specs.Journal.{Entry, Request, claim_said, is_shared, line_said, said_by}
 use Rattle.iv_clients.specs.Kept.{Kept, Places, answering, kept, kept_slots}
 use Rattle.iv_clients.specs.Names.{Claim}
 use Rattle.iv_clients.proofs.Slots.{at_same, one_some}
 use Rattle.iv_gate.specs.Events.{message}
 use Rattle.iv_gate.specs.Gate.{Gate, acts, done_for, hears, in_session, is_heard, replies_to, reply_in, reply_to, said, shares}
-use Rattle.iv_gate.specs.Gate.{settles, tells}
+use Rattle.iv_gate.specs.Gate.{asked_by, by_verdict, carries, decided_elsewhere, decides, done_in, entered, entries_of, has_shape_room, names_of, reply_told, settles, tells}
 use Rattle.iv_gate.specs.Laws.{LeavesMarks}
 use Rattle.iv_gate.proofs.Growing.{Grown, grows}
 use Rattle.iv_gate.proofs.Walking.{to_done, to_settles, to_then}
@@ -197,12 +201,71 @@ acts_none g m c id text (asks.Write entries) h n k = cc
 
 -- ---- what is replied
 
+-- what a reply tells does not hang on the machine
+told_the_same : (g : Gate) (t : State) (es : List Entry) (id : Option Data) (name : Option Ask) (r : Reply)
+    → reply_told (entered (record g { machine = t }) es) id name r ≡ reply_told (entered g es) id name r
+told_the_same g t es id None r = refl
+told_the_same g t es id (Some a) r = refl
+
 -- the machine has answered; what the journal is to have waits for it, and the reply is told
 pub replied_first : (g : Gate) (m : ℕ) (id : Option Data) (q : Request) (name : Option Ask) (n : ℕ) (ls : List Line) (x : Gateway)
     → ls ≡ (step g.machine (in_session n q.act)).lines
     → IsAlive (replies_to (record g { machine = (step g.machine (in_session n q.act)).state }) m id q name (reply_in ls)) x
     → IsRun (replies_to g m id q name (reply_to g (in_session n q.act))) (in_session n q.act) ls x
-replied_first g m id q name n ls x l h = record {
-  lines = l;
-  gate = subst (λ (p : List Line). IsAlive (replies_to (record g { machine = (step g.machine (in_session n q.act)).state }) m id q name (reply_in p)) x) l h;
-}
+replied_first g m id q name n ls x l h =
+    let s = (step g.machine (in_session n q.act)).state in
+    let r = reply_to g (in_session n q.act) in
+    let es = entries_of q name (reply_to g (in_session n q.act)) in
+    record {
+      lines = l;
+      gate = subst (λ t. IsAlive (tells (entered (record g { machine = s }) es) m t) x) (told_the_same g s es id name r)
+          (subst (λ (p : List Line). IsAlive (replies_to (record g { machine = s }) m id q name (reply_in p)) x) l h);
+    }
+
+-- ---- how it is shared
+
+pub carries_no_room : (g : Gate) (m : ℕ) (id : Option Data) (q : Request) (name : Option Ask) (x : Gateway) → has_shape_room g q.act ≡ false
+    → IsAlive (replies_to g m id q name (refused limit)) x → IsAlive (carries g m id q name) x
+carries_no_room g m id q name x h a =
+    subst (λ b. IsAlive (cond b (if_some (seat_of g.seats q.role) (replies_to g m id q name (refused no_session)) (done_in g m id q name)) (replies_to g m id q name (refused limit))) x) (sym h) a
+
+carries_by : (g : Gate) (m : ℕ) (id : Option Data) (q : Request) (name : Option Ask) (seat : Option ℕ) (x : Gateway) → has_shape_room g q.act ≡ true → seat_of g.seats q.role ≡ seat
+    → IsAlive (if_some seat (replies_to g m id q name (refused no_session)) (done_in g m id q name)) x → IsAlive (carries g m id q name) x
+carries_by g m id q name seat x h e a =
+    subst (λ z. IsAlive z x) (λ i. cond (sym h i) (if_some (sym e i) (replies_to g m id q name (refused no_session)) (done_in g m id q name)) (replies_to g m id q name (refused limit))) a
+
+pub carries_no_session : (g : Gate) (m : ℕ) (id : Option Data) (q : Request) (name : Option Ask) (x : Gateway) → has_shape_room g q.act ≡ true → seat_of g.seats q.role ≡ None
+    → IsAlive (replies_to g m id q name (refused no_session)) x → IsAlive (carries g m id q name) x
+carries_no_session g m id q name x h e a = carries_by g m id q name None x h e a
+
+pub carries_in : (g : Gate) (m : ℕ) (id : Option Data) (q : Request) (name : Option Ask) (n : ℕ) (x : Gateway) → has_shape_room g q.act ≡ true → seat_of g.seats q.role ≡ Some n
+    → IsAlive (done_in g m id q name n) x → IsAlive (carries g m id q name) x
+carries_in g m id q name n x h e a = carries_by g m id q name (Some n) x h e a
+
+-- no log is followed
+pub decides_here : (g : Gate) (m : ℕ) (id : Option Data) (q : Request) (name : Option Ask) (x : Gateway) → is_some g.head.log ≡ false
+    → IsAlive (carries g m id q name) x → IsAlive (decides g m id q name) x
+decides_here g m id q name x h a = subst (λ b. IsAlive (cond b (tells g m (decided_elsewhere id name)) (carries g m id q name)) x) (sym h) a
+
+pub decides_there : (g : Gate) (m : ℕ) (id : Option Data) (q : Request) (name : Option Ask) (x : Gateway) → is_some g.head.log ≡ true
+    → IsAlive (tells g m (decided_elsewhere id name)) x → IsAlive (decides g m id q name) x
+decides_there g m id q name x h a = subst (λ b. IsAlive (cond b (tells g m (decided_elsewhere id name)) (carries g m id q name)) x) (sym h) a
+
+-- a verdict of the code is the gateway's
+pub judged : (g : Gate) (a : Ask) (v w : code_once.Verdict) (x : Gateway) → v ≡ w → verdict_of v ≡ verdict (names_in_code x.names) a → IsAlive g x
+    → verdict_of w ≡ verdict (names_of g) a
+judged g a v w x e h b = ap verdict_of (sym e) ∙ (h ∙ ap (λ n. verdict n a) b.names)
+
+pub decided_so : (g : Gate) (m : ℕ) (id : Option Data) (q : Request) (a : Ask) (v : Verdict) (x : Gateway) → v ≡ verdict (names_of g) a
+    → IsAlive (by_verdict g m id q a v) x → IsAlive (by_verdict g m id q a (verdict (names_of g) a)) x
+decided_so g m id q a v x e b = subst (λ z. IsAlive (by_verdict g m id q a z) x) e b
+
+-- with a name, and without
+pub shares_plain : (g : Gate) (m : ℕ) (c : Client) (id : Option Data) (q : Request) (claim : Option Claim) (x : Gateway) → claim ≡ None
+    → IsAlive (decides g m id q None) x → IsAlive (shares g m c id q claim) x
+shares_plain g m c id q claim x e a = subst (λ k. IsAlive (shares g m c id q k) x) (sym e) a
+
+pub shares_named : (g : Gate) (m : ℕ) (c : Client) (id : Option Data) (q : Request) (claim : Option Claim) (k : Claim) (a : Ask) (x : Gateway) → claim ≡ Some k
+    → a ≡ asked_by c q.line k → IsAlive (by_verdict g m id q a (verdict (names_of g) a)) x → IsAlive (shares g m c id q claim) x
+shares_named g m c id q claim k a x e s h =
+    subst (λ z. IsAlive (shares g m c id q z) x) (sym e) (subst (λ z. IsAlive (by_verdict g m id q z (verdict (names_of g) z)) x) s h)

@@ -1,5 +1,5 @@
 -- For contracts of the code: where the lines of a journal lead it.
-use Rattle.std.specs.Prelude.{◌≡◌, ◌+◌, ℕ, Bool, true, false, if◌then◌else◌, List, [], ◌∷◌, ◌++◌, drop, is_some, length, nat_lt, not, Option, Some, None}
+use Rattle.std.specs.Prelude.{◌≡◌, ℕ, Bool, true, false, List, [], ◌∷◌, ◌++◌, drop, is_some, length, nat_lt, not, Option, Some, None}
 use Rattle.iv_rows.specs.Options.{if_some}
 use Rattle.iv_machine.specs.State.{State}
 use Rattle.iv_clients.specs.Journal.{Entry, Request, journal_of, position_of}
@@ -45,10 +45,10 @@ IsReplayed g es e true x = IsReplaying g (es ++ e ∷ []) x
 IsReplayed g es e false x = (h : Gate) → LeadOn g (es ++ e ∷ []) h → ⊥
 
 -- the first lines are the record of an entry that leads on
-pub record IsRecordOf (g : Gate) (es : List Entry) (lines : List Line) (count : ℕ) (x : Gateway) : Type 0 where
+pub record IsRecordOf (g : Gate) (es : List Entry) (all : List Line) (n : ℕ) (x : Gateway) : Type 0 where
   pub entry : Entry
-  pub lines : lines ≡ journal_of (entry ∷ []) ++ drop count lines
-  pub count : count ≡ length (journal_of (entry ∷ []))
+  pub lines : all ≡ journal_of (entry ∷ []) ++ drop n all
+  pub count : n ≡ length (journal_of (entry ∷ []))
   pub gate : IsReplaying g (es ++ entry ∷ []) x
 
 -- so it is, or no record that leads on stands there

@@ -19,9 +19,9 @@ use Rattle.iv_gateway.specs.declared.seats.Opening.{Opening}
 use Rattle.iv_gateway.specs.declared.seats.Opening.TheVariants as opening
 
 -- so many of the entries are on disk, and the lines of the others are pending
-pub record IsPending (kept : ℕ) (entries : List Entry) (lines : List journal.Line) : Type 0 where
+pub record IsPending (kept : ℕ) (entries : List Entry) (pending : List journal.Line) : Type 0 where
   pub within : kept ≤ length entries
-  pub lines : lines ≡ journal_of (drop kept entries)
+  pub lines : pending ≡ journal_of (drop kept entries)
 
 -- what the journal says before its first entry; nothing is known of names but that
 pub record IsHead (h : gate.Head) (x : Head) : Type 0 where

@@ -92,11 +92,15 @@ fn push_entry(
     ensures { OnOk result (lines.new.items ≡ lines.old.items ++ lines_entered asked.now accepted name.now) }
 {
     if accepted {
-        return push_accepted(alloc, lines, asked.role, asked.line, name);
+        push_accepted(alloc, lines, asked.role, asked.line, name)?;
+        return Ok(());
     }
     match name {
         None => Ok(()),
-        Some(named) => push_named(alloc, lines, named),
+        Some(named) => {
+            push_named(alloc, lines, named)?;
+            Ok(())
+        }
     }
 }
 
@@ -106,7 +110,10 @@ fn push_name(names: &mut Names, name: Option<Named>) -> Result<(), AllocError>
 {
     match name {
         None => Ok(()),
-        Some(named) => names.push(named),
+        Some(named) => {
+            names.push(named)?;
+            Ok(())
+        }
     }
 }
 
@@ -376,7 +383,8 @@ impl Gateway {
         ensures { OnOk result ((g : Gate) → IsAlive g self.old
             → IsAlive (by_verdict g asked.now.client asked.now.id (request_of asked.now (act_of act)) ask (verdict (names_of g) ask)) self.new) }
     {
-        match self.names.verdict(&ask)? {
+        let verdict = self.names.verdict(&ask)?;
+        match verdict {
             Verdict::Carry => {
                 self.decide(asked, Some(ask), act)?;
                 Ok(())

@@ -1,5 +1,4 @@
 use Rattle.std.proofs.Common.{◌≡◌, ◌∙◌, false, not, Some, rules, subst}
-use Rattle.std.specs.Prelude.{string_bytes}
 use Rattle.iv_command.specs.Views.{reply_of}
 use Rattle.iv_message.specs.Told.{answered}
 use Rattle.iv_clients.specs.Names.{place_text}

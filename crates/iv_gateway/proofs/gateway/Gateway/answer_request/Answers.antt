@@ -1,4 +1,4 @@
-use Rattle.std.proofs.Common.{◌∙◌, None, Some, ap, subst, sym}
+use Rattle.std.proofs.Common.{◌∙◌, ap, subst, sym}
 use Rattle.iv_command.specs.Views.{reply_of}
 use Rattle.iv_gate.specs.Gate.{replies_to}
 use Rattle.iv_gateway.specs.Speaking.{made_of, request_of}

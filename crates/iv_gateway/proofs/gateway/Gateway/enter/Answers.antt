@@ -1,4 +1,4 @@
-use Rattle.std.proofs.Common.{◌≡◌, ◌∙◌, Some, ap, set, sym}
+use Rattle.std.proofs.Common.{◌≡◌, ◌∙◌, Some, ap, rules, set, sym}
 use Rattle.std.specs.Prelude.{string_bytes}
 use Rattle.iv_clients.specs.Clients.{fresh}
 use Rattle.iv_clients.specs.Kept.{coming, kept}

@@ -1,4 +1,4 @@
-use Rattle.std.proofs.Common.{◌∙◌, arith, length, refl, sym}
+use Rattle.std.proofs.Common.{◌∙◌, arith, refl, sym}
 use Rattle.iv_gate.specs.Events.{forgave}
 use Rattle.iv_gateway.proofs.Alive.{alive_next}
 use Rattle.iv_gateway.proofs.Replayed.{forgiven_here}

@@ -1,0 +1,53 @@
+use Rattle.std.proofs.Common.{◌≡◌, ◌≤◌, ◌∙◌, arith, drop, length, length-drop, subst}
+use Rattle.iv_once.specs.Views.{names_of}
+use Rattle.iv_gate.specs.Restoring.{IsDamagedAt}
+use Rattle.iv_gate.proofs.Damage.{led}
+use Rattle.iv_gateway.specs.Replays.{behind}
+use Rattle.iv_gateway.proofs.Replayed.{forgiven_here, read_nothing, reads_all, reads_on, stops_here}
+use Rattle.iv_gateway.proofs.gateway.Gateway.replay.Goals as goal
+
+pub lines-init : goal.lines-init
+lines-init c = record { within = omega arith; leads = λ g n b. read_nothing g c.args.journal.now c.args.self.now n b }
+
+pub lines-preserved : goal.lines-preserved
+lines-preserved c =
+    let count : c.in-Ok-Some.count ≤ length (drop c.lines.at c.args.journal.now) = rw c.in-Ok-Some.field-0-is at c.in-Ok-Some.ensures.within in
+    let more = length-drop c.lines.at c.args.journal.now in
+    let within : c.lines.at ≤ length c.args.journal.now = c.lines.invariant.within in
+    record {
+      within = omega (arith, count, more, within);
+      leads = λ g n b.
+          let w = c.lines.invariant.leads g n b in
+          reads_on g c.args.journal.now c.lines.at c.in-Ok-Some.count c.lines.self c.replay_record.new.self w
+          (rw c.in-Ok-Some.field-0-is at (c.in-Ok-Some.ensures.replayed g w.entries w.gate));
+    }
+
+pub returns-clause-replayed : goal.returns-clause-replayed
+returns-clause-replayed c = λ g n b.
+    let w = c.lines.invariant.leads g n b in
+    let a = w.gate.gate in record {
+      now = led g w.entries w.gate.state;
+      restores = reads_all g c.args.journal.now c.lines.at c.lines.self w (omega arith);
+      gate = record {
+        tokens = a.tokens;
+        machine = a.machine;
+        seats = a.seats;
+        feeds = a.feeds;
+        clients = a.clients;
+        names = forgiven_here (behind g w.gate.state w.entries) _ (names_of c.lines.self.names) a.names c.forgive.ensures;
+        log = a.log;
+        position = a.position;
+        settled = a.settled;
+        forgiven = omega arith;
+        pending = a.pending;
+        shape = a.shape;
+      };
+    }
+
+pub returns-in-Ok-None-clause-damaged : goal.returns-in-Ok-None-clause-damaged
+returns-in-Ok-None-clause-damaged c = λ place e g n b.
+    let w = c.lines.invariant.leads g n b in
+    let same : c.lines.at ≡ place = cc e in
+    subst (IsDamagedAt g c.args.journal.now) same
+    (stops_here g c.args.journal.now c.lines.at c.lines.self c.replay_record.new.self w (omega arith)
+    (rw c.in-Ok-None.field-0-is at (c.in-Ok-None.ensures.replayed g w.entries w.gate)))

@@ -1,0 +1,29 @@
+use Rattle.std.proofs.Common.{◌∙◌, sym}
+use Rattle.std.proofs.lemmas.Bool.{false≢true}
+use Rattle.iv_once.specs.Views.{names_of}
+use Rattle.iv_gateway.proofs.Replayed.{name_more, name_new, settled_here}
+use Rattle.iv_gateway.proofs.gateway.Gateway.replay_name.Goals as goal
+
+pub returns-then-not-is_new : goal.returns-then-not-is_new
+returns-then-not-is_new c = λ g s es e b.
+    (sym c.if-not-is_new.true ∙ name_new g s _ c.args.self.now c.args.name.ask c.is_new.result b c.is_new.ensures, λ t. absurd (false≢true t))
+
+pub returns : goal.returns
+returns c = λ g s es e b.
+    let k = name_more g s es e c.args.name (names_of c.push.new.self) c.args.self.now b c.in_ok-push.ensures in (
+      sym c.if-not-is_new.false ∙ name_new g s _ c.args.self.now c.args.name.ask c.is_new.result b c.is_new.ensures,
+      λ t. record {
+        tokens = b.tokens;
+        machine = b.machine;
+        seats = b.seats;
+        feeds = b.feeds;
+        clients = b.clients;
+        names = k.names;
+        log = b.log;
+        position = k.position;
+        settled = settled_here g s _ c.args.self.now b ∙ k.settled;
+        forgiven = k.forgiven;
+        pending = k.pending;
+        shape = k.shape;
+      },
+    )
