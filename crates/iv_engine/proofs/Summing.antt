@@ -1,5 +1,6 @@
 -- What writes change of tables, summed.
-use Rattle.std.proofs.Common.{◌≡◌, ◌++◌, ◌||◌, ◌≤◌, ℕ, Bool, true, false, List, [], ◌∷◌, map, length, ℤ, pos, ◌+ℤ◌, ◌-◌, refl, sym, ap, subst, ◌∙◌, arith}
+use Rattle.std.proofs.Common.{◌≡◌, ◌++◌, ◌||◌, ◌<◌, ◌≤◌, ◌+◌, ℕ, Bool, true, false, List, [], ◌∷◌, map, length, take, get_or, ℤ, pos, ◌+ℤ◌, ◌-◌, refl, sym, ap, subst, ◌∙◌, arith, append_assoc}
+use Rattle.std.proofs.lemmas.List.{append-nil, map-append, take_all, take_more}
 use Rattle.std.proofs.lemmas.Int.{ints}
 use Rattle.std.proofs.lemmas.List.Folds.{list_any-append}
 use Rattle.std.specs.Global.{Vec}
@@ -112,6 +113,20 @@ module _ (before d : Store) (given : Given) (tables : List ℕ) (w : AreWritten 
         (between c (weight_of (given t) q) r (weight_of (rows_of before.tables t) q) _ (sym (weight_of-append (change_at changes t) (rows_of d.tables t) q) ∙ (p.leads T stands).lead t q)
         (w.sums t q ∙ weight_of-append (given t) (rows_of before.tables t) q)
         (subst InRange (weight_of-append (change_at changes t) (rows_of d.tables t) q) ((p.keep t).in_range q)) (stored.positive t q) (all_in_range (rows_of before.tables t) (stored.zsets t) q))
+
+-- ---- the tables of changes
+
+pub none_noted : {X : Type 0} (f : X → ℕ) (xs : List X) (ts : List ℕ) → ts ≡ ts ++ map f (take 0 xs)
+none_noted f xs ts = sym (append-nil ts)
+
+pub one_noted : {X : Type 0} (f : X → ℕ) (xs : List X) (i : ℕ) (x : X) (y : ℕ) (base ts new : List ℕ) → i < length xs → x ≡ get_or xs i x → ts ≡ base ++ map f (take i xs) → y ≡ f x → new ≡ ts ++ y ∷ []
+    → new ≡ base ++ map f (take (i + 1) xs)
+one_noted f xs i x y base ts new low at so_far one is =
+    is ∙ (λ j. so_far j ++ one j ∷ []) ∙ append_assoc base (map f (take i xs)) (f x ∷ [])
+    ∙ ap (λ zs. base ++ zs) (sym (map-append f (take i xs) (x ∷ [])) ∙ sym (ap (map f) (take_more xs i x low ∙ ap (λ z. take i xs ++ z ∷ []) (sym at))))
+
+pub all_noted : {X : Type 0} (f : X → ℕ) (xs : List X) (k : ℕ) (base ts : List ℕ) → length xs ≤ k → ts ≡ base ++ map f (take k xs) → ts ≡ base ++ map f xs
+all_noted f xs k base ts l h = h ∙ ap (λ zs. base ++ map f zs) (take_all k xs l)
 
 -- ---- what commands make of the sums
 
