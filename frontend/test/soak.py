@@ -68,9 +68,9 @@ class Client:
                     self.subscribe()
         elif line.startswith('{"granted":'):
             self.subscribe()
-        elif line.startswith('{"role":'):
+        elif line.startswith(('{"role":', '{"protocol":')):
             self.is_in = True
-        elif not line.startswith(('{"settled":', '{"alive":', '{"as":')):
+        elif not line.startswith(('{"settled":', '{"alive":', '{"as":', '{"at":')):
             self.waiting.popleft()(json.loads(line))
 
     def read(self) -> None:
