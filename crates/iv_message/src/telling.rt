@@ -2,7 +2,7 @@
 //!
 //! Changes are most of what is told: their lines are put together here, and the text of their rows is copied; so is the text of a
 //! request. The others are written by `serde_json`.
-ghost use Rattle.std.specs.Prelude.{◌≡◌, ◌++◌, ℤ, List, false, IfOk, OnOk, option_map, string_bytes};
+ghost use Rattle.std.specs.Prelude.{◌≡◌, ◌++◌, ℤ, List, false, IfOk, OnOk, codes, option_map, string_bytes};
 ghost use Rattle.serde_json.specs.Data.{object, string, member, no_members};
 ghost use Rattle.serde_json.specs.View.{members_view};
 ghost use Rattle.serde_json.specs.Written.{compact_text, has_float};
