@@ -83,8 +83,15 @@ class Client:
 
     def send(self) -> None:
         """All that it has said."""
-        self.wire.send(b"".join(self.unsent))
+        try:
+            self.wire.send(b"".join(self.unsent))
+        except ConnectionError:
+            self.gone()
         self.unsent = []
+
+    def gone(self) -> None:
+        """The gateway has let it go."""
+        raise AssertionError((self.role, self.wire.code, self.wire.words, self.soak.gate.said()[-2000:]))
 
     def hear(self, line: str) -> None:
         if line.startswith('{"changes":'):
@@ -109,8 +116,13 @@ class Client:
 
     def read(self) -> None:
         """Hears what has come."""
-        got = self.wire.socket.recv(1 << 16)
-        assert got, (self.role, self.wire.code, self.wire.words)
+        try:
+            got = self.wire.socket.recv(1 << 16)
+        except ConnectionError:
+            got = b""
+        if not got:
+            self.gone()
+            return
         self.wire.input += got
         if not self.is_open:
             head, end, rest = self.wire.input.partition(b"\r\n\r\n")
@@ -134,6 +146,8 @@ class Client:
 
     def leave(self, how: int) -> None:
         """It closes as the standard has it, or is gone without a word, or within a frame, or by a reset."""
+        if self.soak.clients.get(self.number) is not self:
+            return
         self.soak.poll.unregister(self.number)
         del self.soak.clients[self.number]
         self.soak.speaking.discard(self)
@@ -151,6 +165,13 @@ class Guest(Client):
 
     def subscribe(self) -> None:
         """It does not read the table: what is written comes to few."""
+
+    def gone(self) -> None:
+        """It had ten seconds to come, which a machine with other work may have taken all."""
+        if self.is_in:
+            super().gone()
+        self.soak.late += 1
+        self.leave(3)
 
     def __init__(self, soak: "Soak", role: str, token: str):
         super().__init__(soak, role, token)
@@ -244,7 +265,7 @@ class Owner(Client):
 class Soak:
     def __init__(self, clients: int, stay: float, seed: int):
         self.dice, self.stay, self.size = random.Random(seed), stay, clients
-        self.requests = self.accepted = self.comings = 0
+        self.requests = self.accepted = self.comings = self.late = 0
         self.poll, self.clients, self.speaking = select.epoll(), dict[int, Client](), set[Client]()
         tokens = {it: it.split()[0] for it in ["ann", "admin", *(f"{role} {at}" for role in READERS for at in range(clients // PER_TOKEN + 1))]}
         self.gate = Gateway(start=False)
@@ -366,8 +387,8 @@ def soak(requests: int, clients: int, each: int, stay: float = 20.0, seed: int =
         it.run(min(each, requests - it.requests))
         found, files = it.stand_still(), it.files()
         seen.append((it.gate.memory(), files))
-        print(f"  {it.requests:,} requests, {it.accepted:,} writes, {it.comings:,} guests, {(time.monotonic() - began) / 60:.2f} min (processor"
-              f" {it.gate.processor() / 60:.2f}, of the clients {time.process_time() / 60:.2f}): {seen[-1][0] / 1e6:.1f} MB, {files} files,"
+        print(f"  {it.requests:,} requests, {it.accepted:,} writes, {it.comings:,} guests ({it.late} too late), {(time.monotonic() - began) / 60:.2f} min"
+              f" (processor {it.gate.processor() / 60:.2f}, of the clients {time.process_time() / 60:.2f}): {seen[-1][0] / 1e6:.1f} MB, {files} files,"
               f" {it.gate.journal.stat().st_size / 1e6:,.1f} MB of journal, digest {found}", flush=True)
         assert files <= seen[0][1] + 1, [files for _, files in seen]  # a connection that asked for its state may be there still
         assert it.gate.process.poll() is None, it.gate.said()
