@@ -1,4 +1,5 @@
 use Rattle.std.proofs.Common.{◌≡◌, ◌∙◌, ap, false, subst, sym}
+use Rattle.std.specs.Prelude.{Ok, Err}
 use Rattle.iv_circuit.specs.Deltas.{change_in}
 use Rattle.iv_store.specs.Aside.{AreBack}
 use Rattle.iv_store.specs.Followed.{AreReady}
@@ -23,13 +24,13 @@ pub returns-in-Err-clause-taken : goal.returns-in-Err-clause-taken
 returns-in-Err-clause-taken c =
     let e = c.args.store.now in
     step_stopped e c.carry_all.new.store _ c.args.facts.items c.in-Err.fault
-    (subst (λ (v : Store). AreCarried v c.args.facts.items _ c.carry_all.new.store) c.set_aside-aside.ensures.left c.in-Err.ensures.carried)
+    (subst (λ (v : Store). AreCarried v c.args.facts.items (Err c.in-Err.fault) c.carry_all.new.store) c.set_aside-aside.ensures.left c.in-Err.ensures.carried)
 
 pub told-requires-clause-back : goal.told-requires-clause-back
 told-requires-clause-back c =
     let e = c.args.store.now in
     let d = c.carry_all.new.store in
-    let carried = subst (λ (v : Store). AreCarried v c.args.facts.items _ d) c.set_aside-aside.ensures.left c.in-Ok.ensures.carried in
+    let carried = subst (λ (v : Store). AreCarried v c.args.facts.items (Ok tt) d) c.set_aside-aside.ensures.left c.in-Ok.ensures.carried in
     subst AreBack (sym (c.bring_back.ensures ∙ aside_back e d c.set_aside-aside.result c.set_aside-aside.ensures.aside)) (all_back e d c.args.facts.items c.requires.sound carried)
 
 pub told-requires-clause-ready : goal.told-requires-clause-ready
@@ -37,7 +38,7 @@ told-requires-clause-ready c = λ writes.
     let e = c.args.store.now in
     let d = c.carry_all.new.store in
     let s = c.carry_all.new.sums in
-    let carried = subst (λ (v : Store). AreCarried v c.args.facts.items _ d) c.set_aside-aside.ensures.left c.in-Ok.ensures.carried in
+    let carried = subst (λ (v : Store). AreCarried v c.args.facts.items (Ok tt) d) c.set_aside-aside.ensures.left c.in-Ok.ensures.carried in
     let sums = subst (λ (v : Store). s.others ≡ false → AreWritten v (change_in s.deltas) s.tables.items d) c.set_aside-aside.ensures.left c.in-Ok.ensures.sums in
     subst (λ (v : Store). AreReady v (change_in s.deltas)) (sym (c.bring_back.ensures ∙ aside_back e d c.set_aside-aside.result c.set_aside-aside.ensures.aside)) (told_ready e d c.args.facts.items c.requires.sound carried s sums writes)
 
@@ -49,7 +50,7 @@ returns-clause-taken c =
     let e = c.args.store.now in
     let d = c.carry_all.new.store in
     let s = c.carry_all.new.sums in
-    let carried = subst (λ (v : Store). AreCarried v c.args.facts.items _ d) c.set_aside-aside.ensures.left c.in-Ok.ensures.carried in
+    let carried = subst (λ (v : Store). AreCarried v c.args.facts.items (Ok tt) d) c.set_aside-aside.ensures.left c.in-Ok.ensures.carried in
     let sums = subst (λ (v : Store). s.others ≡ false → AreWritten v (change_in s.deltas) s.tables.items d) c.set_aside-aside.ensures.left c.in-Ok.ensures.sums in
     told_taken e d c.args.facts.items c.requires.sound carried s sums c.in_ok-lines.lines c.told.new.store
     (subst (λ (v : Store). AreTold v s c.in_ok-lines.lines.items c.told.new.store) (c.bring_back.ensures ∙ aside_back e d c.set_aside-aside.result c.set_aside-aside.ensures.aside) c.in_ok-lines.ensures)
@@ -59,7 +60,7 @@ returns-clause-rounds c = λ writes same.
     let e = c.args.store.now in
     let d = c.carry_all.new.store in
     let s = c.carry_all.new.sums in
-    let carried = subst (λ (v : Store). AreCarried v c.args.facts.items _ d) c.set_aside-aside.ensures.left c.in-Ok.ensures.carried in
+    let carried = subst (λ (v : Store). AreCarried v c.args.facts.items (Ok tt) d) c.set_aside-aside.ensures.left c.in-Ok.ensures.carried in
     let sums = subst (λ (v : Store). s.others ≡ false → AreWritten v (change_in s.deltas) s.tables.items d) c.set_aside-aside.ensures.left c.in-Ok.ensures.sums in
     told_once e d c.args.facts.items c.requires.sound carried s sums c.in_ok-lines.lines.items c.told.new.store
     (subst (λ (v : Store). AreTold v s c.in_ok-lines.lines.items c.told.new.store) (c.bring_back.ensures ∙ aside_back e d c.set_aside-aside.result c.set_aside-aside.ensures.aside) c.in_ok-lines.ensures)

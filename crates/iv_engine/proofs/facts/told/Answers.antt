@@ -15,7 +15,7 @@ pub returns-then-sums : goal.returns-then-sums
 returns-then-sums c =
     let e = c.args.store.now in
     let clash : true ≡ false → ⊥ = λ q. cc in
-    IfOk-weaker c.look.result _ (λ lines. AreTold e c.args.sums lines.items c.look.new.store)
+    IfOk-weaker c.look.result _ (λ lines. AreTold e c.args.sums lines.items c.look.new.self)
     (λ lines h. inl (record { readers = h; why = λ writes. absurd (clash (sym c.if-sums.true ∙ writes)) })) c.look.ensures
 
 pub follow-requires-clause-open : goal.follow-requires-clause-open
@@ -33,17 +33,17 @@ follow-requires-clause-tables c = c.requires.tables c.if-sums.false
 pub look-requires-in-None : goal.look-requires-in-None
 look-requires-in-None c =
     let e = c.args.store.now in
-    let f = subst (λ (o : Option (Vec Line)). HaveFollowedOr e (change_in c.args.sums.deltas) o c.follow.new.self) c.in-None.is c.in_ok-follow.ensures in
+    let f = subst (λ (o : Option (Vec Line)). HaveFollowedOr e (change_in c.args.sums.deltas) o c.follow.new.self) c.in-None.is c.in_ok-lines.ensures in
     subst AreBack (sym f.0) c.requires.back
 
 pub returns-in-Some : goal.returns-in-Some
 returns-in-Some c =
     let e = c.args.store.now in
-    inr (c.if-sums.false, subst (λ (o : Option (Vec Line)). HaveFollowedOr e (change_in c.args.sums.deltas) o c.follow.new.self) c.in-Some.is c.in_ok-follow.ensures)
+    inr (c.if-sums.false, subst (λ (o : Option (Vec Line)). HaveFollowedOr e (change_in c.args.sums.deltas) o c.follow.new.self) c.in-Some.is c.in_ok-lines.ensures)
 
 pub returns : goal.returns
 returns c =
     let e = c.args.store.now in
-    let f = subst (λ (o : Option (Vec Line)). HaveFollowedOr e (change_in c.args.sums.deltas) o c.follow.new.self) c.in-None.is c.in_ok-follow.ensures in
-    IfOk-weaker c.look-in-None.result _ (λ lines. AreTold e c.args.sums lines.items c.look-in-None.new.store)
-    (λ lines h. inl (record { readers = subst (λ (v : Store). AreReaders v (all_concerned v) Ok lines.items c.look-in-None.new.store) f.0 h; why = λ writes. f.1 })) c.look-in-None.ensures
+    let f = subst (λ (o : Option (Vec Line)). HaveFollowedOr e (change_in c.args.sums.deltas) o c.follow.new.self) c.in-None.is c.in_ok-lines.ensures in
+    IfOk-weaker c.look-in-None.result _ (λ lines. AreTold e c.args.sums lines.items c.look-in-None.new.self)
+    (λ lines h. inl (record { readers = subst (λ (v : Store). AreReaders v (all_concerned v) Ok lines.items c.look-in-None.new.self) f.0 h; why = λ writes. f.1 })) c.look-in-None.ensures
