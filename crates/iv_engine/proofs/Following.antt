@@ -196,8 +196,8 @@ module _ (e d : Store) (facts : List Fact) (h : IsSoundStore e) (carried : IsSti
       (subst (λ (y : Store). HaveFollowed y (change_in s.deltas) lines.items new) (v_is e d (change_in s.deltas) s.tables.items h carried.0.sound x) f.1))
 
   pub told_once : (lines : List Line) (new : Store) → AreTold (with_those_of e d) s lines new → s.others ≡ false → new.subscriptions ≡ e.subscriptions → AreCountedOnce (seen e) (seen new)
-  told_once lines new (inl looked) writes same = absurd (somebody_ends e d (change_in s.deltas) s.tables.items h carried.0.sound (since writes) new looked.readers.left (looked.why writes) same)
-  told_once lines new (inr f) writes same =
+  told_once lines new (inl looked) writes stay = absurd (somebody_ends e d (change_in s.deltas) s.tables.items h carried.0.sound (since writes) new looked.readers.left (looked.why writes) stay)
+  told_once lines new (inr f) writes _ =
       let given = change_in s.deltas in
       let x = since writes in
       let is = v_is e d given s.tables.items h carried.0.sound x in

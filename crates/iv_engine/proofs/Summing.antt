@@ -1,6 +1,6 @@
 -- What writes change of tables, summed.
 use Rattle.std.proofs.Common.{◌≡◌, ◌++◌, ◌||◌, ◌<◌, ◌≤◌, ◌+◌, ℕ, Bool, true, false, List, [], ◌∷◌, map, length, take, get_or, ℤ, pos, ◌+ℤ◌, ◌-◌, refl, sym, ap, subst, ◌∙◌, arith, append_assoc}
-use Rattle.std.proofs.lemmas.List.{append-nil, map-append, take_all, take_more}
+use Rattle.std.proofs.lemmas.List.{append-nil, map-append, take_more}
 use Rattle.std.proofs.lemmas.Int.{ints}
 use Rattle.std.proofs.lemmas.List.Folds.{list_any-append}
 use Rattle.std.specs.Global.{Vec}
@@ -124,9 +124,6 @@ pub one_noted : {X : Type 0} (f : X → ℕ) (xs : List X) (i : ℕ) (x : X) (y 
 one_noted f xs i x y base ts new low at so_far one is =
     is ∙ (λ j. so_far j ++ one j ∷ []) ∙ append_assoc base (map f (take i xs)) (f x ∷ [])
     ∙ ap (λ zs. base ++ zs) (sym (map-append f (take i xs) (x ∷ [])) ∙ sym (ap (map f) (take_more xs i x low ∙ ap (λ z. take i xs ++ z ∷ []) (sym at))))
-
-pub all_noted : {X : Type 0} (f : X → ℕ) (xs : List X) (k : ℕ) (base ts : List ℕ) → length xs ≤ k → ts ≡ base ++ map f (take k xs) → ts ≡ base ++ map f xs
-all_noted f xs k base ts l h = h ∙ ap (λ zs. base ++ map f zs) (take_all k xs l)
 
 -- ---- what commands make of the sums
 

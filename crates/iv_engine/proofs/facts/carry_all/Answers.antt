@@ -36,7 +36,7 @@ loop-fact-init c =
       tt,
       tt,
       ap (list_all is_well_fact) items ∙ c.requires.well,
-      ap (λ (fs : List Fact). length fs) items,
+      (let all = ap (λ (fs : List Fact). length fs) items in omega (arith, all)),
       record { sound = c.requires.sound; empty = c.requires.empty },
       λ s b. subst (λ (fs : List Fact). GoesOn s c.args.facts.items 0 fs c.args.store.now) (sym items) (record { state = s; behind = b; carries = refl; refuses = refl }),
       c.requires.sums,

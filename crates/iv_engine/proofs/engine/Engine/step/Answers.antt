@@ -34,5 +34,8 @@ returns-in-Err-clause-failed c =
 
 pub returns-in-Ok-clause-rounds : goal.returns-in-Ok-clause-rounds
 returns-in-Ok-clause-rounds c = λ writes same.
-    subst (λ (v : Engine). AreCountedOnce v (seen c.take.new.store)) c.self.view_is
-    (c.in-Ok.ensures.rounds writes (same ∙ ap (λ (v : Engine). v.frame.subscriptions) (sym c.self.view_is)))
+    let e = seen c.self.inside.store in
+    let new = seen c.take.new.store in
+    let on : c.self.inside.failed ≡ false = ap (λ (v : Engine). v.failed) c.self.view_is ∙ sym c.is_failed.ensures.failed ∙ c.if-is_failed.false in
+    subst (λ (v : Engine). AreCountedOnce v (record new { failed = c.self.inside.failed })) c.self.view_is
+    (subst (λ b. AreCountedOnce (record e { failed = b }) (record new { failed = b })) (sym on) (c.in-Ok.ensures.rounds writes (same ∙ ap (λ (v : Engine). v.frame.subscriptions) (sym c.self.view_is))))
