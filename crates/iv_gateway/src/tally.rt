@@ -1,8 +1,9 @@
 //! `Tally`: what is counted of messages since the start: how many of each kind were heard, and how many were refused by each number.
-ghost use Rattle.std.specs.Prelude.{◌≡◌, ℕ, None, Some, codes, nat_lt, option_map, true};
-ghost use Rattle.serde_json.specs.Data.{object};
+ghost use Rattle.std.specs.Prelude.{◌≡◌, ℕ, None, Some, codes, nat_lt, option_map, slice_get, true};
+ghost use Rattle.serde_json.specs.Data.{object, string};
 ghost use Rattle.serde_json.specs.Find.{get};
-ghost use Rattle.iv_command.specs.Views.{reply_of};
+ghost use Rattle.iv_command.specs.Views.{act_of, reply_of};
+ghost use Rattle.iv_request.specs.Asked.{act_data};
 ghost use Rattle.iv_request.specs.Values.{natural};
 ghost use Rattle.iv_lines.specs.Texts.{reply_members};
 ghost use Rattle.iv_gateway.specs.Tallied.{one_more};
@@ -37,9 +38,11 @@ pub struct Tally {
     pub refused: [u64; 24],
 }
 
-/// The place among `KINDS` of what a request asks.
+/// The place among `KINDS` of what a request asks: that of its word at `do`.
 fn kind_of(act: &Act) -> usize
-    ensures { nat_lt result 14 ≡ true }
+    ensures kind { nat_lt result 14 ≡ true }
+    ensures word { (n : ℕ) → nat_lt 0 result ≡ true
+        → option_map (λ w. string w.now) (slice_get KINDS result) ≡ get (codes "do") (act_data n (act_of act.now)) }
 {
     match act {
         Act::Begin { .. } | Act::Finish => 0,
