@@ -20,8 +20,10 @@ mod seats;
 mod shaping;
 mod subscribing;
 mod sweeping;
+mod tally;
 mod telling;
 
 pub use gateway::{Gateway, GatewayFault};
 pub use journal::{Journal, JournalFault};
 pub use restoring::RestoreFault;
+pub use tally::{KINDS, Tally};

@@ -117,6 +117,7 @@ impl Gateway {
     {
         self.clients.ask(client)?;
         let (message, line) = read_said(self.alloc, text, &mut self.scratch)?;
+        self.tally.hear(&message);
         self.answer(client, speaker, message, &line)?;
         self.settle_told()?;
         self.clients.answered(client, speaker.brought);
@@ -188,6 +189,7 @@ impl Gateway {
     {
         let mut text = Vec::new(self.alloc);
         push_unasked(self.alloc, &mut text, id, why)?;
+        self.tally.refuse(2);
         self.tell(client, &text)?;
         Ok(())
     }
