@@ -89,6 +89,8 @@ export type Entry<R extends object = Relations> = {
 export interface Db<R extends object = Relations> {
   /** The role that the token opens, or null where nobody is in. */
   readonly role: string | null;
+  /** The number of the protocol that the gateway speaks, or null if nobody is in, or it tells none. */
+  readonly protocol: number | null;
   readonly state: State;
   /** Why the last connection went, where something is known. */
   readonly why: string | null;

@@ -21,6 +21,8 @@ const UNKNOWN_TOKEN = 4401;
 class Db {
   /** The role that the token opens, or null where nobody is in. */
   role = null;
+  /** The number of the protocol that the gateway speaks, or null if nobody is in, or it tells none. */
+  protocol = null;
   /** `connecting` at first, `live`, `stale` (what is shown may be old, and another connection is tried) or `closed`. */
   state = "connecting";
   /** Why the last connection went, where something is known. */
@@ -234,7 +236,7 @@ class Db {
       socket?.close?.();
     } catch { /* it was not open */ }
     if (this.role && Date.now() - this.#since > 10_000) this.#tries = 0;
-    this.role = null;
+    this.role = this.protocol = null;
     this.#bySub.clear();
     this.#changed.clear();
     for (const act of this.#replied.splice(0)) act();
@@ -338,12 +340,12 @@ class Db {
     else if ("ok" in said || "error" in said) this.#reply(said);
     else if (said.changes) this.#changes(said);
     else if (said.granted) this.#replied.push(() => this.#retry(() => true));
-    else if (said.role && !this.role) this.#entered(said.role);
+    else if (said.role && !this.role) this.#entered(said);
     // alive, and what this client does not know, says nothing more than that the gateway is there
   }
 
-  #entered(role) {
-    this.role = role;
+  #entered({role, protocol}) {
+    [this.role, this.protocol] = [role, protocol ?? null];
     this.#since = Date.now();
     for (const relation of this.#relations.values()) this.#subscribe(relation);
     for (const {body, resolve, reject, timer} of this.#waiting) {

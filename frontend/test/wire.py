@@ -185,7 +185,8 @@ class Wire:
 
     def enter(self) -> str:
         """The role that the token opens. An administrator is told the shape, too."""
-        role, *self.shape = self.event()
+        role, *told = self.event()
+        self.shape = [line for line in told if not line.startswith('{"at":')]
         return str(json.loads(role)["role"])
 
     def end(self, seconds: float = PATIENCE) -> int | None:

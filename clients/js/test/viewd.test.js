@@ -42,8 +42,8 @@ test("a token opens a role", async (t) => {
   Fake.last.onopen();
   assert.deepEqual(Fake.last.sent, ["secret"]);
   assert.equal(db.state, "connecting");
-  Fake.last.event({role: "mia"});
-  assert.equal(db.role, "mia");
+  Fake.last.event({protocol: 1, role: "mia"});
+  assert.deepEqual([db.role, db.protocol], ["mia", 1]);
   assert.deepEqual(states, ["live"]);
   assert.throws(() => connect("ws://gateway/live", {}), /no token/);
 });
@@ -316,7 +316,7 @@ test("after a lost connection rows are stale while another is tried, and then ne
   const [, kept] = notes.rows, write = db.insert("notes", [5, "a"]);
   socket.end(1006);
   await assert.rejects(write, Undecided);
-  assert.deepEqual([notes.state, notes.rows.length, db.role], ["stale", 2, null]);
+  assert.deepEqual([notes.state, notes.rows.length, db.role, db.protocol], ["stale", 2, null, null]);
   const late = db.live("notes", {where: {id: 1}});
   assert.deepEqual([late.state, late.rows], ["stale", [{id: 1, who: "a"}]]);
   const waits = db.insert("notes", [6, "a"]); // not sent yet, so it is not undecided

@@ -119,8 +119,8 @@ async def entered(**how) -> tuple[viewd.Db, Fake]:
     """A client that its gateway has let in."""
     db = viewd.connect("ws://gateway/live", token="t", **{"shortest": 0.004, **how})
     await turn()
-    await Fake.all[-1].event({"role": "mia"})
-    assert Fake.all[-1].sent == ["t"] and db.role == "mia"
+    await Fake.all[-1].event({"protocol": 1, "role": "mia"})
+    assert Fake.all[-1].sent == ["t"] and (db.role, db.protocol) == ("mia", 1)
     Fake.all[-1].sent.clear()
     return db, Fake.all[-1]
 

@@ -272,7 +272,7 @@ async def test_after_a_lost_connection_rows_are_stale_while_another_is_tried(fak
     await turn()
     await socket.end()
     await raised(write, Undecided)
-    assert (notes.state, len(notes.rows), db.role) == ("stale", 2, None)
+    assert (notes.state, len(notes.rows), db.role, db.protocol) == ("stale", 2, None, None)
     waits = asyncio.ensure_future(db.insert("notes", [6, "a"]))  # not sent yet, so it is not undecided
     await asyncio.sleep(0.05)
     again = fakes.all[-1]

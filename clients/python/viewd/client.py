@@ -87,6 +87,7 @@ class Db:
     def __init__(self, url: str, token: Token, columns: Mapping[str, Columns] | None, on_error: Report | None, timing: Timing):
         self.url, self.timing = url, timing
         self.role: str | None = None  # that the token opens, or None if nobody is in
+        self.protocol: int | None = None  # the number that the gateway tells, or None if nobody is in, or it tells none
         self.state = "connecting"  # at first; `live`; `stale`: what is shown may be old, and another connection is tried; `closed`
         self.why: str | None = None  # why the last connection went, where something is known
         self._token, self._tried_token, self._tries = token, "", 0
@@ -286,7 +287,7 @@ class Db:
 
     # What was under way is undecided.
     def _drop(self) -> None:
-        connection, self._connection, self.role = self._connection, None, None
+        connection, self._connection, self.role, self.protocol = self._connection, None, None, None
         if connection is None:
             return
         if connection.since and time.monotonic() - connection.since > 10:
@@ -427,6 +428,7 @@ class Db:
         elif "granted" in said:
             connection.replied.append(lambda: self._retry(lambda it: True))
         elif "role" in said and self.role is None:
+            self.protocol = said.get("protocol")
             self._entered(connection, said["role"])
         elif "made" in said:
             connection.made.append(said)

@@ -8,9 +8,10 @@ use Rattle.std.specs.Fmt.{digits, digits_onto, digit_glyph}
 use Rattle.json.specs.Print.{escape_letter, escape_byte, escape, quoted}
 use Rattle.serde_json.specs.Data.{Num, unsigned, negative, float, Data, null, boolean, number, string, array, object, Items, no_items, item, Members, no_members, member}
 use Rattle.serde_json.specs.Written.{number_text, comma_if, compact_text, items_text, members_text}
+use Rattle.iv_request.specs.Values.{natural}
 use Rattle.iv_lines.specs.Texts.{fault_data, reply_members, text_of}
 use Rattle.iv_message.specs.Message.{on_one_line}
-use Rattle.iv_message.specs.Told.{Told, welcome, replied, opened, fault, unasked, changed, over, settled, granted, made, alive, changed_data, made_text, opened_members, over_data, told_text, why_members, with_id}
+use Rattle.iv_message.specs.Told.{Told, welcome, replied, opened, fault, unasked, changed, over, settled, granted, made, alive, changed_data, made_text, opened_members, over_data, protocol, told_text, why_members, with_id}
 use Rattle.iv_message.specs.Lines.{is_clean, IsLine}
 
 joined : (a b : List ℕ) → is_clean a ≡ true → is_clean b ≡ true → is_clean (a ++ b) ≡ true
@@ -139,7 +140,7 @@ made_line role line =
     )
 
 pub told_line : (t : Told) → IsLine (told_text t)
-told_line (welcome role) = text_line (object (member (codes "role") (string role) no_members))
+told_line (welcome role) = text_line (object (member (codes "protocol") (natural protocol) (member (codes "role") (string role) no_members)))
 told_line (replied id r) = text_line (with_id id (reply_members r))
 told_line (opened id own columns) = text_line (with_id id (opened_members own columns))
 told_line (fault n) = text_line (fault_data n)

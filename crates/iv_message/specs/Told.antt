@@ -14,8 +14,8 @@ use Rattle.iv_request.specs.Values.{natural}
 use Rattle.iv_lines.specs.Texts.{cause_text, fault_data, reply_members, text_of}
 use Rattle.iv_message.specs.Message.{Why, missing, unknown, wrong, on_one_line}
 
--- `own` is the client's own number of a subscription, and `rel` the relation that it asked for; `line` is a request, as a client of the
--- role wrote it
+-- `welcome` comes first, with the number of the protocol; `own` is the client's own number of a subscription, and `rel` the relation that
+-- it asked for; `line` is a request, as a client of the role wrote it
 pub data Told : Type 0 where
   welcome : (role : Name) → Told
   replied : (id : Option Data) → Reply → Told
@@ -64,9 +64,13 @@ over_data own rel cause rows = object (
 abbrev pub made_text : Name → List ℕ → List ℕ
 made_text role line = codes "{\"as\":" ++ (compact_text (string role) ++ (codes ",\"made\":" ++ (on_one_line line ++ codes "}\n")))
 
+-- the number of what clients say and are told; another says that a client has to be changed
+abbrev pub protocol : ℕ
+protocol = 1
+
 -- a reply is viewd's, but for the session
 abbrev pub told_text : Told → List ℕ
-told_text (welcome role) = text_of (object (member (codes "role") (string role) no_members))
+told_text (welcome role) = text_of (object (member (codes "protocol") (natural protocol) (member (codes "role") (string role) no_members)))
 told_text (replied id r) = text_of (with_id id (reply_members r))
 told_text (opened id own columns) = text_of (with_id id (opened_members own columns))
 told_text (fault number) = text_of (fault_data number)

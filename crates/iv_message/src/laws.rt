@@ -54,7 +54,7 @@ pub fn reasons_are_told()
 
 /// Lines worked out that a client is told.
 pub fn lines_are_told()
-    ensures welcome { told_text (welcome (codes "mia")) ≡ codes "{\"role\":\"mia\"}\n" }
+    ensures welcome { told_text (welcome (codes "mia")) ≡ codes "{\"protocol\":1,\"role\":\"mia\"}\n" }
     ensures done { told_text (replied seven machine.done) ≡ codes "{\"id\":7,\"ok\":true}\n" }
     ensures plain { told_text (replied None machine.done) ≡ codes "{\"ok\":true}\n" }
     ensures refused { told_text (replied seven (machine.refused (machine.no_such_row 1))) ≡ codes "{\"entry\":1,\"error\":16,\"id\":7}\n" }

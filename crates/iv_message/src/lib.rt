@@ -14,6 +14,6 @@ pub use ids::read_id;
 pub use message::{Id, Message, Why};
 pub use reading::{on_one_line, read_message};
 pub use telling::{
-    push_alive, push_changed, push_fault, push_granted, push_made, push_opened, push_over,
-    push_replied, push_settled, push_unasked, push_welcome,
+    PROTOCOL, push_alive, push_changed, push_fault, push_granted, push_made, push_opened,
+    push_over, push_replied, push_settled, push_unasked, push_welcome,
 };

@@ -2,7 +2,7 @@
 //!
 //! Changes are most of what is told: their lines are put together here, and the text of their rows is copied; so is the text of a
 //! request. The others are written by `serde_json`.
-ghost use Rattle.std.specs.Prelude.{◌≡◌, ◌++◌, ℤ, List, false, IfOk, OnOk, option_map, string_bytes};
+ghost use Rattle.std.specs.Prelude.{◌≡◌, ◌++◌, ℤ, List, false, IfOk, OnOk, codes, option_map, string_bytes};
 ghost use Rattle.serde_json.specs.Data.{object, string, member, no_members};
 ghost use Rattle.serde_json.specs.View.{members_view};
 ghost use Rattle.serde_json.specs.Written.{compact_text, has_float};
@@ -13,17 +13,21 @@ ghost use Rattle.iv_lines.specs.Texts.{reply_members, text_of};
 ghost use Rattle.iv_message.specs.Parts.{cause_key, own_text};
 ghost use Rattle.iv_message.specs.Seen.{id_data, why_of};
 ghost use Rattle.iv_message.specs.Told as told;
-ghost use Rattle.iv_message.specs.Told.{opened_members, told_text, why_members, with_id};
+ghost use Rattle.iv_request.specs.Values.{natural};
+ghost use Rattle.iv_message.specs.Told.{opened_members, protocol, told_text, why_members, with_id};
 
 use crate::members::{put_id, put_opened, put_reply, put_why};
 use crate::message::{Id, Why};
 use crate::reading::on_one_line;
 use itoa::Buffer;
 use iv_command::{Cause, Reply};
-use iv_lines::{put_text, text_of, write_fault};
+use iv_lines::{put_number, put_text, text_of, write_fault};
 use iv_rows::Column;
 use serde_json::{Map, Value as Json};
 use std::alloc::{AllocError, Global};
+
+/// The number of what clients say and are told: another one says that a client has to be changed.
+pub const PROTOCOL: u64 = 1;
 
 /// Appends the text of a JSON object with these members, as a line.
 fn push_members(
@@ -53,14 +57,30 @@ fn push_text(alloc: Global, text: &mut Vec<u8>, key: &str, value: &str) -> Resul
     }
 }
 
-/// Appends the first line that a client is told: its role.
+/// The members of a welcome.
+fn put_welcome(alloc: Global, members: &mut Map<String, Json>, role: &str) -> Result<(), AllocError>
+    requires { members_view members.old.entries ≡ no_members }
+    ensures { OnOk result (members_view members.new.entries ≡ member (codes "protocol") (natural protocol) (member (codes "role") (string role.now) no_members)) }
+{
+    put_number(alloc, members, "protocol", PROTOCOL)?;
+    put_text(alloc, members, "role", role)
+}
+
+/// Appends the first line that a client is told: the number of the protocol, and its role.
 ///
 /// # Errors
 /// `AllocError` if a growth of memory was refused; so it is of each of these functions.
 pub fn push_welcome(alloc: Global, text: &mut Vec<u8>, role: &str) -> Result<(), AllocError>
     ensures { OnOk result (text.new.items ≡ text.old.items ++ told_text (told.welcome role.now)) }
 {
-    push_text(alloc, text, "role", role)
+    let mut members = Map::new(alloc);
+    match put_welcome(alloc, &mut members, role) {
+        Ok(()) => push_members(alloc, text, members),
+        Err(error) => {
+            drop(members);
+            Err(error)
+        }
+    }
 }
 
 /// Appends that the client's role was granted something on a relation.

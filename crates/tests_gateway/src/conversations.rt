@@ -10,7 +10,7 @@ const SHARED: &str = r#"> come 0 admin
 > say 0 {"do":"create_table","name":"notes","owner":"admin","columns":[["id","int"],["who","text"]]}
 > say 0 {"id":1,"do":"grant","on":"notes","privileges":["select","insert"],"to":"mia"}
 > sync
-0 {"role":"admin"}
+0 {"protocol":1,"role":"admin"}
 0 {"settled":true}
 0 {"ok":true}
 0 {"as":"admin","made":{"do":"create_role","name":"mia"}}
@@ -34,13 +34,13 @@ const SHARED: &str = r#"> come 0 admin
 > sync
 0 {"ok":true}
 0 {"settled":true}
-1 {"role":"mia"}
+1 {"protocol":1,"role":"mia"}
 1 {"settled":true}
 1 {"columns":[["id","int"],["who","text"]],"id":7,"ok":true,"sub":1}
 1 {"settled":true}
 1 {"changes":[[1,[1,"ann"]]],"sub":1}
 1 {"settled":true}
-2 {"role":"mia"}
+2 {"protocol":1,"role":"mia"}
 2 {"settled":true}
 2 {"columns":[["id","int"],["who","text"]],"id":"b","ok":true,"sub":1}
 2 {"changes":[[1,[1,"ann"]]],"sub":1}
@@ -74,7 +74,7 @@ const SHARED: &str = r#"> come 0 admin
 > come 1 mia
 > say 1 {"do":"subscribe","on":"notes"}
 > sync
-1 {"role":"mia"}
+1 {"protocol":1,"role":"mia"}
 1 {"settled":true}
 1 {"columns":[["id","int"],["who","text"]],"ok":true,"sub":1}
 1 {"changes":[[1,[1,"ann"]],[1,[2,"mia"]],[1,[3,"bob"]]],"sub":1}
@@ -89,7 +89,7 @@ const REFUSED: &str = r#"> come 0 admin
 > say 0 {"do":"grant","on":"notes","privileges":["insert"],"to":"mia"}
 > come 1 mia
 > sync
-0 {"role":"admin"}
+0 {"protocol":1,"role":"admin"}
 0 {"settled":true}
 0 {"ok":true}
 0 {"as":"admin","made":{"do":"create_role","name":"mia"}}
@@ -101,7 +101,7 @@ const REFUSED: &str = r#"> come 0 admin
 0 {"ok":true}
 0 {"as":"admin","made":{"do":"grant","on":"notes","privileges":["insert"],"to":"mia"}}
 0 {"settled":true}
-1 {"role":"mia"}
+1 {"protocol":1,"role":"mia"}
 1 {"settled":true}
 > say 1 nonsense
 > say 1 [7]
@@ -170,7 +170,7 @@ const GRANTED: &str = r#"> come 0 admin
 > say 2 {"do":"subscribe","on":"notes"}
 > say 3 {"do":"subscribe","on":"notes"}
 > sync
-0 {"role":"admin"}
+0 {"protocol":1,"role":"admin"}
 0 {"settled":true}
 0 {"ok":true}
 0 {"as":"admin","made":{"do":"create_role","name":"mia"}}
@@ -184,21 +184,21 @@ const GRANTED: &str = r#"> come 0 admin
 0 {"settled":true}
 0 {"as":"leo","made":{"do":"grant","on":"notes","privileges":["select"],"to":"mia"}}
 0 {"settled":true}
-1 {"role":"mia"}
+1 {"protocol":1,"role":"mia"}
 1 {"settled":true}
 1 {"granted":"notes"}
 1 {"settled":true}
 1 {"columns":[["id","int"]],"ok":true,"sub":1}
 1 {"changes":[[1,[1]]],"sub":1}
 1 {"settled":true}
-2 {"role":"mia"}
+2 {"protocol":1,"role":"mia"}
 2 {"settled":true}
 2 {"granted":"notes"}
 2 {"settled":true}
 2 {"columns":[["id","int"]],"ok":true,"sub":1}
 2 {"changes":[[1,[1]]],"sub":1}
 2 {"settled":true}
-3 {"role":"leo"}
+3 {"protocol":1,"role":"leo"}
 3 {"settled":true}
 3 {"granted":"notes"}
 3 {"settled":true}
@@ -245,7 +245,7 @@ const GRANTED: &str = r#"> come 0 admin
 const TOKENS: &str = r#"> come 0 admin
 > say 0 {"do":"create_role","name":"mia"}
 > sync
-0 {"role":"admin"}
+0 {"protocol":1,"role":"admin"}
 0 {"settled":true}
 0 {"ok":true}
 0 {"as":"admin","made":{"do":"create_role","name":"mia"}}
@@ -262,7 +262,7 @@ const TOKENS: &str = r#"> come 0 admin
 > tokens admin mia
 > come 1 mia
 > sync
-1 {"role":"mia"}
+1 {"protocol":1,"role":"mia"}
 1 {"settled":true}
 "#;
 
@@ -277,7 +277,7 @@ const RESTORED: &str = r#"> come 0 admin
 > say 1 {"do":"write","entries":[{"on":"notes","delete":[1]}]}
 > say 1 {"do":"subscribe","on":"notes"}
 > sync
-0 {"role":"admin"}
+0 {"protocol":1,"role":"admin"}
 0 {"settled":true}
 0 {"ok":true}
 0 {"as":"admin","made":{"do":"create_role","name":"mia"}}
@@ -286,7 +286,7 @@ const RESTORED: &str = r#"> come 0 admin
 0 {"granted":"notes"}
 0 {"as":"admin","made":{"do":"create_table","name":"notes","owner":"mia","columns":[["id","int"]]}}
 0 {"settled":true}
-1 {"role":"mia"}
+1 {"protocol":1,"role":"mia"}
 1 {"settled":true}
 1 {"ok":true}
 1 {"settled":true}
@@ -305,7 +305,7 @@ restored to 296
 > say 1 {"do":"subscribe","on":"notes"}
 > say 1 {"do":"write","entries":[{"on":"notes","insert":[3]}]}
 > sync
-1 {"role":"mia"}
+1 {"protocol":1,"role":"mia"}
 1 {"settled":true}
 1 {"columns":[["id","int"]],"ok":true,"sub":1}
 1 {"changes":[[1,[2]]],"sub":1}
@@ -338,7 +338,7 @@ viewd {"changes":[[1,[2]],[1,[3]]],"session":100,"sub":1}
 > come 0 admin
 > say 0 {"do":"subscribe","on":"notes"}
 > sync
-0 {"role":"admin"}
+0 {"protocol":1,"role":"admin"}
 0 {"as":"admin","made":{"do":"create_role","name":"mia"}}
 0 {"as":"admin","made":{"do":"create_table","name":"notes","owner":"mia","columns":[["id","int"]]}}
 0 {"settled":true}
@@ -360,7 +360,7 @@ const SHAPE: &str = r#"> come 0 admin
 > say 1 {"do":"row_security","on":"notes","enable":true,"force":false}
 > say 2 {"id":5,"do":"create_policy","on":"notes","name":"few","using":"id < 7"}
 > sync
-0 {"role":"admin"}
+0 {"protocol":1,"role":"admin"}
 0 {"settled":true}
 0 {"ok":true}
 0 {"as":"admin","made":{"do":"create_role","name":"mia"}}
@@ -376,7 +376,7 @@ const SHAPE: &str = r#"> come 0 admin
 0 {"settled":true}
 0 {"as":"admin","made":{"do":"create_policy","on":"notes","name":"few","using":"id < 7"}}
 0 {"settled":true}
-1 {"role":"mia"}
+1 {"protocol":1,"role":"mia"}
 1 {"settled":true}
 1 {"granted":"notes"}
 1 {"settled":true}
@@ -389,7 +389,7 @@ const SHAPE: &str = r#"> come 0 admin
 1 {"settled":true}
 1 {"ok":true}
 1 {"settled":true}
-2 {"role":"admin"}
+2 {"protocol":1,"role":"admin"}
 2 {"as":"admin","made":{"do":"create_role","name":"mia"}}
 2 {"as":"admin","made":{ "do": "create_table", "name": "notes", "owner": "mia", "columns": [["id", "int"]] }}
 2 {"as":"mia","made":{"do":"grant","on":"notes","privileges":["select"],"to":"public"}}
@@ -403,7 +403,7 @@ const SHAPE: &str = r#"> come 0 admin
 restored to 442
 > come 3 admin
 > sync
-3 {"role":"admin"}
+3 {"protocol":1,"role":"admin"}
 3 {"as":"admin","made":{"do":"create_role","name":"mia"}}
 3 {"as":"admin","made":{ "do": "create_table", "name": "notes", "owner": "mia", "columns": [["id", "int"]] }}
 3 {"as":"mia","made":{"do":"grant","on":"notes","privileges":["select"],"to":"public"}}

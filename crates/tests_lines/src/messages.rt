@@ -36,7 +36,7 @@ const OF_TWO_LINES: &str =
     "{\"id\":-1,\n\"do\":\"unsubscribe\",\"sub\":1} => {\"id\":-1,\"ok\":true}";
 
 /// What else a client is told, by hand.
-const LINES: &str = "{\"role\":\"mia\"}
+const LINES: &str = "{\"protocol\":1,\"role\":\"mia\"}
 {\"columns\":[[\"id\",\"int\"]],\"id\":\"a\\\"\",\"ok\":true,\"sub\":1}
 {\"changes\":[[1,[7]]],\"sub\":1}
 {\"settled\":true}
