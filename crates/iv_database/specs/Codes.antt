@@ -15,6 +15,9 @@ use Rattle.iv_database.specs.Database.{Database}
 abbrev pub session_code : Coded Session
 session_code = code_by (ℕ × ℕ) (coded× coded_ℕ coded_ℕ) (λ s. (s.number, s.role)) (λ p. record { number = p.0; role = p.1 }) (λ _. refl)
 
+abbrev pub sessions_code : Coded (List Session)
+sessions_code = coded_list session_code
+
 abbrev pub weighed_code : Coded Weighed
 weighed_code = coded_list (coded× (coded_list cell_code) coded_ℤ)
 

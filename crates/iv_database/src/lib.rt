@@ -24,4 +24,5 @@ mod write;
 
 pub use changes::TableChange;
 pub use database::Database;
+pub use sessions::Sessions;
 pub use summing::sorted;

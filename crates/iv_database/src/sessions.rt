@@ -1,4 +1,4 @@
-//! Sessions and the roles that act in them: `begin`, `actor`, `end_session`.
+//! Sessions and the roles that act in them: `begin`, `actor`, `end_session`; all of them taken out (`take_sessions`), and put back.
 ghost use Rattle.std.specs.Prelude.{◌≡◌, option_map, []};
 ghost use Rattle.iv_machine.specs.State.{session_of};
 ghost use Rattle.iv_database.specs.Database.{session_acts_as, frame_of, without_session};
@@ -9,6 +9,7 @@ use crate::database::Database;
 use iv_access::RoleId;
 use iv_command::{Refusal, Stop};
 use std::marker::Model;
+use std::mem;
 
 /// A session and its role.
 #[derive(Drop)]
@@ -23,6 +24,24 @@ impl Model for Session {
     ghost Value = { Session };
 
     ghost view = { λ s. record { number = s.number; role = s.role.0 } };
+}
+
+/// Sessions that were taken out of a database, to be put back.
+#[derive(Drop)]
+pub struct Sessions {
+    open: Vec<Session>,
+}
+
+impl Model for Sessions {
+    ghost use Rattle.std.specs.Prelude.{List};
+    ghost use Rattle.iv_database.specs.Codes.{sessions_code};
+    ghost use Rattle.iv_machine.specs.State.{Session};
+
+    ghost Value = { List Session };
+
+    ghost coded = { sessions_code };
+
+    ghost view = { λ s. s.open.items };
 }
 
 /// The session of that number.
@@ -65,6 +84,22 @@ impl Database {
         ensures { self.new ≡ record self.old { sessions = [] } }
     {
         self.sessions.clear();
+    }
+
+    /// Takes all sessions out: nobody is there until they are put back.
+    pub fn take_sessions(&mut self) -> Sessions
+        ensures taken { result ≡ self.old.sessions }
+        ensures left { self.new ≡ record self.old { sessions = [] } }
+    {
+        let open = mem::replace(&mut self.sessions, Vec::new(self.alloc));
+        Sessions { open }
+    }
+
+    /// Puts sessions back, in the place of those that are there.
+    pub fn put_sessions(&mut self, sessions: Sessions)
+        ensures { self.new ≡ record self.old { sessions = sessions } }
+    {
+        self.sessions = sessions.open;
     }
 }
 

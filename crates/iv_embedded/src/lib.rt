@@ -10,4 +10,4 @@ mod shape;
 
 pub use listing::run_list;
 pub use reading::read_line;
-pub use shape::well;
+pub use shape::{well, well_fact};

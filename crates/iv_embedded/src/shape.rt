@@ -1,4 +1,4 @@
-//! `well`: whether a command keeps the rules on shape: numbers, names, texts, columns, entries.
+//! `well`, `well_fact`: whether a command, or a fact, keeps the rules on shape: numbers, names, texts, columns, entries.
 ghost use Rattle.std.specs.Prelude.{◌≡◌, ◌&&◌, ◌^◌, map, nat_le, nat_lt, option_map, string_bytes};
 ghost use Rattle.std.specs.List.{list_all};
 ghost use Rattle.iv_rows.specs.Texts.{is_well};
@@ -7,8 +7,10 @@ ghost use Rattle.iv_machine.specs.Parts.{is_between, is_group, is_positive};
 ghost use Rattle.iv_machine.specs.Well.{is_grantee, is_well_act, is_well_command, is_well_entry, is_well_policy};
 ghost use Rattle.iv_command.specs.Entries.{copies_of, op_of};
 ghost use Rattle.iv_command.specs.Views.{act_of, command_of};
+ghost use Rattle.iv_steps.specs.Steps.{is_shared, is_well_fact};
 
 use iv_command::{Act, Command, Entry, LAST_NUMBER, Op, PolicyText, has_texts};
+use iv_engine::Fact;
 use iv_rows::{columns_ok, name_ok};
 
 /// Whether the command keeps the rules on shape: numbers in their ranges, names that are names, texts that a table
@@ -20,6 +22,23 @@ pub fn well(command: &Command) -> bool
         return false;
     }
     is_well_act(&command.act)
+}
+
+/// Whether the fact keeps the rules on shape: its role has a name, and it is a request that changes what is shared and keeps them.
+pub fn well_fact(fact: &Fact) -> bool
+    ensures { result ≡ is_well_fact fact.now }
+{
+    name_ok(fact.role.as_str()) && (is_shared(&fact.act) && is_well_act(&fact.act))
+}
+
+/// Whether the request changes what is shared: roles, relations, rights, policies and rows.
+fn is_shared(act: &Act) -> bool
+    ensures { result ≡ is_shared (act_of act.now) }
+{
+    !matches!(
+        act,
+        Act::Begin { .. } | Act::Finish | Act::Subscribe { .. } | Act::Unsubscribe { .. }
+    )
 }
 
 /// Whether the number of a command's session keeps the rules on shape: 1 to 2^32 - 1.

@@ -1,6 +1,7 @@
 mod NarrowerPolicies
 mod WiderPolicies
 mod WriteSteps
+mod Left
 mod RightsSteps
 mod RevokeEnds
 mod MembershipEffects
@@ -10,3 +11,8 @@ mod RowOrder
 pub mod SoundStates
 pub mod MembershipRequests
 mod NameLookup
+mod Carried
+mod Looking
+mod Given
+mod Following
+mod Summing

@@ -1,10 +1,9 @@
 -- A change of rights as a step of the machine.
-use Rattle.std.proofs.Common.{◌≡◌, ℕ, Bool, true, false, cond, not, List, [], ◌∷◌, length, map, Option, None, Some, refl, sym, ap, subst, ◌∙◌}
+use Rattle.std.proofs.Common.{◌≡◌, ℕ, Bool, true, false, cond, not, List, [], ◌∷◌, length, map, None, Some, refl, sym, ap, subst, ◌∙◌}
 use Rattle.std.specs.Prelude.{IfSome, filter, flat_map, is_some}
 use Rattle.std.specs.List.{AllByRecursion}
 use Rattle.iv_zset.specs.Limits.{Counts}
 use Rattle.iv_algebra.specs.Plans.{Lists}
-use Rattle.iv_rows.specs.Options.{if_some}
 use Rattle.iv_access.specs.Laws.{ReachesAlike}
 use Rattle.iv_access.specs.Privileges.{first_missing}
 use Rattle.iv_roles.specs.Memberships.{Membership}
@@ -14,34 +13,33 @@ use Rattle.iv_access.specs.declared.privilege.Privilege.TheVariants.{Select}
 use Rattle.iv_machine.specs.Act as machine
 use Rattle.iv_machine.specs.Act.{Act}
 use Rattle.iv_machine.specs.Changing.{after}
-use Rattle.iv_machine.specs.Machine.{changes, difference, ending, ending_by, first_cause, line_for, lines_told as machine_line, reply_to, settled}
+use Rattle.iv_machine.specs.Machine.{changes, ending, ending_by, line_for, reply_to, settled}
 use Rattle.iv_machine.specs.Refusing.{frame_refusal, or_else, refusal, rows_refusal}
-use Rattle.iv_machine.specs.State.{State, Subscription, actor, is_within, missing_for, needs_at, plan_at, subscription_of, view_shown}
-use Rattle.iv_machine.specs.declared.Cause.{Cause}
-use Rattle.iv_machine.proofs.UniqueNumbers.{given_kept, unique_kept}
+use Rattle.iv_machine.specs.State.{State, Subscription, actor, is_within, missing_for, needs_at}
 use Rattle.iv_store.specs.Answering.{IsAccepted, seen, sent}
 use Rattle.iv_store.specs.Counting.{TurnsRounds}
 use Rattle.iv_readers.specs.Each.{Each}
 use Rattle.iv_store.specs.Found.{beside_of, total_at}
 use Rattle.iv_database.proofs.StoredFacts.{rights_stored}
-use Rattle.iv_store.specs.Store.{database_of, IsOpen, IsRoleCircuit, IsSoundStore, IsStored, IsWithin, Store, at, frame_of, is_read, may_read, place_of, role_reads, shown_rows, with_rights}
+use Rattle.iv_store.specs.Store.{database_of, IsOpen, IsRoleCircuit, IsSoundStore, IsStored, Store, at, frame_of, is_read, may_read, place_of, role_reads, shown_rows, with_rights}
 use Rattle.iv_readers.specs.Readers.{RoleCircuit}
 use Rattle.iv_store.specs.Rounds.{rounds_of}
 use Rattle.iv_store.specs.Engine.{IsBehind}
 use Rattle.iv_database.specs.Stands.{Stands}
-use Rattle.iv_store.specs.Turned.{AreReadersTold, AreShowed, AreWaiting, IsOther, IsStill, WasRead, stays_open, turned_by, turned_line}
+use Rattle.iv_store.specs.Turned.{AreReadersTold, AreShowed, AreWaiting, IsOther, IsStill, WasRead, stays_open, turned_line}
 use Rattle.iv_command.specs.Views.{line_of, reply_of}
 use Rattle.iv_command.specs.declared.answer.Answer.{Answer}
 use Rattle.iv_store.proofs.Beside.{beside_each}
-use Rattle.iv_store.proofs.RelationCircuits.{bag_for, same_circuit}
+use Rattle.iv_store.proofs.RelationCircuits.{bag_for}
 use Rattle.iv_store.proofs.SubscriptionRounds.{IsBeside, all_beside, those_counted}
 use Rattle.iv_store.proofs.FilteredLists.{all_kept, all_pass}
-use Rattle.iv_store.proofs.SubscriptionViews.{each_found, kept_found, kept_one, lists_behind, shown_is, stands_behind}
+use Rattle.iv_store.proofs.SubscriptionViews.{lists_behind, stands_behind}
 use Rattle.iv_readers.proofs.Lists.{all_map, all_zip}
 use Rattle.iv_store.proofs.Sound.{has_same}
-use Rattle.iv_store.proofs.RequestSteps.{no_refusal, same_lines}
+use Rattle.iv_store.proofs.RequestSteps.{no_refusal}
 use Rattle.iv_store.proofs.Totals.{total_counts}
 use Rattle.iv_store.proofs.Unread.{read_has}
+use Rattle.iv_engine.proofs.Left.{if_found, left_sound, still_reads, turned_lines}
 
 -- ---- what a role may read
 
@@ -75,20 +73,6 @@ module _ (F : ℕ → ℕ → Bool) where
   flag_beside e s there =
       let role = actor (frame_of e) s.session in
       beside_each role s.rel false (λ k b. b ≡ F k.role k.rel) (λ b. b ≡ F role s.rel) (λ k b x y is. is ∙ (λ i. F (x i) (y i))) e.circuits (flags_of e.circuits) (each_flag e.circuits) there
-
--- why a subscription stays open
-still_reads : (m w : Bool) → not (is_some (first_cause m w)) ≡ true → not m ≡ true
-still_reads true w h = cc
-still_reads false w h = refl
-
-still_within : (m w : Bool) → not (is_some (first_cause m w)) ≡ true → w ≡ true
-still_within true w h = cc
-still_within false true h = refl
-still_within false false h = cc
-
-if_found : (o : Option ℕ) (P : ℕ → Type 0) → ((i : ℕ) → o ≡ Some i → P i) → IfSome o P
-if_found None P go = tt
-if_found (Some i) P go = go i refl
 
 each_of : (P : Subscription → Type 0) (ss : List Subscription) → ((s : Subscription) → P s) → AllByRecursion P ss
 each_of P [] go = tt
@@ -124,15 +108,6 @@ module _ (e : Store) (ms : List Membership) (us : List Guard) (gs : List Grant) 
     shows = all_map (IsOpen e) (IsOpen c) e.subscriptions (λ s o. record { session = o.session; known = o.known }) h.shows;
   }
 
-  -- those that stay open
-  kept_stored : (p : Subscription → Bool) (cs : List RoleCircuit) → IsStored c → IsStored (record c { subscriptions = filter p e.subscriptions; circuits = cs })
-  kept_stored p cs h = record {
-    numbers = record { unique = unique_kept p e.subscriptions h.numbers.unique; given = given_kept e.last p e.subscriptions h.numbers.given };
-    database = h.database;
-    shows = let new : Store = record c { subscriptions = filter p e.subscriptions; circuits = cs } in
-        all_kept (IsOpen new) p e.subscriptions (all_map (IsOpen c) (IsOpen new) e.subscriptions (λ s o. record { session = o.session; known = o.known }) h.shows);
-  }
-
   -- ---- what is asked of the state in which readers are told
 
   were_read : IsSoundStore e → AllByRecursion (WasRead c) c.circuits
@@ -152,59 +127,6 @@ module _ (e : Store) (ms : List Membership) (us : List Guard) (gs : List Grant) 
 
   pub waiting : (F : ℕ → ℕ → Bool) → StaysStill F → IsStored c → IsSoundStore e → AreWaiting c (flags_of F e.circuits)
   waiting F still stored h = record { stored = stored; were = were_read h; others = others F still h; there = h.there }
-
-  -- ---- those that stay, and the lines
-
-  module _ (h : IsSoundStore e) where
-    module _ (T : Lists) where
-      abbrev left : Store
-      left = record c { subscriptions = filter (stays_open c T) e.subscriptions }
-
-      line_by : (s : Subscription) (why : Option Cause) → machine_line why s (difference (shown_rows e T s) (if_some (cond (not (is_some why)) (Some s) None) [] (view_shown (at left T)))) ≡ turned_by why s (shown_rows e T s) (shown_rows c T s)
-      line_by s None = refl
-      line_by s (Some why) = refl
-
-      record Found (s : Subscription) : Type 0 where
-        before : subscription_of e.subscriptions s.number ≡ Some s
-        after : subscription_of (filter (stays_open c T) e.subscriptions) s.number ≡ kept_one (stays_open c T) s
-
-      line_is : (s : Subscription) → Found s → line_for (at e T) (at left T) (ending (at c T)) s ≡ turned_line c T s (shown_rows e T s)
-      line_is s x = (λ i. machine_line (ending (at c T) s) s (difference (shown_is e T s x.before i) (if_some (x.after i) [] (view_shown (at left T))))) ∙ line_by s (ending (at c T) s)
-
-      found : AllByRecursion Found e.subscriptions
-      found = all_zip (λ s. subscription_of e.subscriptions s.number ≡ Some s) (λ s. subscription_of (filter (stays_open c T) e.subscriptions) s.number ≡ kept_one (stays_open c T) s) Found e.subscriptions
-          (λ s a b. record { before = a; after = b }) (each_found e.subscriptions h.stored.numbers.unique) (kept_found (stays_open c T) e.subscriptions h.stored.numbers.unique)
-
-      lines_are : flat_map (line_for (at e T) (at left T) (ending (at c T))) e.subscriptions ≡ flat_map (λ s. turned_line c T s (shown_rows e T s)) e.subscriptions
-      lines_are = same_lines (line_for (at e T) (at left T) (ending (at c T))) (λ s. turned_line c T s (shown_rows e T s)) e.subscriptions
-          (all_map Found (λ s. line_for (at e T) (at left T) (ending (at c T)) s ≡ turned_line c T s (shown_rows e T s)) e.subscriptions line_is found)
-
-    -- ---- the state afterwards
-
-    each_within : (ks : List Subscription) → ((T : Lists) → Stands T e.tables → AllByRecursion (λ s. is_within (at c T) s ≡ true) ks) → AllByRecursion (IsWithin c) ks
-    each_within [] all = tt
-    each_within (s ∷ ks) all = (λ T stands. (all T stands).0, each_within ks (λ T stands. (all T stands).1))
-
-    abbrev lacks : Subscription → Bool
-    lacks s = is_some (missing_for (frame_of c) (actor (frame_of c) s.session) s.rel)
-
-    left_sound : (ks : List Subscription) (cs : List RoleCircuit) → IsStored c → ((T : Lists) → Stands T e.tables → ks ≡ filter (stays_open c T) e.subscriptions) → AllByRecursion (IsRoleCircuit c) cs
-        → AllByRecursion (λ s. is_some (place_of (record c { subscriptions = ks; circuits = cs }) s) ≡ true) ks
-        → AllByRecursion (λ k. is_read (frame_of (record c { subscriptions = ks; circuits = cs })) k ≡ true) cs → IsSoundStore (record c { subscriptions = ks; circuits = cs })
-    left_sound ks cs stored keeps circuits there read =
-        let T = lists_behind e in
-        let is = keeps T (stands_behind e h.stored) in
-        record {
-          stored = subst (λ (xs : List Subscription). IsStored (record c { subscriptions = xs; circuits = cs })) (sym is) (kept_stored (stays_open c T) cs stored);
-          served = subst (AllByRecursion (λ s. may_read c s ≡ true)) (sym is)
-              (all_map (λ s. stays_open c T s ≡ true) (λ s. may_read c s ≡ true) (filter (stays_open c T) e.subscriptions) (λ s o. still_reads (lacks s) (is_within (at c T) s) o) (all_pass (stays_open c T) e.subscriptions));
-          within = each_within ks (λ U stands. subst (AllByRecursion (λ s. is_within (at c U) s ≡ true)) (sym (keeps U stands))
-              (all_map (λ s. stays_open c U s ≡ true) (λ s. is_within (at c U) s ≡ true) (filter (stays_open c U) e.subscriptions) (λ s o. still_within (lacks s) (is_within (at c U) s) o) (all_pass (stays_open c U) e.subscriptions)));
-          circuits = all_map (IsRoleCircuit c) (IsRoleCircuit (record c { subscriptions = ks; circuits = cs })) cs
-              (λ k i. record { known = i.known; is = same_circuit c ks cs e.last k.role (plan_at e.catalog k.rel) k.circuit i.is; opened = i.opened }) circuits;
-          there = there;
-          read = read;
-        }
 
   -- ---- the step
 
@@ -230,7 +152,7 @@ module _ (e : Store) (ms : List Membership) (us : List Guard) (gs : List Grant) 
       act_sent : sent e T n act ≡ flat_map (λ s. turned_line c T s (shown_rows e T s)) e.subscriptions
       act_sent = (λ i. changes act (at e T) (g.after T i) (settled act (g.after T i)))
           ∙ (λ i. flat_map (line_for (at e T) (at (record c { subscriptions = filter (λ s. not (is_some (g.ends (at c T) i s))) e.subscriptions }) T) (g.ends (at c T) i)) e.subscriptions)
-          ∙ lines_are h T
+          ∙ turned_lines e c h.stored.numbers.unique T T
 
       act_refusal : frame_refusal (frame_of e) n act ≡ None → refusal (at e T) n act ≡ None
       act_refusal passed = (λ i. or_else (passed i) (g.rows T i))
@@ -258,7 +180,7 @@ module _ (e : Store) (ms : List Membership) (us : List Guard) (gs : List Grant) 
         let left : (T : Lists) → Stands T e.tables → ks ≡ filter (stays_open c T) e.subscriptions = told.left in
         let sent : (T : Lists) → Stands T e.tables → map line_of a.changes.items ≡ flat_map (λ s. turned_line c T s (shown_rows e T s)) e.subscriptions = λ T stands.
         told.told T stands (shown_rows e T) (all_showed T stands) in
-        let kept : IsSoundStore new = subst IsSoundStore (sym told.state) (left_sound h ks cs g.stored left told.circuits
+        let kept : IsSoundStore new = subst IsSoundStore (sym told.state) (left_sound c g.stored ks cs left told.circuits
         (subst (λ (v : Store). AllByRecursion (λ s. is_some (place_of v s) ≡ true) ks) told.state told.there)
         (subst (λ (v : Store). AllByRecursion (λ k. is_read (frame_of v) k ≡ true) cs) told.state told.read)) in
         let T = lists_behind e in

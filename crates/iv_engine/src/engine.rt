@@ -49,7 +49,7 @@ pub struct Engine {
     /// Rights, tables, sessions and subscriptions.
     pub(crate) store: Store,
     /// Whether a growth of memory was refused, after which no command is answered.
-    failed: bool,
+    pub(crate) failed: bool,
 }
 
 impl Model for Engine {

@@ -2,12 +2,15 @@
 #![tactic(auto)]
 
 mod engine;
+mod facts;
 mod known;
 mod memberships;
 mod policies;
 mod privileges;
 mod step;
+mod sums;
 mod write;
 
 pub use engine::{Engine, EngineFault};
+pub use facts::{Fact, StepFault};
 pub use iv_zset::Seed;

@@ -39,7 +39,7 @@ fn text_of(name: &Option<String>) -> Option<&str>
 }
 
 /// Makes the tests of a request, and the change if all pass.
-fn act(store: &mut Store, session: u32, act: Act) -> Result<Answer, Stop>
+pub(crate) fn act(store: &mut Store, session: u32, act: Act) -> Result<Answer, Stop>
     requires well { is_well_act (act_of act) ≡ true }
     requires sound { IsSoundStore store.old }
     ensures { IsStep store.old session (act_of act) result store.new }

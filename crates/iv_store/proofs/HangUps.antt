@@ -4,6 +4,7 @@ use Rattle.std.proofs.Common.{◌≡◌, ◌∙◌, Bool, [], suc, ap, subst, sy
 use Rattle.iv_machine.specs.Machine.{hung}
 use Rattle.iv_machine.specs.State.{Frame, State}
 use Rattle.iv_database.proofs.StoredFacts.{sessions_stored}
+use Rattle.iv_store.specs.Aside.{nobody_in}
 use Rattle.iv_store.specs.Store.{database_of, IsSoundStore, Store}
 use Rattle.iv_store.specs.Rounds.{rounds_of}
 use Rattle.iv_store.specs.Engine.{Engine, IsBehind, hung_up}
@@ -23,6 +24,21 @@ closed_shown e k failed h = ap (λ (v : Store). shown_by v failed) h
 
 pub all_closed : (e : Store) → IsSoundStore e → IsSoundStore (without_sessions e)
 all_closed e h = record {
+  stored = record {
+    numbers = record { unique = tt; given = tt };
+    database = sessions_stored (database_of e) h.stored.database [] tt;
+    shows = tt;
+  };
+  served = tt;
+  within = tt;
+  circuits = tt;
+  there = tt;
+  read = tt;
+}
+
+-- and the last number may be forgotten
+pub nobody_sound : (e : Store) → IsSoundStore e → IsSoundStore (nobody_in e)
+nobody_sound e h = record {
   stored = record {
     numbers = record { unique = tt; given = tt };
     database = sessions_stored (database_of e) h.stored.database [] tt;

@@ -26,6 +26,7 @@ pub mod PreparedCircuits
 mod WriteChanges
 mod NewCircuits
 mod ListPairs
+pub mod Due
 pub mod SubscriptionRounds
 mod OpenCircuit
 pub mod Touches

@@ -1,5 +1,6 @@
 -- Lists walked one by one: what holds at a place, and a second list that grows beside the first.
-use Rattle.std.proofs.Common.{◌≡◌, ℕ, zero, suc, ◌+◌, ◌<◌, ◌≤◌, List, [], ◌∷◌, ◌++◌, length, map, take, get_or, sym, ap, subst, ◌∙◌, arith}
+use Rattle.std.proofs.Common.{◌≡◌, ℕ, zero, suc, ◌+◌, ◌<◌, ◌≤◌, Bool, true, List, [], ◌∷◌, ◌++◌, length, map, replicate, take, get_or, refl, sym, ap, subst, ◌∙◌, arith}
+use Rattle.std.proofs.lemmas.Simd.{splat_is_map}
 use Rattle.std.proofs.lemmas.List.{map-append, take_all, take_more}
 use Rattle.std.specs.List.{AllByRecursion}
 use Rattle.iv_readers.specs.Each.{Each}
@@ -41,3 +42,18 @@ module _ {X Y : Type 0} (P : X → Y → Type 0) where
   -- two lists without an element
   pub each_none : (xs : List X) (ys : List Y) → xs ≡ [] → ys ≡ [] → Each P xs ys
   each_none xs ys a b = subst (λ (us : List X). Each P us ys) (sym a) (subst (λ (vs : List Y). Each P [] vs) (sym b) tt)
+
+-- ---- a flag for each
+
+take_none : (n : ℕ) → take {A = Bool} n [] ≡ []
+take_none zero = refl
+take_none (suc n) = refl
+
+pub all_true : {X : Type 0} (xs : List X) (n m : ℕ) (old new : List Bool) → old ≡ [] → m ≡ length xs → new ≡ take n old ++ replicate m true → new ≡ map (λ x. true) xs
+all_true xs n m old new none long is =
+    is ∙ (λ i. take n (none i) ++ replicate m true) ∙ ap (λ (bs : List Bool). bs ++ replicate m true) (take_none n) ∙ splat_is_map xs m true (sym long)
+
+-- what holds of each holds beside what stands for it
+pub each_map : {X Y : Type 0} (P : X → Y → Type 0) (f : X → Y) (xs : List X) → ((x : X) → P x (f x)) → Each P xs (map f xs)
+each_map P f [] go = tt
+each_map P f (x ∷ xs) go = (go x, each_map P f xs go)

@@ -21,13 +21,13 @@ use Rattle.iv_machine.specs.Machine.{lines_told as machine_line}
 use Rattle.iv_rows.specs.Options.{if_some}
 use Rattle.iv_machine.specs.State.{Session, Subscription, actor, is_open, session_of}
 use Rattle.iv_store.specs.Found.{beside}
-use Rattle.iv_store.specs.Store.{IsOpen, IsRoleCircuit, IsSoundStore, Store, frame_of, is_read, place_of}
+use Rattle.iv_store.specs.Store.{IsOpen, Store, frame_of, place_of}
 use Rattle.iv_readers.specs.Readers.{RoleCircuit, is_for}
 use Rattle.iv_readers.specs.Changes.{HasTaken, IsMadeOf, TookChange, has_no_rows, places_in, prepared_for, rows_at, spread}
 use Rattle.iv_store.specs.Moved.{line_by}
 use Rattle.iv_readers.specs.Rows.{shared_rows}
 use Rattle.iv_store.specs.Taken.{AreChangesGiven, ArePreparedFor}
-use Rattle.iv_store.specs.Touching.{AreFoundAmong, AreMadeAt, IsFoundAmong, IsMadeAt, at_for, line_at, place_among, readers_of}
+use Rattle.iv_store.specs.Touching.{AreFoundAmong, AreMade, AreMadeAt, IsFoundAmong, IsMadeAt, at_for, line_at, place_among, readers_of}
 use Rattle.iv_readers.specs.Touching.{ArePlaces, AreRisingFrom, IsPlace, rels_of, touches}
 use Rattle.iv_readers.specs.declared.changes.Prepared.{Prepared}
 use Rattle.iv_store.specs.declared.touching.Reader.{Reader}
@@ -99,7 +99,7 @@ module _ (given : Given) (ts : List ℕ) (others : (t : ℕ) → list_any (λ s.
         by false e go = go (ap (λ b. b || list_any (λ j. j == at) is) (sym (sym same ∙ e)) ∙ any)
 
 -- the tables that do not change are given nothing
-no_change : (t : ℕ) (cs : List Change) → list_any (λ s. t == s) (map (λ c. c.rel) cs) ≡ false → change_at cs t ≡ []
+pub no_change : (t : ℕ) (cs : List Change) → list_any (λ s. t == s) (map (λ c. c.rel) cs) ≡ false → change_at cs t ≡ []
 no_change t [] h = refl
 no_change t (c ∷ cs) h = by (t == c.rel) refl h (no_change t cs)
   where
@@ -138,7 +138,7 @@ by_reader e given (i ∷ is) (p ∷ ps) h =
     (λ k. Each (λ j q. (q.place ≡ j) × (k.at ≡ j → IsMadeOf given k.circuit q)) (i ∷ is) (p ∷ ps)) e.circuits
     (λ k m r. ((h.0.place, m), r)) h.0.made (by_reader e given is ps h.1)
 
-each_place : (e : Store) (given : Given) (is : List ℕ) (ps : List Prepared) → Each (IsMadeAt e given) is ps → places_in ps ≡ is
+pub each_place : (e : Store) (given : Given) (is : List ℕ) (ps : List Prepared) → Each (IsMadeAt e given) is ps → places_in ps ≡ is
 each_place e given [] [] h = refl
 each_place e given [] (p ∷ ps) h = absurd h
 each_place e given (i ∷ is) [] h = absurd h
@@ -148,25 +148,24 @@ pub made_places : (e : Store) (given : Given) (is : List ℕ) (all : Option (Vec
 made_places e given is None made = tt
 made_places e given is (Some ps) made = each_place e given is ps.items made
 
-module _ (e : Store) (changes : List Change) (given : Given) (is : AreChangesGiven given changes) (places : List ℕ) (at : ArePlaces (map (λ c. c.rel) changes) e.circuits places) where
-  abbrev tables : List ℕ
-  tables = map (λ c. c.rel) changes
+-- what was made at the places of the circuits that scan one of the tables, where nothing is given for others
+pub prepared_by : (e : Store) (given : Given) (tables : List ℕ) → ((t : ℕ) → list_any (λ s. t == s) tables ≡ false → given t ≡ []) → (places : List ℕ) → ArePlaces tables e.circuits places
+    → (ps : List Prepared) → Each (IsMadeAt e given) places ps → AreMade e given ps
+prepared_by e given tables others places at ps made =
+    let same : places_in ps ≡ places = each_place e given places ps made in
+    record {
+      rise = subst (AreRisingFrom 0) (sym same) at.rise;
+      read = subst (AllByRecursion (IsPlace e.circuits)) (sym same) at.read;
+      made = each_spread (λ k p. IsMadeOf given k.circuit p) ps e.circuits
+          (all_zip (λ k. Each (λ i p. (p.place ≡ i) × (k.at ≡ i → IsMadeOf given k.circuit p)) places ps) (λ k. list_any (λ i. i == k.at) places ≡ touches tables k.circuit)
+          (λ k. IsMadeOf given k.circuit (prepared_for k.at ps)) e.circuits
+          (λ k m any. made_for given tables others k.circuit k.at places ps m any) (by_reader e given places ps made) at.each);
+    }
 
+module _ (e : Store) (changes : List Change) (given : Given) (is : AreChangesGiven given changes) (places : List ℕ) (at : ArePlaces (map (λ c. c.rel) changes) e.circuits places) where
   pub prepared_all : (all : Option (Vec Prepared)) → AreMadeAt e given places all → ArePreparedFor e changes all
   prepared_all None made = (given, is, made)
-  prepared_all (Some ps) made =
-      let same : places_in ps.items ≡ places = each_place e given places ps.items made in (
-        given,
-        is,
-        record {
-          rise = subst (AreRisingFrom 0) (sym same) at.rise;
-          read = subst (AllByRecursion (IsPlace e.circuits)) (sym same) at.read;
-          made = each_spread (λ k p. IsMadeOf given k.circuit p) ps.items e.circuits
-              (all_zip (λ k. Each (λ i p. (p.place ≡ i) × (k.at ≡ i → IsMadeOf given k.circuit p)) places ps.items) (λ k. list_any (λ i. i == k.at) places ≡ touches tables k.circuit)
-              (λ k. IsMadeOf given k.circuit (prepared_for k.at ps.items)) e.circuits
-              (λ k m any. made_for given tables (given_none given changes is) k.circuit k.at places ps.items m any) (by_reader e given places ps.items made) at.each);
-        },
-      )
+  prepared_all (Some ps) made = (given, is, prepared_by e given (map (λ c. c.rel) changes) (given_none given changes is) places at ps.items made)
 
 -- where no circuit scans one of the tables, nothing is prepared
 pub none_prepared : (e : Store) (changes : List Change) (places : List ℕ) (ps : Vec Prepared) → ps.items ≡ [] → places ≡ [] → ((t : ℕ) → IsZSet (change_at changes t))
@@ -176,36 +175,13 @@ none_prepared e changes places ps none no_places zsets at =
     prepared_all e changes given (record { zsets = zsets; same = λ t q. refl }) places at (Some ps)
     (subst (λ is. Each (IsMadeAt e given) is ps.items) (sym no_places) (subst (Each (IsMadeAt e given) []) (sym none) tt))
 
--- ---- who reads at a place
-
--- the circuit of some role
-pub record IsReadBy (e : Store) (c : Running) : Type 0 where
-  pub reader : RoleCircuit
-  pub circuit : c ≡ reader.circuit
-  pub is : IsRoleCircuit e reader
-  pub read : is_read (frame_of e) reader ≡ true
-
-pub read_at : (e : Store) (i : ℕ) (c : Running) → IsSoundStore e → IsPlace e.circuits i → AllByRecursion (λ k. k.at ≡ i → c ≡ k.circuit) e.circuits → IsReadBy e c
-read_at e i c sound place same = among e.circuits place same sound.circuits sound.read
-  where
-    clash : false ≡ true → ⊥
-    clash q = cc
-
-    among : (ks : List RoleCircuit) → IsPlace ks i → AllByRecursion (λ k. k.at ≡ i → c ≡ k.circuit) ks → AllByRecursion (IsRoleCircuit e) ks → AllByRecursion (λ k. is_read (frame_of e) k ≡ true) ks → IsReadBy e c
-    among [] h s a r = absurd (clash h)
-    among (k ∷ ks) h s a r = by (k.at == i) refl h (λ q. among ks q s.1 a.1 r.1)
-      where
-        by : (b : Bool) → (k.at == i) ≡ b → (b || list_any (λ x. x.at == i) ks) ≡ true → (IsPlace ks i → IsReadBy e c) → IsReadBy e c
-        by true t q go = record { reader = k; circuit = s.0 (same_number k.at i t); is = a.0; read = r.0 }
-        by false t q go = go q
+-- ---- at a place
 
 pub made_at : (e : Store) (given : Given) (i : ℕ) (p : Prepared) (c : Running) → p.place ≡ i → IsMadeOf given c p → AllByRecursion (λ k. k.at ≡ i → c ≡ k.circuit) e.circuits → IsMadeAt e given i p
 made_at e given i p c place made same = record {
   place = place;
   made = all_map (λ k. k.at ≡ i → c ≡ k.circuit) (λ k. k.at ≡ i → IsMadeOf given k.circuit p) e.circuits (λ k is here. subst (λ x. IsMadeOf given x p) (is here) made) same;
 }
-
--- ---- at a place
 
 -- none of a place below all
 rows_none : (i m : ℕ) (ps : List Prepared) → i < m → AreRisingFrom m (places_in ps) → rows_at i ps ≡ []

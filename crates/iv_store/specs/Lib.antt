@@ -10,6 +10,8 @@ pub mod Built
 pub mod Moved
 pub mod Touching
 pub mod Turned
+pub mod Aside
+pub mod Followed
 pub mod Concerned
 pub mod Finished
 pub mod Openable

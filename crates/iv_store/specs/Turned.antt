@@ -1,4 +1,4 @@
--- What readers see more and less if rights change, and which subscriptions end.
+-- What readers see more and less if rights or rows change, and which subscriptions end.
 use Rattle.std.specs.Prelude.{◌≡◌, ℕ, ◌<◌, ◌≤◌, Bool, cond, true, false, not, List, [], ◌∷◌, ◌++◌, filter, flat_map, get_or, length, map, Option, None, Some, IfSome, is_some}
 use Rattle.iv_access.specs.Rights.{Rights}
 use Rattle.std.specs.List.{AllByRecursion}
@@ -32,6 +32,12 @@ use Rattle.iv_readers.specs.Turning.{Turn, Same, Anew, whole_at, circuit_after, 
 
 -- ---- circuits
 
+-- it shows rows, each as often as it shows it, and was opened to whom it says
+pub record WasShown (e : Store) (k : RoleCircuit) : Type 0 where
+  pub known : k.rel < length e.catalog
+  pub bag : IsBag (total_of k.circuit.node)
+  pub opened : WereOpened k
+
 -- it is that of what was shown before rights changed
 pub record WasRead (e : Store) (k : RoleCircuit) : Type 0 where
   pub known : k.rel < length e.catalog
@@ -53,6 +59,14 @@ IsOther e k concerned = concerned ≡ false → IsStill e k
 pub record AreWaiting (e : Store) (concerned : List Bool) : Type 0 where
   pub stored : IsStored e
   pub were : AllByRecursion (WasRead e) e.circuits
+  pub others : Each (IsOther e) e.circuits concerned
+  pub there : AllByRecursion (λ s. is_some (place_of e s) ≡ true) e.subscriptions
+
+-- the same if `moved` tells that rows may have changed too
+pub record AreWaitingFor (e : Store) (concerned : List Bool) (moved : Bool) : Type 0 where
+  pub stored : IsStored e
+  pub shown : AllByRecursion (WasShown e) e.circuits
+  pub were : moved ≡ false → AllByRecursion (WasRead e) e.circuits
   pub others : Each (IsOther e) e.circuits concerned
   pub there : AllByRecursion (λ s. is_some (place_of e s) ≡ true) e.subscriptions
 
@@ -157,7 +171,7 @@ pub record AreSettled (e : Store) (turns : List Turn) (kept : List Subscription)
 abbrev pub stays_open : Store → Lists → Subscription → Bool
 stays_open e T s = not (is_some (ending (at e T) s))
 
--- the line of what it shows more and less; where it ends, the last, which takes all back
+-- the line of what it shows more and less; if it ends, the last, which takes all back
 abbrev pub turned_by : Option Cause → Subscription → (old new : List Cells) → List machine.Line
 turned_by None s old new = machine_line None s (difference old new)
 turned_by (Some why) s old new = machine_line (Some why) s (difference old [])

@@ -4,15 +4,19 @@
 //! that refuse memory.
 #![tactic(auto)]
 
+mod aside;
 mod changes;
 mod circuits;
 mod concerned;
+mod following;
 mod lines;
 mod store;
 mod subscriptions;
 mod touching;
 mod turns;
 
+pub use aside::Aside;
+pub use changes::add_changes;
 pub use lines::lines_of;
 pub use store::Store;
 pub use subscriptions::Subscription;

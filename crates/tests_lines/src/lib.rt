@@ -15,3 +15,5 @@ mod messages;
 mod refused;
 #[cfg(test)]
 mod replayed;
+#[cfg(test)]
+mod stepped;

@@ -174,7 +174,7 @@ pub fn many_copies_compute()
     ensures no_sums { (c : ℕ) → c ≡ 2 ^ 62 → Computes copies.unread (copies.no_sums c) }
 {}
 
-/// A step is told by the states before and after it, and is not taken if a fact is refused.
+/// A step is told by the states before and after it, and is not taken if a fact is refused: the first of these is told.
 pub fn steps_compute()
     ensures nothing { steps.Tells [] (Some []) }
     ensures taken_and_given { steps.Tells steps.taken_and_given (Some []) }
@@ -184,4 +184,7 @@ pub fn steps_compute()
     ensures hidden_row { steps.Tells steps.hidden_row (Some []) }
     ensures without_right { steps.Tells steps.without_right None }
     ensures of_session { steps.Tells steps.of_session None }
+    ensures accepted { steps.Refuses steps.two_rows None }
+    ensures refused { steps.Refuses steps.without_right steps.second_lacks_insert }
+    ensures of_nobody { steps.Refuses steps.of_nobody steps.first_has_no_role }
 {}
