@@ -34,7 +34,7 @@ pub record IsReplaying (g : Gate) (es : List Entry) (x : Gateway) : Type 0 where
   pub leads : LeadOn g es now
   pub gate : IsAlive (record now { forgiven = 0 }) x
 
--- the entry leads on behind them, or does not
+-- the entry leads on after them, or does not
 abbrev pub IsReplayed : Gate → List Entry → Entry → Bool → Gateway → Type 0
 IsReplayed g es e true x = IsReplaying g (es ++ e ∷ []) x
 IsReplayed g es e false x = (h : Gate) → LeadOn g (es ++ e ∷ []) h → ⊥
@@ -53,7 +53,7 @@ IsRecordReplayed g es lines None x = (e : Entry) (more : List Line) (h : Gate) �
 
 -- ---- within an entry
 
--- behind these, a part of an entry is done
+-- after these, a part of an entry is done
 abbrev pub within : Gate → List Entry → Entry → Gate
 within g es e = record g { entries = es ++ e ∷ []; kept = length es + 1; forgiven = 0 }
 
