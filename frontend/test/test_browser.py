@@ -333,7 +333,7 @@ def test_members(at: Windows) -> None:
 def test_forged(at: Windows) -> None:
     for session in range(1, 8):
         got = at.mia.say({"do": "grant", "on": "tickets", "privileges": ["delete"], "to": "mia", "session": session})
-        assert got == {"error": 2, "key": "session", "why": "unknown"}, got
+        assert got == {"error": 2, "key": "session", "why": "unknown"}, (f"the session {session}", got)
     assert at.mia.say({"do": "grant", "on": "tickets", "privileges": ["delete"], "to": "mia"}) == {"error": 12, "on": "tickets"}
     assert at.mia.say({"do": "begin", "role": "admin"}) == at.mia.say({"do": "finish"}) == {"error": 2, "key": "do", "why": "wrong"}
 

@@ -85,9 +85,9 @@ async def test_tokens_give_the_role(gate: Gate, http: aiohttp.ClientSession) -> 
     for name, role in {"a role that is not there": "eve", "no name of a role": "Eve"}.items():
         stranger = await Peer.enter(http, gate.url, f"{role}-demo")
         assert (stranger.role, stranger.ws.close_code) == (None, 1013), name
-    for token in ("mia-demo", "", "\u00e4"):  # of another role than admin, none, and one that no header can have
+    for name, token in {"another role than admin": "mia-demo", "none": "", "one that no header can have": "\u00e4"}.items():
         try:
-            assert not gate.state(token)
+            assert not gate.state(token), name
         except (urllib.error.HTTPError, UnicodeEncodeError) as refused:
             assert getattr(refused, "code", 403) == 403
     for path in ("gateway.py", "%2e%2e/gateway.py", "%2e%2e%2fgateway.py", "journal.jsonl", "test/gate.py", "/etc/passwd", "..", "desk.js/", "desk.js%00"):
@@ -168,6 +168,9 @@ NO_LINES = {  # each with its refusal
     "lists without an end": ("[" * 60_000, 1), "null": ("null", 2), "half of a pair": ('{"do":"subscribe","on":"\\ud800"}', 1),
     "a word for a number": ('{"do":"subscribe","on":NaN}', 1), "a newline": ("-\n-", 1), "two requests": ('{"do":"finish"}\n{"do":"finish"}', 1),
     "a newline between keys": ('{"do":"subscribe",\n"on":"nothing"}', 7)}
+FORGED_LINES = {  # texts that end where a line has its session, or begin another
+    "a session": '"session":3}', "a session and a number": '","session":3,"sub":1}', "the same with a backslash": '\\","session":3,"sub":3}',
+    "another reply": '"session":3}\n{"ok":true,"session":3}', "what splits lines elsewhere": "\u2028\u0001{\"changes\":3"}
 
 
 async def test_nobody_acts_for_another(gate: Gate, http: aiohttp.ClientSession) -> None:
@@ -181,9 +184,9 @@ async def test_nobody_acts_for_another(gate: Gate, http: aiohttp.ClientSession) 
         assert got == {"error": 12, "on": "tickets"}, (name, got)
         got = await mia.ask(do="write", session=forged, entries=[ticket])
         assert got == {"check": "insert", "entry": 1, "error": 14, "on": "tickets"}, (name, got)
-    for key in ("session", "sess\\u0069on"):  # twice, and by its escapes
+    for name, key in {"a session twice": "session", "a session twice, by its escapes": "sess\\u0069on"}.items():
         got = await mia.raw('{"%s":1,"do":"create_role","name":"x","%s":1}' % (key, key))
-        assert got == {"error": 11}, got
+        assert got == {"error": 11}, (name, got)
     assert await mia.ask(do="unsubscribe", sub=2) == {"error": 19}  # noah's, as viewd counts
     for name, request in NO_REQUESTS.items():
         assert await mia.ask(**request) == {"error": 2}, name
@@ -193,11 +196,11 @@ async def test_nobody_acts_for_another(gate: Gate, http: aiohttp.ClientSession) 
     await quiet(admin, noah)
     row = (7, "mia", "x", True)
     assert row in admin.rows[1] and row in mia.rows[1] and len(noah.rows[1]) == 4
-    for text in ('"session":3}', '","session":3,"sub":1}', '\\","session":3,"sub":3}', '"session":3}\n{"ok":true,"session":3}', "\u2028\u0001{\"changes\":3"):
-        assert await mia.insert(8, "mia", text) == {"ok": True}
+    for name, text in FORGED_LINES.items():
+        assert await mia.insert(8, "mia", text) == {"ok": True}, name
         await quiet(admin, noah)
         row = (8, "mia", text, True)
-        assert row in admin.rows[1] and row in mia.rows[1] and len(noah.rows[1]) == 4, row
+        assert row in admin.rows[1] and row in mia.rows[1] and len(noah.rows[1]) == 4, name
     await leave(admin, mia, noah)
 
 

@@ -11,6 +11,7 @@ import json
 import os
 import pathlib
 import random
+import re
 import select
 import signal
 import socket
@@ -463,6 +464,86 @@ def test_plain_requests_are_answered() -> None:
                              (b"HEAD /" + b"x" * 9000 + b" HTTP/1.1\r\n\r\n", b"414")]:
             got = plain(gate.port, data)  # the head of an answer has nothing behind it
             assert got.startswith(b"HTTP/1.1 " + status) and got.endswith(b"\r\n\r\n") and got.count(b"\r\n\r\n") == 1, (data[:60], got)
+
+
+# who says what, and the number by which that is refused, if it is
+COUNTED: list[tuple[str, str | Line, int | None]] = [
+    *(("admin", {"do": "create_role", "name": name}, None) for name in ("ann", "bob", "mia")),
+    ("admin", {"do": "create_role", "name": "ann"}, 6),
+    ("mia", {"do": "create_role", "name": "eve"}, 11),
+    ("admin", {"do": "create_table", "name": "notes", "owner": "ann", "columns": [["id", "int"], ["who", "text"]]}, None),
+    ("admin", {"do": "create_table", "name": "tags", "owner": "eve", "columns": [["id", "int"]]}, 5),
+    ("admin", {"do": "create_view", "name": "ids", "owner": "ann", "query": "select id from notes"}, None),
+    ("admin", {"do": "create_view", "name": "odd", "owner": "ann", "query": "select"}, 10),
+    ("ann", {"do": "grant", "on": "notes", "privileges": ["select", "insert", "delete"], "to": "mia"}, None),
+    ("mia", {"do": "grant", "on": "notes", "privileges": ["select"], "to": "bob"}, 12),
+    ("admin", {"do": "grant_role", "role": "bob", "to": "mia"}, None),
+    ("admin", {"do": "grant_role", "role": "mia", "to": "bob"}, 23),
+    ("admin", {"do": "revoke_role", "role": "bob", "to": "mia"}, None),
+    ("mia", insert(1, "mia"), None),
+    ("mia", {"do": "write", "entries": [{"on": "notes", "insert": [1]}]}, 9),
+    ("mia", insert(1, "mia", "tags"), 7),
+    ("mia", insert(1, "mia", "ids"), 8),
+    ("mia", {"do": "write", "entries": [{"on": "notes", "delete": [2, "mia"]}]}, 16),
+    ("bob", insert(1, "bob"), 13),
+    ("mia", {"do": "subscribe", "on": "ids"}, 13),
+    ("bob", {"do": "subscribe", "on": "tags"}, 7),
+    *[("mia", {"do": "subscribe", "on": "notes"}, None)] * 16,
+    ("mia", {"do": "subscribe", "on": "notes"}, 20),
+    ("mia", {"do": "unsubscribe", "sub": 1}, None),
+    ("mia", {"do": "unsubscribe", "sub": 1}, 19),
+    ("ann", {"do": "row_security", "on": "notes", "enable": True, "force": False}, None),
+    ("ann", {"do": "row_security", "on": "ids", "enable": True, "force": False}, 8),
+    ("mia", insert(2, "mia"), 14),
+    ("ann", {"do": "create_policy", "on": "notes", "name": "own", "using": "who = current_user"}, None),
+    ("ann", {"do": "create_policy", "on": "notes", "name": "few", "restrictive": True, "command": "insert", "check": "id < 100"}, None),
+    ("mia", insert(100, "mia"), 15),
+    ("ann", {"do": "drop_policy", "on": "notes", "name": "few"}, None),
+    ("ann", {"do": "drop_policy", "on": "notes", "name": "few"}, 18),
+    ("ann", {"do": "revoke", "on": "notes", "privileges": ["delete"], "to": "mia"}, None),
+    ("bob", "{", 1), ("bob", "nonsense", 1), ("bob", "[1]", 2), ("bob", "{}", 2), ("bob", {"do": "finish"}, 2),
+    ("bob", {"do": "unsubscribe", "session": 1, "sub": 1}, 2),
+    ("bob", '{"do":"create_role","name":"' + "x" * 65_537 + '"}', 22)]
+KINDS = {"none": 7, "create_role": 5, "create_table": 2, "create_view": 2, "grant": 2, "revoke": 1, "grant_role": 2, "revoke_role": 1, "row_security": 2,
+         "create_policy": 2, "drop_policy": 2, "write": 8, "subscribe": 19, "unsubscribe": 2}
+REFUSALS = {1: 2, 2: 4, 3: 0, 4: 0, 5: 1, 6: 1, 7: 2, 8: 2, 9: 1, 10: 1, 11: 1, 12: 1, 13: 2, 14: 1, 15: 1, 16: 1, 17: 0, 18: 1, 19: 1, 20: 1, 22: 1, 23: 1}
+
+
+def tally(gate: Gateway, name: str) -> dict[str, int]:
+    """The figures of a name, by their labels."""
+    text = http(gate.port, "/metrics", "admin-demo")[2].decode()
+    found = re.findall(rf'(?m)^{name}\{{\w+="(\w+)"\}} (\d+)$', text)
+    assert len(found) == len({*found}) == text.count(f"{name}{{") and f"# TYPE {name} counter\n" in text, text
+    return {label: int(count) for label, count in found}
+
+
+def test_messages_are_counted_by_kind_and_refusals_by_number() -> None:
+    gate = Gateway()
+
+    def stands(kinds: dict[str, int], refusals: dict[int, int]) -> None:
+        assert tally(gate, "gateway_requests_total") == kinds
+        assert tally(gate, "gateway_refusals_total") == {str(number): count for number, count in refusals.items()}
+
+    stands({kind: 0 for kind in KINDS}, {number: 0 for number in REFUSALS})
+    wires: dict[str, Wire] = {}
+    for role, said, refusal in COUNTED:
+        wire = wires[role] = wires.get(role) or gate.enter(role)
+        wire.say(said)
+        told: Line = {}
+        while not {"ok", "error"} & {*told}:  # behind what others bring it
+            told = json.loads(wire.event()[0])
+        assert told.get("error") == refusal, (said, told)
+    stands(KINDS, REFUSALS)
+    # of many at once, each is counted once, also if it is heard later
+    wires["bob"].send(masked(b'{"do":"unsubscribe","sub":1}') * 100)
+    for _ in range(100):
+        assert wires["bob"].event() == ['{"error":19}']
+    stands({**KINDS, "unsubscribe": 102}, {**REFUSALS, 19: 101})
+    # what the journal leads back is not said again
+    gate.kill()
+    gate.start()
+    stands({kind: 0 for kind in KINDS}, {number: 0 for number in REFUSALS})
+    gate.end()
 
 
 def test_pages_of_a_folder_are_served_and_no_others() -> None:

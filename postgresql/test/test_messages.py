@@ -2,19 +2,18 @@
 import struct
 import unittest
 
+import pgoutput
 from cuts import Cut
 from kinds import KINDS, Column
 from mirror import Mirror, Table
-from pgoutput import UNCHANGED, Begin, Cells
-from pgoutput import Column as Sent
-from pgoutput import Commit, Delete, Insert, Message, Old, Origin, Relation, Truncate, Type, Unreadable, Update, decoded, lsn_of, lsn_text
+from pgoutput import UNCHANGED, Begin, Cells, Commit, Delete, Insert, Message, Old, Origin, Relation, Truncate, Type, Unreadable, Update, decoded, lsn_of
 from rows import writes
 from stream import Change, Lost, Transaction, Transactions
 
 TEXT = b"t\x00\x00\x00\x03abc"
 ROW = b"\x00\x03" + TEXT + b"n" + b"u"
 CELLS: Cells = ("abc", None, UNCHANGED)
-KEY = Relation(7, "public", "notes", "d", (Sent("id", True, 23, -1), Sent("body", False, 25, -1), Sent("n", False, 1700, -1)))
+KEY = Relation(7, "public", "notes", "d", (pgoutput.Column("id", True, 23, -1), pgoutput.Column("body", False, 25, -1), pgoutput.Column("n", False, 1700, -1)))
 FULL = KEY._replace(identity="f", columns=tuple(it._replace(key=True) for it in KEY.columns))
 NOTHING = KEY._replace(identity="n", columns=tuple(it._replace(key=False) for it in KEY.columns))
 MESSAGES = [
@@ -23,7 +22,7 @@ MESSAGES = [
     (b"O" + struct.pack("!Q", 9) + b"other\0", Origin(9, "other")),
     (b"M" + struct.pack("!BQ", 1, 9) + b"viewd\0" + struct.pack("!I", 2) + b"\xffx", Message(True, 9, "viewd", b"\xffx")),
     (b"R" + struct.pack("!I", 7) + b"public\0gr\xc3\xb6\0d" + struct.pack("!H", 2) + b"\x01id\0" + struct.pack("!Ii", 23, -1) + b"\x00t\0" + struct.pack("!Ii", 1043, 12),
-     Relation(7, "public", "gr\u00f6", "d", (Sent("id", True, 23, -1), Sent("t", False, 1043, 12)))),
+     Relation(7, "public", "gr\u00f6", "d", (pgoutput.Column("id", True, 23, -1), pgoutput.Column("t", False, 1043, 12)))),
     (b"R" + struct.pack("!I", 7) + b"\0x\0f\0\0", Relation(7, "pg_catalog", "x", "f", ())),
     (b"Y" + struct.pack("!I", 9) + b"public\0mood\0", Type(9, "public", "mood")),
     (b"I" + struct.pack("!I", 7) + b"N" + ROW, Insert(7, CELLS)),
@@ -54,7 +53,7 @@ class Messages(unittest.TestCase):
 
     def test_places(self) -> None:
         for text, number in (("0/0", 0), ("16/B374D848", 0x16_B374_D848), ("FFFFFFFF/FFFFFFFF", (1 << 64) - 1)):
-            self.assertEqual((lsn_of(text), lsn_text(number)), (number, text))
+            self.assertEqual((lsn_of(text), pgoutput.lsn_text(number)), (number, text))
 
     def test_transactions(self) -> None:
         begin, commit, relation, insert = b"B" + struct.pack("!QQI", 16, 5, 9), MESSAGES[1][0], b"R\0\0\0\7public\0x\0d\0\0", b"I\0\0\0\7N\0\0"
@@ -112,7 +111,7 @@ class Mirrors(unittest.TestCase):
             self.applied(table, Change(KEY, None, ("1", "w", UNCHANGED), True))
 
     def test_what_does_not_fit(self) -> None:
-        strange = KEY._replace(columns=(*KEY.columns, Sent("more", True, 23, -1)))
+        strange = KEY._replace(columns=(*KEY.columns, pgoutput.Column("more", True, 23, -1)))
         for change, words in ((Change(FULL, Old(("5", "x", "1"), True)), "a row goes that is not there"), (Change(KEY, Old(("5", None, None), False)), "a row goes that is not there, with the key"),
                               (Change(KEY, None, ("5", "x", "1"), True), "a row goes that is not there, with the key"), (Change(KEY._replace(columns=KEY.columns[:2]), None, ("1", "x")), "is replicated without n"),
                               (Change(KEY, None, ("1", "x")), "a row of 2 cells, of 3"), (Change(NOTHING, None, ("1", "x", "1"), True), "its replica identity is nothing"), (Change(KEY, None, ("5", UNCHANGED, "1")), "a value that was not sent"),

@@ -6,7 +6,7 @@ from typing import Any
 import pytest
 
 from viewd_ci import edits
-from viewd_ci.edits import Work, drawn, edits_of, hashes_tried, of_unchanged, remember, statement_of, take_bodies
+from viewd_ci.edits import Work, drawn, edits_of, hash_of, hashes_tried, of_unchanged, remember, statement_of, take_bodies
 from viewd_ci.functions import functions_in
 
 
@@ -49,6 +49,63 @@ def test_a_tenth_of_few_is_one(tmp_path: pathlib.Path) -> None:
 def test_what_is_promised_is_tried_though_nothing_changed(tmp_path: pathlib.Path) -> None:
     crates = [crate_with(tmp_path, f"iv_{n}", 10, 2) for n in range(3)]
     assert sum(edit.is_promised for _, edit in of_unchanged(crates, 1)) == 6
+
+
+@dataclass(frozen=True)
+class Above(Crate):
+    library: Crate
+
+    def below(self) -> list[Crate]:
+        return [self.library]
+
+
+def written(folder: str, path: str, text: str) -> None:
+    file = pathlib.Path(folder, path)
+    file.parent.mkdir(parents=True, exist_ok=True)
+    file.write_text(text)
+
+
+CODE = "//! What it does.\nghost use Rattle.iv_low.proofs.Adding.{added};\n\npub fn f() -> u32\n    ensures { result ≡ 1 }\n{\n    1\n}\n"
+LEMMA = "-- One is one.\nuse Rattle.iv_low.proofs.Adding.{added}\n\npub one : 1 ≡ 1\none = refl\n"
+CHANGES = {
+    # nothing that an edit is judged by
+    "a comment": (True, "iv_up", "src/lib.rt", CODE.replace("What it does", "What it is for")),
+    "imports of lemmas": (True, "iv_up", "src/lib.rt", CODE.replace("Adding", "Sums")),
+    "a comment of a lemma": (True, "iv_up", "proofs/Ones.antt", LEMMA.replace("One is", "This is")),
+    "a proof of the library": (True, "iv_low", "proofs/Adding.antt", "pub added : 1 ≡ 1\nadded = refl\n"),
+    # what one is
+    "code": (False, "iv_up", "src/lib.rt", CODE.replace("    1\n", "    2\n")),
+    "a contract": (False, "iv_up", "src/lib.rt", CODE.replace("result ≡ 1", "1 ≡ result")),
+    "a lemma": (False, "iv_up", "proofs/Ones.antt", LEMMA.replace("refl", "sym refl")),
+    "an edit": (False, "iv_up", "edits/edit0.edit", "file: src/other.rt\n"),
+    "code of the library": (False, "iv_low", "src/lib.rt", "pub fn g() {}\n"),
+    "a definition of the library": (False, "iv_low", "specs/Sums.antt", "one : ℕ\none = 2\n"),
+}
+
+
+def two_crates(top: pathlib.Path) -> Above:
+    low, up = crate_with(top, "iv_low", 0, 0), crate_with(top, "iv_up", 1, 0)
+    written(low.folder, "specs/Sums.antt", "one : ℕ\none = 1\n")
+    written(low.folder, "proofs/Adding.antt", "pub added : 1 ≡ 1\nadded = sym refl\n")
+    written(up.folder, "src/lib.rt", CODE)
+    written(up.folder, "proofs/Ones.antt", LEMMA)
+    return Above("iv_up", up.folder, low)
+
+
+@pytest.mark.parametrize("what", CHANGES)
+def test_edits_are_tried_again_if_what_they_are_judged_by_changed(what: str, tmp_path: pathlib.Path) -> None:
+    is_kept, name, path, text = CHANGES[what]
+    crate: Any = two_crates(tmp_path)
+    before = hash_of(crate)
+    written(str(tmp_path / name), path, text)
+    assert (hash_of(crate) == before) == is_kept
+
+
+def test_lemma_files_may_have_another_name(tmp_path: pathlib.Path) -> None:
+    crate: Any = two_crates(tmp_path)
+    before = hash_of(crate)
+    pathlib.Path(crate.folder, "proofs/Ones.antt").rename(pathlib.Path(crate.folder, "proofs/Units.antt"))
+    assert hash_of(crate) == before
 
 
 def work(name: str, made_of: str, failed: int) -> Work:

@@ -1,9 +1,11 @@
 """How tables are made of data and compared, and what is read of definitions, heads and laws."""
 from typing import Any
 
+import pytest
+
 from viewd_ci.common import below, crates_in, first_sentence
 from viewd_ci.definitions import definitions_in, has_meaning
-from viewd_ci.files import differences, files_of_tests, first_words, laws_in, wrong_with
+from viewd_ci.files import anchors, dead_links, differences, files_of_tests, first_words, laws_in, wrong_with
 from viewd_ci.protocol import cases, in_forms, tables, written
 
 KNOWN: dict[str, Any] = {
@@ -139,3 +141,24 @@ def test_files_of_tests_tell_what_they_test() -> None:
     assert first_words("rows.test.js", "// What rows are. More of it.\nimport fs;\n") == "What rows are."
     assert first_words("test_rows.py", "import os\n") == ""
     assert {"frontend/test/test_program.py", "clients/js/test/viewd.test.js", "tools/test/test_tables.py"} <= {*files_of_tests()}
+
+
+@pytest.mark.parametrize(
+    ("link", "lost"),
+    [
+        pytest.param("TOUR.md", "", id="a document beside it"),
+        pytest.param("../README.md#what-is-proved", "", id="a heading of a document above it"),
+        pytest.param("#to-cite", "", id="a heading of its own"),
+        pytest.param("https://example.org/nowhere", "", id="what is elsewhere"),
+        pytest.param("TOWER.md", "which is no file", id="no document"),
+        pytest.param("TOUR.md#rihgts", "which is no heading", id="no heading of a document"),
+        pytest.param("#there", "which is no heading", id="none of its own"),
+    ],
+)
+def test_links_of_documents_lead_somewhere(link: str, lost: str) -> None:
+    text = f"# Here\n\nSee [it]({link}).\n\n```sh\ncat [x](not-a-link.md)\n```\n"
+    assert dead_links("docs/CITE.md", text) == ([f"docs/CITE.md links {link}, {lost}"] if lost else [])
+
+
+def test_anchors_are_those_of_headings() -> None:
+    assert anchors("# How `proofs/` is laid out\n\n## A, B: C\n\n```sh\n# none\n```\n") == {"how-proofs-is-laid-out", "a-b-c"}

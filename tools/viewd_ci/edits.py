@@ -23,7 +23,8 @@ An edit of a definition has a line 'refutes: module::law CLAUSE' in place of 're
 `refuted` that takes what the clause of that law promises and proves the absurd. It counts as refuted if the check proves that over the
 definitions as edited: the law is false there. That the law's own proof breaks would show less, as it may break though the law still holds.
 
-.ci/edits.tried has a hash for each crate whose edits were all tried and refused: of its sources, its edits and its libraries' sources.
+.ci/edits.tried has a hash for each crate whose edits were all tried and refused: of its code, definitions, proofs and edits, and of its
+libraries' code and definitions. Comments, the names of lemma files and libraries' proofs are left out: no edit is judged by them.
 RT_JOBS crates are worked on side by side, by default as many as there are processors, and fewer if memory does not hold them.
 """
 import argparse
@@ -54,6 +55,8 @@ TENTH = 10
 # the folder in edits/ of those that each run tries
 PROMISED = "promised"
 REFUTES = re.compile(r"(?m)^refutes: (\S+)(?: (\S+))?$")
+# lines that no edit is judged by: blank ones, comments, imports of lemmas and the names of lemma files
+IDLE = re.compile(r"(?m)^[ \t]*(?:(?://|--).*|(?:ghost )?use (?:Rattle\.\w+\.|crate::)proofs\b.*|(?:pub )?mod [A-Z]\w*)?\n")
 PRINTING = threading.Lock()
 
 
@@ -410,14 +413,22 @@ def edits_of(crate: Crate) -> list[Edit]:
     return found
 
 
+def judging(folder: str, is_own: bool) -> list[str]:
+    """What edits are judged by in a crate's folder: each file of its code and definitions behind its name, and, if the edits are its own,
+    its proofs, in an order that does not hang on their files' names. A file ends with a newline, as the formatter writes it."""
+    files = {os.path.relpath(it, folder): IDLE.sub("", contents(it)) for it in rtlib().files_of(folder)}
+    proofs = sorted(text for name, text in files.items() if name.startswith("proofs/") and text)
+    return [f"{name}\n{text}" for name, text in files.items() if not name.startswith("proofs/")] + (proofs if is_own else [])
+
+
 def hash_of(crate: Crate) -> str:
-    """A hash of the crate's sources and edits, of its libraries' sources, and of the kit's name."""
+    """A hash of what the edits of a crate are judged by, of the edits themselves, and of the kit's name."""
     made = hashlib.sha256(contents(f"{rt().KIT}/KIT-ID").encode())
     for it in sorted([crate, *crate.below()], key=lambda it: str(it.name)):
-        for file in rtlib().files_of(it.folder):
-            made.update(f"{os.path.relpath(file, TOP)}\n{contents(file)}\n".encode())
+        for text in [it.name, *judging(it.folder, it is crate)]:
+            made.update(f"{text}\n".encode())
     for edit in edits_of(crate):
-        made.update(f"{edit.name}\n{contents(edit.file)}\n".encode())
+        made.update(f"{edit.name}\n{IDLE.sub('', contents(edit.file))}\n".encode())
     return made.hexdigest()[:32]
 
 

@@ -10,6 +10,8 @@ dropped or renamed. A crate that a sentence names is there, and one of the two i
 
 A law is a public function of src/laws.rt, or of a file in src/laws/. Each has its `///`, which PROOFS has word for word. A file of tests of a
 program has a first sentence, too: FILES has it after the crates.
+
+A link of a document leads to a file that is there, and to a heading that this has.
 """
 import ast
 import glob
@@ -51,6 +53,8 @@ runs some; the parts of [the gate](GATE.md) run all.
 | file | what is tested |
 |---|---|
 """
+DOCUMENTS = ["*.md", "docs/*.md", "examples/README.md"]
+LINK, HEADING = re.compile(r"\]\((?!https?:)([^)\s]+)\)"), re.compile(r"(?m)^#+ (.*)$")
 LAWS = os.path.join("docs", "PROOFS.md")
 BEGIN, END = "<!-- By .ci/files: -->\n", "<!-- The end of what .ci/files wrote. -->"
 LAW = re.compile(r"(?m)^((?:///[^\n]*\n)*)(?:#\[[^\n]*\n)*pub fn (\w+)")
@@ -168,6 +172,29 @@ def laws_in(text: str) -> list[tuple[str, str]]:
     return [(name, " ".join(said.replace("///", "").split())) for said, name in LAW.findall(text)]
 
 
+def without_blocks(text: str) -> str:
+    return re.sub(r"(?ms)^```.*?^```", "", text)
+
+
+def anchors(text: str) -> set[str]:
+    """By which names a link finds the headings of a document."""
+    plain = (re.sub(r"[^\w\- ]", "", it.strip().lower()) for it in HEADING.findall(without_blocks(text)))
+    return {it.replace(" ", "-") for it in plain}
+
+
+def dead_links(path: str, text: str) -> list[str]:
+    """The links of a document that lead to no file, or to no heading of one."""
+    dead = []
+    for link in LINK.findall(without_blocks(text)):
+        file, _, heading = link.partition("#")
+        there = os.path.normpath(os.path.join(os.path.dirname(path), file)) if file else path
+        if not os.path.exists(os.path.join(TOP, there)):
+            dead.append(f"{path} links {link}, which is no file")
+        elif heading and heading not in anchors(contents(there)):
+            dead.append(f"{path} links {link}, which is no heading")
+    return dead
+
+
 def differences(path: str, had: str, has: str) -> list[str]:
     """What a map lacks, and what it has of no file."""
     old, new = had.split("\n"), has.split("\n")
@@ -188,6 +215,8 @@ def main(words: list[str]) -> int:
         if there != page:
             failures += differences(path, there, page)
             failures.append(f"{path} is not what the heads of the files say: .ci/files --write writes it")
+    documents = sorted(it for pattern in DOCUMENTS for it in glob.glob(pattern, root_dir=TOP))
+    failures += [dead for it in documents for dead in dead_links(it, contents(it))]
     for it in failures:
         print(f"files: {it}")
     print(f"files: {maps.files} files and {maps.laws} laws, {len(failures)} failures")

@@ -7,6 +7,7 @@ library of .ci/refuse as its word, it has each request for memory of a short con
 connection.
 """
 import contextlib
+import errno
 import os
 import random
 import resource
@@ -251,7 +252,8 @@ def run(words: list[str], **ends: Any) -> tuple[int, bytes, bytes]:
 def statuses() -> None:
     with socket.create_server(("127.0.0.1", 0)) as taken:
         port = taken.getsockname()[1]
-        told_why = f"viewd: network failed\nviewd: could not listen on 127.0.0.1:{port}: address in use. {ANOTHER_PORT}\n"
+        cause = f"{os.strerror(errno.EADDRINUSE)} (os error {errno.EADDRINUSE})"
+        told_why = f"viewd: network failed\nviewd: could not listen on 127.0.0.1:{port}: {cause}. {ANOTHER_PORT}\n"
         expect("a port in use", (2, b"", told_why.encode()), run(["serve", "--port", str(port)], stdout=subprocess.PIPE))
     with open("/dev/full", "wb") as full:
         words = ["serve", "--port", str(free_port())]

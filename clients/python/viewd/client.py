@@ -127,7 +127,10 @@ class Db:
 
     def on_state(self, listener: Callable[[str, str | None], None]) -> Callable[[], None]:
         """Calls the listener with each new state, and why it came. What it returns takes it back."""
-        own: Callable[[str, str | None], None] = lambda state, why: listener(state, why)
+
+        def own(state: str, why: str | None) -> None:
+            listener(state, why)
+
         self._listeners.append(own)
         return lambda: self._listeners.remove(own) if own in self._listeners else None
 

@@ -200,7 +200,10 @@ class Live(User):
 
     def subscribe(self, listener: Callable[[Live], None]) -> Callable[[], None]:
         """Calls the listener after each change of the rows or the state. What it returns takes the listener back."""
-        own: Callable[[Live], None] = lambda live: listener(live)
+
+        def own(live: Live) -> None:
+            listener(live)
+
         self._listeners.append(own)
         return lambda: self._listeners.remove(own) if own in self._listeners else None
 

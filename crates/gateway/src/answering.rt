@@ -2,6 +2,7 @@
 use crate::fault::Fault;
 use crate::hall::{Hall, Kind};
 use iv_desk::Desk;
+use iv_gateway::Tally;
 use iv_host::{FileJournal, Now, answer, figures_now, page_in, raise, state_now};
 use iv_pages::{Ask, FIGURES_KIND};
 
@@ -41,7 +42,7 @@ impl Hall {
             return Ok(out);
         }
         let now = self.stands(desk)?;
-        self.figures(rt, journal, ask, &now)
+        self.figures(rt, desk.tally(), journal, ask, &now)
     }
 
     /// The answer to a request for a file of the folder of pages.
@@ -56,6 +57,7 @@ impl Hall {
     fn figures(
         &self,
         rt: &HostRuntime,
+        tally: &Tally,
         journal: &FileJournal,
         ask: &Ask<'_>,
         now: &Now,
@@ -64,7 +66,7 @@ impl Hall {
             let text = state_now(rt, &self.counts, journal, now)?;
             return Ok(answer(rt, ask, "application/json", None, text.as_bytes())?);
         }
-        let text = figures_now(rt, &self.counts, journal, now)?;
+        let text = figures_now(rt, &self.counts, tally, journal, now)?;
         Ok(answer(rt, ask, FIGURES_KIND, None, &text)?)
     }
 

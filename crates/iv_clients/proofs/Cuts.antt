@@ -40,7 +40,7 @@ passes t x y h = by (t x) refl h
 pub let_pass : {X : Type 0} (t : X → Bool) (x : X) → t x ≡ true → passing t x ≡ Some x
 let_pass t x h = ap (λ b. cond b (Some x) None) h
 
--- what passes behind something
+-- what passes after something
 pub record Passed {X : Type 0} (t : X → Bool) (o : Option X) (y : X) : Type 0 where
   pub there : o ≡ Some y
   pub passes : t y ≡ true

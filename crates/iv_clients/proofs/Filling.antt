@@ -5,7 +5,7 @@ use Rattle.iv_journal.specs.Journal.{Line}
 use Rattle.iv_clients.specs.Journal.{Entry}
 use Rattle.iv_clients.specs.Parsed.{Text, record_from, text_in, with_text}
 
--- what is read of the rest, behind what was read, is what is read of all
+-- what is read of the rest, after what was read, is what is read of all
 abbrev pub IsFilling : (e : Entry) (ls : List Line) (f : Entry) (ms : List Line) → Type 0
 IsFilling e ls f ms = record_from e ls ≡ record_from f ms
 

@@ -1,4 +1,4 @@
--- The record of an entry is read back, whatever stands behind it, and nothing else is read.
+-- The record of an entry is read back, whatever follows it, and nothing else is read.
 use Rattle.std.proofs.Common.{◌≡◌, ℕ, suc, arith, length, Bool, true, false, cond, List, [], ◌∷◌, ◌++◌, map, Option, Some, None, refl, ap, ◌∙◌, sym, subst, append_assoc, append-nil}
 use Rattle.std.specs.Prelude.{◌≢◌, ◌==◌, OnOk, Result, Ok, Err, option_and_then}
 use Rattle.std.proofs.lemmas.Bool.{ne_eqb}

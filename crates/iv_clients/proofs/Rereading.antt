@@ -135,7 +135,7 @@ request_sound text q h =
 bytes_same : (xs : List ℕ) → bytes_eq xs xs ≡ true
 bytes_same xs = (bytes_eq-Decides xs xs).1 refl
 
--- what stands behind the place of a name
+-- what follows the place of a name
 abbrev behind_place : Named → List ℕ
 behind_place e = codes "\"by\":" ++ (compact_text (string e.ask.holder) ++ (codes ",\"digest\":\"" ++ (encode_lower e.ask.digest ++ (answer_key e.refused ++ (e.answer ++ codes "}")))))
 

@@ -47,7 +47,7 @@ parts_of line = unwrap_or (id_in_front line) (None, line)
 abbrev pub id_parts : List ℕ → Parts
 id_parts text = parts_of (unindented (on_one_line text))
 
--- the name of a message, which stands behind its id, and the rest
+-- the name of a message, which follows its id, and the rest
 abbrev pub named_parts : List ℕ → Option Claim × List ℕ
 named_parts text = if_some (claim_in (id_parts text).1) (None, (id_parts text).1) (λ p. (Some p.0, p.1))
 

@@ -42,7 +42,7 @@ is_random name = (length name == 22) && list_all is_letter name
 abbrev pub is_epoch : List ℕ → Bool
 is_epoch text = (length text == 32) && list_all (λ b. is_between 48 57 b || is_between 97 102 b) text
 
--- what stands between a prefix and such a byte, and behind that
+-- what stands between a prefix and such a byte, and after that
 abbrev pub between : List ℕ → ℕ → List ℕ → Option (List ℕ × List ℕ)
 between prefix b text = option_and_then (cut_at b) (behind prefix text)
 
@@ -53,7 +53,7 @@ is_count n = nat_lt n (2 ^ 64)
 abbrev pub count_in : List ℕ → Option ℕ
 count_in text = option_and_then (passing is_count) (option_and_then as_u64 (option_and_then as_number (option_and_then id_in (value_of text))))
 
--- a name, an epoch and the digits of a count, as they are written, and what stands behind them
+-- a name, an epoch and the digits of a count, as they are written, and what follows them
 pub record Spelled : Type 0 where
   pub name : List ℕ
   pub epoch : List ℕ

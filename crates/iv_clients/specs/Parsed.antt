@@ -54,7 +54,7 @@ request_read text = option_and_then (λ (p : Name × List ℕ). request_by p.0 p
 
 -- ---- names
 
--- what stands before the first quotation mark that no backslash escapes, and behind it
+-- what stands before the first quotation mark that no backslash escapes, and after it
 abbrev pub cut_quote : Bool → List ℕ → Option (List ℕ × List ℕ)
 cut_quote escaped [] = None
 cut_quote escaped (x ∷ xs) =
@@ -70,14 +70,14 @@ digest_of_32 digits = option_and_then (passing is_digest) (decoded (decode_sized
 abbrev pub but_last : List ℕ → List ℕ
 but_last text = take (length text - 1) text
 
--- an answer on a line, without the brace behind it
+-- an answer on a line, without the brace after it
 abbrev pub is_answer : List ℕ → Bool
 is_answer text = not (has_newline text)
 
 abbrev pub answer_in : List ℕ → Option (List ℕ)
 answer_in text = passing is_answer (but_last text)
 
--- whose it is, as JSON has it between quotation marks; the digits of its digest; whether it was refused; and its answer with the brace behind it
+-- whose it is, as JSON has it between quotation marks; the digits of its digest; whether it was refused; and its answer with the brace after it
 pub record NameParts : Type 0 where
   pub holder : List ℕ
   pub digits : List ℕ
@@ -142,7 +142,7 @@ added e (of_position p) = Some (record { requests = e.requests; names = e.names;
 abbrev pub with_text : Entry → Text → Option Entry
 with_text e t = if is_some e.position then None else added e t
 
--- the rest of a record of which an entry is what was read, and the lines behind it
+-- the rest of a record of which an entry is what was read, and the lines after it
 abbrev pub record_from : Entry → List Line → Option (Entry × List Line)
 record_from e [] = None
 record_from e (l ∷ ls) =
@@ -151,7 +151,7 @@ record_from e (l ∷ ls) =
 abbrev pub no_entry : Entry
 no_entry = record { requests = []; names = []; position = None }
 
--- the entry of the first record, and the lines behind it
+-- the entry of the first record, and the lines after it
 abbrev pub record_in : List Line → Option (Entry × List Line)
 record_in ls = record_from no_entry ls
 

@@ -1,7 +1,7 @@
 //! What is so of every journal as texts, and of names. Each is the contract of a function that does nothing.
 ghost use Rattle.iv_clients.specs.Laws.{ClaimsAreWell, HoldersAreText, ReadsBack};
 
-/// The record of an entry is read back, whatever stands behind it, and nothing else is read.
+/// The record of an entry is read back, whatever follows it, and nothing else is read.
 pub fn records_are_read_back()
     ensures { ReadsBack }
 {}

@@ -95,7 +95,7 @@ fn is_epoch(text: &[u8]) -> bool
     text.len() == 32 && are_digits(text)
 }
 
-/// What stands between a prefix and the first such byte, and behind it.
+/// What stands between a prefix and the first such byte, and after it.
 pub(crate) fn between<'a>(text: &'a [u8], prefix: &[u8], byte: u8) -> Option<(&'a [u8], &'a [u8])>
     ensures { option_map (λ p. (p.0.now, p.1.now)) result ≡ between prefix.now byte text.now }
 {
@@ -128,7 +128,7 @@ pub(crate) fn count_in(
     }
 }
 
-/// A name, an epoch and the digits of a count, as they are written, and what stands behind them.
+/// A name, an epoch and the digits of a count, as they are written, and what follows them.
 #[derive(Drop)]
 pub(crate) struct Spelled<'a> {
     pub(crate) name: &'a [u8],

@@ -111,7 +111,7 @@ fn is_plain(escaped: bool, byte: u8, wanted: u8) -> bool
     !escaped && byte == wanted
 }
 
-/// What stands before the first quotation mark that no backslash escapes, and behind it.
+/// What stands before the first quotation mark that no backslash escapes, and after it.
 fn cut_quote(bytes: &[u8]) -> Option<(&[u8], &[u8])>
     ensures { option_map (λ p. (p.0.now, p.1.now)) result ≡ cut_quote false bytes.now }
 {
@@ -206,7 +206,7 @@ fn but_last(text: &[u8]) -> &[u8]
     &text[..text.len().saturating_sub(1)]
 }
 
-/// An answer on a line, without the brace behind it.
+/// An answer on a line, without the brace after it.
 fn answer_in(text: &[u8]) -> Option<&[u8]>
     ensures { option_map (λ answer. answer.now) result ≡ answer_in text.now }
 {
@@ -219,7 +219,7 @@ fn answer_in(text: &[u8]) -> Option<&[u8]>
 }
 
 /// Of a name: whose it is, as JSON has it between quotation marks; the digits of its digest; whether it was refused; and its answer with the
-/// brace behind it.
+/// brace after it.
 #[derive(Drop)]
 struct NameParts<'a> {
     holder: &'a [u8],
@@ -236,7 +236,7 @@ impl<'a> Model for NameParts<'a> {
     ghost view = { λ p. record { holder = p.holder.now; digits = p.digits.now; refused = p.refused; answer = p.answer.now } };
 }
 
-/// Whether a name was refused, and its answer with the brace behind it.
+/// Whether a name was refused, and its answer with the brace after it.
 fn answered_in(text: &[u8]) -> Option<(bool, &[u8])>
     ensures { option_map {U = Bool × List ℕ} (λ p. (p.0, p.1.now)) result ≡ answered_in text.now }
 {
@@ -249,7 +249,7 @@ fn answered_in(text: &[u8]) -> Option<(bool, &[u8])>
     }
 }
 
-/// What stands behind a name and its place.
+/// What follows a name and its place.
 fn name_parts(text: &[u8]) -> Option<NameParts<'_>>
     ensures { result ≡ name_parts text.now }
 {

@@ -18,8 +18,7 @@ use crate::places::{
 };
 use iv_clients::{OwnedLine, Token};
 use iv_gate::laws::events_leave_their_marks;
-use iv_gateway::{Gateway, GatewayFault, Journal, RestoreFault};
-use iv_journal::Line;
+use iv_gateway::{Gateway, GatewayFault, Journal, RestoreFault, Tally};
 use std::alloc::{AllocError, Global};
 
 /// Peers by their numbers, and the gateway whose clients have the same numbers. After a fault it is dead: it hears, tells and offers nothing
@@ -301,6 +300,11 @@ impl Desk {
         ensures { (d : Front) → IsDesk d self.now → d.gate.dead ≡ false → WaitsWithin d.gate result }
     {
         self.gateway.waiting()
+    }
+
+    /// What is counted of messages since the start.
+    pub fn tally(&self) -> &Tally {
+        self.gateway.tally()
     }
 
     /// The lines of the entries that wait for the journal. A dead desk has none.

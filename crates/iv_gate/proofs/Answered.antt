@@ -37,7 +37,7 @@ own_other e k holder t =
 
 -- ---- a name that stands
 
--- j entries of the holder came behind one with the name, whose place was not ahead then: while that is kept, it is among the last ones
+-- j entries of the holder came after one with the name, whose place was not ahead then: while that is kept, it is among the last ones
 pub record IsUsed (name : List ℕ) (at : Place) (j : ℕ) (o : Own) : Type 0 where
   pub count : at.count + (1 + j) ≤ o.count
   pub found : j < 64 → is_some (find_named name (take (suc j) o.recent)) ≡ true
@@ -91,7 +91,7 @@ used_is_known e k j u h =
 abbrev NoneLeft : List Named → Type 0
 NoneLeft es = (n : ℕ) (k : Known) (holder name : List ℕ) (at : Place) (j : ℕ) → first_known n es k ≡ None → IsUsed name at j (own_of k holder) → times name at (names_of holder es) ≡ 0
 
--- one more in front, where none is left behind it
+-- one more in front, where none is left after it
 left_in_front : (e : Named) (es : List Named) → NoneLeft es → NoneLeft (e ∷ es)
 left_in_front e es rest n k holder name at j h u = by (is_new k e.ask) refl h
   where
@@ -163,7 +163,7 @@ each_once n es k holder name at h = all_once es n k holder name at h
 
 -- ---- one name more
 
--- names behind names are new at their turns
+-- names after names are new at their turns
 pub known_more : (n : ℕ) (es fs : List Named) (k : Known) → first_known n es k ≡ None → ((m : ℕ) → first_known m fs (known_by k es) ≡ None) → first_known n (es ++ fs) k ≡ None
 known_more n [] fs k h more = more n
 known_more n (e ∷ es) fs k h more = by (is_new k e.ask) h (λ g. known_more (n + 1) es fs (learned limits (named e) k) g more)

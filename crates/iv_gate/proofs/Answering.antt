@@ -276,7 +276,7 @@ opened_of ts us vs t a b =
     filter-append is_opened ts (us ++ t ∷ vs)
     ∙ ap (λ z. filter is_opened ts ++ z) (filter-append is_opened us (t ∷ vs) ∙ ((λ i. none_opened us a i ++ cond (is_opened t) (t ∷ none_opened vs b i) (none_opened vs b i))))
 
--- what a client that comes in is told behind its welcome
+-- what a client that comes in is told after its welcome
 abbrev behind_welcome : List Entry → Name → List ℕ → List Told
 behind_welcome es role at = placed at ∷ (shape_for role es ++ settled ∷ [])
 

@@ -1,4 +1,4 @@
--- What an event adds to the journal may stand there: entries as it has them, names that are new, steps behind the last.
+-- What an event adds to the journal may stand there: entries as it has them, names that are new, steps after the last.
 use Rattle.std.proofs.Common.{◌≡◌, ℕ, zero, suc, ◌+◌, ◌<◌, ◌%◌, Bool, true, false, cond, not, ◌||◌, List, [], ◌∷◌, ◌++◌, length, map, Option, Some, None, option_map, is_some, take, refl, ap, ◌∙◌, sym, subst, arith, append-nil}
 use Rattle.std.specs.Prelude.{◌==◌, ◌&&◌, ◌-◌, ◌/◌, ◌^◌, nat_lt, unwrap_or}
 use Rattle.std.specs.Int.{to_be_bytes, w32}
@@ -31,7 +31,7 @@ use Rattle.iv_gate.proofs.Replying.{act_added, carried_reply, decided_added, sai
 use Rattle.iv_gate.proofs.Requesting.{request_heard}
 use Rattle.iv_gate.proofs.Stepping.{Keeps, Steps, came_keeps, request_of, went_keeps}
 
--- ---- one list of entries behind another
+-- ---- one list of entries after another
 
 all_then : {X : Type 0} (P : X → Type 0) (xs ys : List X) → AllByRecursion P xs → AllByRecursion P ys → AllByRecursion P (xs ++ ys)
 all_then P [] ys a b = b

@@ -18,7 +18,7 @@ pub data IsAside : Told → Type 0 where
   leaves : (id : Option Data) (number : ℕ) → IsAside (undecided id number)
   repeats : (id : Option Data) (at answer : List ℕ) → IsAside (answered id true at answer)
 
--- what holds behind each of these holds behind all
+-- what holds after each of these holds after all
 pub record Chooses (P : Gate → Type 0) (g : Gate) (m : ℕ) (id : Option Data) (q : Request) : Type 0 where
   pub tells : (t : Told) → IsAside t → P (tells g m t)
   pub does : (name : Option Ask) (n : ℕ) → seat_of g.seats q.role ≡ Some n → P (done_in g m id q name n)

@@ -207,7 +207,7 @@ module _ (adds : Adds) (starts : Starts) (sounds : Sounds) (gives : GrantsGive) 
       true_grants)
       (calm_all (next g e).machine.frame c.role a.back a.calm.1)))
 
-  -- what a step grants it has behind it
+  -- what a step grants it has after it
   newly_true : (before behind : Frame) (names : List Name)
       → AllByRecursion (λ rel. has_some behind c.role rel ≡ true) (filter (λ rel. has_some behind c.role rel && not (has_some before c.role rel)) names)
   newly_true before behind [] = tt

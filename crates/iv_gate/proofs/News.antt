@@ -41,7 +41,7 @@ pub record IsCalm (c d : Client) : Type 0 where
   pub calm : AreCalm more
   pub unmade : filter is_made more ≡ []
 
--- what one outcome of the machine tells, which changes what is shared, with what is granted by it; and behind that what entries make of the shape
+-- what one outcome of the machine tells, which changes what is shared, with what is granted by it; and after that what entries make of the shape
 pub record IsToldOutcome (g h : Gate) (o : Outcome) (grants : List Told) (added : List Entry) (c d : Client) : Type 0 where
   pub machine : h.machine ≡ o.state
   pub entries : h.entries ≡ g.entries ++ added
@@ -281,7 +281,7 @@ module _ (g : Gate) (m : ℕ) (a0 : Client) (h : Gate) (r : HasRead g m a0 h) wh
 
 -- ---- an outcome that all hear
 
--- the lines, what is granted, and what it makes of the shape, behind what it was told in front
+-- the lines, what is granted, and what it makes of the shape, after what it was told in front
 module _ (g h : Gate) (o : Outcome) (added : List Entry) (machine : h.machine ≡ o.state) (entries : h.entries ≡ g.entries ++ added) (es fs : List Entry) where
   abbrev pub hears_whole : (Client → List Told) → Client → Client
   hears_whole grants y = let z = staying o.lines (telling es (own_lines g.feeds o.lines y.subs ++ grants y) y) in telling fs (shape_for z.role added) z

@@ -1,4 +1,4 @@
--- Where the log stands: in memory, on disk, and behind a crash.
+-- Where the log stands: in memory, on disk, and after a crash.
 use Rattle.std.proofs.Common.{◌≡◌, ℕ, ◌<◌, ◌≤◌, Bool, true, false, cond, is_some, List, [], ◌∷◌, ◌++◌, drop, length, take, Option, Some, None, refl, ap, ◌∙◌, sym, subst, arith}
 use Rattle.std.specs.Prelude.{nat_lt, unwrap_or}
 use Rattle.std.proofs.Math.Seq.{take-length}
@@ -119,7 +119,7 @@ positions_rise reads texts cap g e r w =
     let f = further g (next g e) (goes_further g e now.held.kept) then.booked.steps in
     (f.0, f.1, front_position g.head.position (take g.kept g.entries) g.entries (front_taken g.kept g.entries) now.booked.steps)
 
--- ---- behind a crash
+-- ---- after a crash
 
 pub positions_last : ReadsBack → Texts → (cap : ℕ) (g : Gate) → Runs cap g → PositionsLast cap g
 positions_last reads texts cap g r disk tokens most h l x =

@@ -147,7 +147,7 @@ sign_landed g e o =
 
 -- ---- messages
 
--- more entries stand behind those that were
+-- more entries come after those that were
 pub record IsMore (g h : Gate) : Type 0 where
   pub more : List Entry
   pub entries : h.entries ≡ g.entries ++ more

@@ -332,7 +332,7 @@ taken P q own (x ∷ xs) a h k = by (own == x.own) (q x) refl refl h k (taken P 
     by false true e f g i more = more g i
     by false false e f g i more = more g (neither (own == x.own) _ i).1
 
--- lines that lead on: for each feed they add up to what it shows behind them minus what it showed before, and what they end shows nothing
+-- lines that lead on: for each feed they add up to what it shows after them minus what it showed before, and what they end shows nothing
 pub record Moves (s : State) (feeds : List Feed) (o : Outcome) : Type 0 where
   pub adds : (j : ℕ) (f : Feed) → feed_of feeds j ≡ Some f → (q : List Cell) → held j q o.lines ≡ weight (shown s j) (shown o.state j) q
   pub over : (j : ℕ) → ends_in o.lines j ≡ true → shown o.state j ≡ []

@@ -166,7 +166,7 @@ not_gone m (arrived s) h = refl
 not_gone m forgave h = refl
 not_gone m failed h = refl
 
--- a newcomer is told where its names stand before it comes, which is where they stand behind it
+-- a newcomer is told where its names stand before it comes, which is where they stand after it
 newcomer : (g : Gate) (e : Event) (m : ℕ) (d : Client) → g.dead ≡ false → Comes g e m d → IsNewcomer g e m d
 newcomer g e m d live x =
     let holder = holder_of x.token.role x.token.user in

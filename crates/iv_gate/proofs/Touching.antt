@@ -435,7 +435,7 @@ pub record Left : Type 0 where
 abbrev pub left : Gate → Left
 left g = record { marks = marks g; entries = g.entries }
 
--- what an event adds stands behind the entries
+-- what an event adds comes after the entries
 pub record IsLeft (g : Gate) (e : Event) : Type 0 where
   pub more : List Entry
   pub left : left (happens g e) ≡ record { marks = marks_behind g e; entries = g.entries ++ more }

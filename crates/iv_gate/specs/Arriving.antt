@@ -67,7 +67,7 @@ fault_of g s =
 abbrev pub entry_of : Step → Entry
 entry_of s = record { requests = s.requests; names = s.names; position = Some s.to }
 
--- the relations on which the role has some privilege behind it, and had none before
+-- the relations on which the role has some privilege after it, and had none before
 abbrev pub newly : Frame → Frame → Name → List Name
 newly before behind role = filter (λ rel. has_some behind role rel && not (has_some before role rel)) (map (λ e. e.name) behind.catalog)
 

@@ -213,7 +213,7 @@ closes g m c id own = if_some (followed_by c.subs own) (tells g m (replied id (r
 
 -- ---- other requests
 
--- what is known behind these names, in their order
+-- what is known after these names, in their order
 abbrev pub known_by : Known → List Named → Known
 known_by k [] = k
 known_by k (e ∷ es) = known_by (learned limits (once.named e) k) es
@@ -254,7 +254,7 @@ entries_of q name r = if is_shared q.act && (is_accepted r || is_some name)
 abbrev pub entered : Gate → List Entry → Gate
 entered g es = record g { entries = g.entries ++ es }
 
--- what its client is told: the reply, or the name's answer and where its holder's names stand behind it
+-- what its client is told: the reply, or the name's answer and where its holder's names stand after it
 abbrev pub reply_told : Gate → Option Data → Option Ask → Reply → Told
 reply_told g id None r = replied id r
 reply_told g id (Some a) r = answered id false (place_text (place_of g a.holder)) (answer_text r)

@@ -55,14 +55,14 @@ pub record ReadsForClients (g : Gate) : Type 0 where
 abbrev pub PositionsRise : Gate → Event → Type 0
 PositionsRise g e = (position g ≤ position (next g e)) × (settled_at g ≤ settled_at (next g e)) × (settled_at g ≤ position g)
 
--- what the source was told to be on disk is there behind a crash
+-- what the source was told to be on disk is there after a crash
 abbrev pub PositionsLast : (cap : ℕ) → Gate → Type 0
 PositionsLast cap g = (disk : List Line) (tokens : List Token) (most : ℕ) (h : Gate) → LeavesOnDisk g disk
     → Restores (gate_at_start cap tokens most g.head g.sent) disk h → (settled_at g ≤ settled_at h) × (settled_at h ≤ position g)
 
 -- ---- names
 
--- all entries of the holder that were behind the place and may have borne a name are forgotten, or the place is of another epoch: what was
+-- all entries of the holder that were after the place and may have borne a name are forgotten, or the place is of another epoch: what was
 -- told 102 or 103 is told it for ever
 abbrev pub IsPast : Gate → Ask → Type 0
 IsPast g a = (a.at.count + limits.names < count_of g a.holder) ⊎ (a.at.epoch ≢ (place_at g.head a.holder).epoch)

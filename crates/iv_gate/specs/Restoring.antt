@@ -27,7 +27,7 @@ gate_at_start cap tokens most head sent = record {
   sent = sent;
 }
 
--- each step is behind the last
+-- each step is after the last
 abbrev pub are_rising : ℕ → List Entry → Bool
 are_rising p [] = true
 are_rising p (e ∷ es) = if_some e.position true (nat_lt p) && are_rising (unwrap_or e.position p) es
@@ -41,13 +41,13 @@ pub record LeadOn (g : Gate) (entries : List Entry) (h : Gate) : Type 0 where
   pub steps : are_rising (position g) entries ≡ true
   pub gate : h ≡ record g { machine = state; entries = entries; kept = length entries; forgiven = length entries }
 
--- the lines of whole records lead a gateway that began to h. They are on disk as they were read: who starts the gateway cuts what stood behind
+-- the lines of whole records lead a gateway that began to h. They are on disk as they were read: who starts the gateway cuts what came after
 -- them, and syncs the file, before the first event
 pub record Restores (g : Gate) (lines : List Line) (h : Gate) : Type 0 where
   pub all : lines ≡ journal_of h.entries
   pub leads : LeadOn g h.entries h
 
--- behind entries that lead on, at this line of the journal, nothing stands that leads on
+-- after entries that lead on, at this line of the journal, nothing is there that leads on
 pub record IsDamagedAt (g : Gate) (lines : List Line) (place : ℕ) : Type 0 where
   pub entries : List Entry
   pub gate : Gate

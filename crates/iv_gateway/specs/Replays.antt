@@ -39,7 +39,7 @@ pub record IsReplaying (g : Gate) (es : List Entry) (x : Gateway) : Type 0 where
   pub leads : LeadOn g es (record g { machine = state; entries = es; kept = length es; forgiven = length es })
   pub gate : IsAlive (behind g state es) x
 
--- the entry leads on behind them, or does not
+-- the entry leads on after them, or does not
 abbrev pub IsReplayed : Gate → List Entry → Entry → Bool → Gateway → Type 0
 IsReplayed g es e true x = IsReplaying g (es ++ e ∷ []) x
 IsReplayed g es e false x = (h : Gate) → LeadOn g (es ++ e ∷ []) h → ⊥
@@ -61,7 +61,7 @@ IsRecordReplayed g es lines None x = (e : Entry) (more : List Line) (h : Gate) �
 abbrev pub part : List Request → List Named → Option ℕ → Entry
 part qs ns p = record { requests = qs; names = ns; position = p }
 
--- it is behind the other, if there is one
+-- it is after the other, if there is one
 abbrev pub is_later : ℕ → Option ℕ → Bool
 is_later q p = if_some p true (nat_lt q)
 

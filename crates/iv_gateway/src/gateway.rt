@@ -16,6 +16,7 @@ ghost use Rattle.iv_gate.specs.Restoring.{gate_at_start};
 ghost use Rattle.iv_gateway.specs.Views.{IsGate, IsHead};
 ghost use Rattle.iv_gateway.specs.Waiting.{WaitsWithin};
 
+use crate::tally::Tally;
 use iv_clients::{Feed, OwnedLine, Seat, Token};
 use iv_engine::Engine;
 use iv_hall::Hall;
@@ -93,6 +94,8 @@ pub struct Gateway {
     pub(crate) tokens: Vec<Token>,
     /// What JSON is read with.
     pub(crate) scratch: Scratch,
+    /// What is counted of messages.
+    pub(crate) tally: Tally,
     /// Whether there was a fault.
     pub(crate) dead: bool,
 }
@@ -126,6 +129,7 @@ impl Gateway {
             shape: Vec::new(alloc),
             tokens,
             scratch: Scratch::new(alloc),
+            tally: Tally::new(),
             dead: false,
         })
     }
@@ -203,6 +207,11 @@ impl Gateway {
         ensures { (g : Gate) → IsGate g self.now → g.dead ≡ false → WaitsWithin g result }
     {
         self.clients.waiting()
+    }
+
+    /// What is counted of messages since the start.
+    pub fn tally(&self) -> &Tally {
+        &self.tally
     }
 
     /// The lines of the entries that wait for the journal.

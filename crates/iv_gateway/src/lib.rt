@@ -21,8 +21,10 @@ mod shaping;
 mod sharing;
 mod subscribing;
 mod sweeping;
+mod tally;
 mod telling;
 
 pub use gateway::{Gateway, GatewayFault, Head, Log};
 pub use journal::{Journal, JournalFault};
 pub use restoring::RestoreFault;
+pub use tally::{KINDS, Tally};

@@ -116,6 +116,7 @@ impl Gateway {
     {
         self.clients.ask(client)?;
         let said = read_said(self.alloc, text, &mut self.scratch)?;
+        self.tally.hear(&said.message);
         self.answer(client, speaker, said)?;
         self.settle_told()?;
         self.clients.answered(client, speaker.brought);
@@ -164,6 +165,7 @@ impl Gateway {
     {
         let mut text = Vec::new(self.alloc);
         push_unasked(self.alloc, &mut text, id, why)?;
+        self.tally.refuse(2);
         self.tell(client, &text)?;
         Ok(())
     }

@@ -33,14 +33,14 @@ pub enum RestoreFault {
     /// A growth of memory was refused.
     Memory,
     /// At this line of the journal, counted from none, begins no record of an entry that is accepted again, of names that are new, at a position
-    /// behind the last.
+    /// after the last.
     Damaged(usize),
     /// The gateway has entries that wait for the journal, or is dead: only a new one is restored.
     Late,
 }
 
 impl Gateway {
-    /// Brings a new gateway to where a journal leads, of which it is given the lines of whole records. What stood behind them is to be cut
+    /// Brings a new gateway to where a journal leads, of which it is given the lines of whole records. What came after them is to be cut
     /// off, and the journal synced, before anything happens.
     ///
     /// # Errors
@@ -103,7 +103,7 @@ impl Gateway {
         }
     }
 
-    /// Runs an entry. Whether it may stand there: it is accepted, its names are new, and its position is behind the last.
+    /// Runs an entry. Whether it may stand there: it is accepted, its names are new, and its position is after the last.
     fn replay_entry(&mut self, entry: Entry) -> Result<bool, AllocError>
         requires { IsEntry entry }
         ensures { IfOk result (λ is. (g : Gate) (es : List Entry) → IsReplaying g es self.old → IsReplayed g es entry is self.new) }

@@ -35,6 +35,7 @@ impl Gateway {
     {
         let mut text = Vec::new(self.alloc);
         push_replied(self.alloc, &mut text, id, reply)?;
+        self.tally.reply(reply);
         self.tell(client, &text)?;
         Ok(())
     }
@@ -68,6 +69,7 @@ impl Gateway {
     {
         let mut text = Vec::new(self.alloc);
         push_fault(self.alloc, &mut text, number)?;
+        self.tally.refuse(number as usize);
         self.tell(client, &text)?;
         Ok(())
     }

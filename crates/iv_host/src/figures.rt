@@ -6,6 +6,7 @@ ghost use Rattle.iv_host.specs.Roles.{by_role, first_at, more_at};
 
 use crate::counts::{BOUNDS, Counts, raise};
 use crate::journal::{FileJournal, Syncs};
+use iv_gateway::{KINDS, Tally};
 use iv_pages::{Label, Metric, push_counter, push_gauge, push_histogram, push_sample};
 use std::alloc::{AllocError, Global};
 use std::fs;
@@ -206,6 +207,60 @@ fn push_counts(out: &mut Vec<u8>, counts: &Counts) -> Result<(), AllocError> {
     Ok(())
 }
 
+/// Appends how many messages were heard, by their kinds.
+fn push_heard(out: &mut Vec<u8>, tally: &Tally) -> Result<(), AllocError> {
+    let metric = Metric {
+        name: "gateway_requests_total",
+        help: "Messages that were heard, by their words at do; none of what is no request",
+    };
+    let none = [Label {
+        name: "kind",
+        value: KINDS[0],
+    }];
+    push_counter(out, &metric, &none, tally.heard[0])?;
+    for at in 1..14 {
+        let kind = [Label {
+            name: "kind",
+            value: KINDS[at],
+        }];
+        push_sample(out, metric.name, &kind, tally.heard[at])?;
+    }
+    Ok(())
+}
+
+/// Appends how many messages were refused by a further number.
+fn push_number(out: &mut Vec<u8>, number: usize, count: u64) -> Result<(), AllocError> {
+    let text = format!(in *out.allocator(); "{number}")?;
+    push_sample(
+        out,
+        "gateway_refusals_total",
+        &[Label {
+            name: "refusal",
+            value: text.as_str(),
+        }],
+        count,
+    )
+}
+
+/// Appends how many messages were refused, by the numbers of refusals. None has the number 21.
+fn push_refused(out: &mut Vec<u8>, tally: &Tally) -> Result<(), AllocError> {
+    let metric = Metric {
+        name: "gateway_refusals_total",
+        help: "Messages that were refused, by the number of the refusal",
+    };
+    let first = [Label {
+        name: "refusal",
+        value: "1",
+    }];
+    push_counter(out, &metric, &first, tally.refused[1])?;
+    for number in 2..24 {
+        if number != 21 {
+            push_number(out, number, tally.refused[number])?;
+        }
+    }
+    Ok(())
+}
+
 /// Bounds of times of syncs, each with how many syncs took at most so long.
 fn buckets_of(alloc: Global, syncs: &Syncs) -> Result<Vec<(u64, u64)>, AllocError> {
     let mut buckets = Vec::new(alloc);
@@ -275,11 +330,14 @@ fn push_clients(out: &mut Vec<u8>, roles: &[(String, u64)]) -> Result<(), AllocE
 pub fn figures_now(
     rt: &HostRuntime,
     counts: &Counts,
+    tally: &Tally,
     journal: &FileJournal,
     now: &Now,
 ) -> Result<Vec<u8>, AllocError> {
     let mut out = Vec::new(rt.alloc());
     push_counts(&mut out, counts)?;
+    push_heard(&mut out, tally)?;
+    push_refused(&mut out, tally)?;
     push_journal(&mut out, journal)?;
     push_clients(&mut out, &now.roles)?;
     gauge(

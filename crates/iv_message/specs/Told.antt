@@ -14,9 +14,10 @@ use Rattle.iv_request.specs.Values.{natural}
 use Rattle.iv_lines.specs.Texts.{cause_text, fault_data, reply_members, text_of}
 use Rattle.iv_message.specs.Message.{Why, missing, unknown, wrong, on_one_line}
 
--- `welcome` comes first, with the number of the protocol; `own` is the client's own number of a subscription, and `rel` the relation that it asked for; `line` is a request, as a client of the
--- role wrote it. `placed` tells where the names of the client's holder stand; `answered` the answer to a request with a name, whether that is
--- told again, and where the names stand behind it; `undecided` that nobody says whether the request was done; `denied` that it was not
+-- `welcome` comes first, with the number of the protocol; `own` is the client's own number of a subscription, and `rel` the relation that
+-- it asked for; `line` is a request, as a client of the role wrote it. `placed` tells where the names of the client's holder are; `answered`
+-- the answer to a request with a name, whether that is told again, and where the names are after it; `undecided` that nobody says whether
+-- the request was done; `denied` that it was not
 pub data Told : Type 0 where
   welcome : (role : Name) → Told
   replied : (id : Option Data) → Reply → Told

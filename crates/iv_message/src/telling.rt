@@ -351,7 +351,7 @@ fn push_id(alloc: Global, text: &mut Vec<u8>, id: &Option<Id>) -> Result<(), All
 }
 
 /// Appends the answer to a request with a name, as it was first given, whether it is told again, and where the names of the client's holder
-/// stand behind it.
+/// stand after it.
 pub fn push_answered(
     alloc: Global,
     text: &mut Vec<u8>,

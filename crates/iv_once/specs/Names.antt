@@ -152,7 +152,7 @@ verdict n a = let o = own_of n.known a.holder in by_found n o a (find_named a.na
 
 -- ---- names that come with their answers
 
--- it has no answer yet: no entry that is kept of its holder bears the name, and all that are behind its place are kept
+-- it has no answer yet: no entry that is kept of its holder bears the name, and all that are after its place are kept
 abbrev pub is_new : Limits → Known → Ask → Bool
 is_new l k a = let o = own_of k a.holder in
     not (is_some (find_named a.name o.recent)) && (nat_le a.at.count o.count && nat_le o.count (a.at.count + l.names))

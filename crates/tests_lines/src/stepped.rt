@@ -21,7 +21,7 @@ const BEFORE: &str = r#"{"do":"begin","role":"admin","session":1}
 {"do":"create_view","name":"sums","owner":"admin","query":"select who, sum(id) as s, count(*) as n from notes group by who","session":1}
 {"do":"grant","on":"ids","privileges":["select"],"to":"ann","session":1}
 {"do":"grant","on":"sums","privileges":["select"],"to":"bob","session":1}
-{"do":"create_policy","on":"notes","name":"all","to":["ann"],"using":"true","session":1}
+{"do":"create_policy","on":"notes","name":"every","to":["ann"],"using":"true","session":1}
 {"do":"create_policy","on":"notes","name":"own","to":["bob"],"using":"who = current_user","session":1}
 {"do":"row_security","on":"notes","enable":true,"force":false,"session":1}
 {"do":"write","entries":[{"on":"notes","insert":[1,"ann"]}],"session":1}

@@ -48,7 +48,7 @@ pub fn the_journal_leads_back()
     told_texts_are_lines();
 }
 
-/// In whatever runs, over restarts, the log goes on, in memory and on disk; what its source was told to be on disk is there behind a crash.
+/// In whatever runs, over restarts, the log goes on, in memory and on disk; what its source was told to be on disk is there after a crash.
 pub fn positions_rise()
     ensures rise { (cap : ℕ) (g : Gate) (e : Event) → Runs cap g → IsWell e → PositionsRise g e }
     ensures last { (cap : ℕ) (g : Gate) → Runs cap g → PositionsLast cap g }

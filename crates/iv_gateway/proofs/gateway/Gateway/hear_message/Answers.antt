@@ -12,7 +12,11 @@ pub returns : goal.returns
 returns c = λ g k b there is.
     let m = c.args.client in
     let text = c.args.text.now in
-    let counted : IsAlive (asked g c.args.client c.args.text.now) (record c.args.self.now { clients = c.ask.new.self; scratch = c.read_said.new.scratch }) =
+    let counted : IsAlive (asked g c.args.client c.args.text.now) (record c.args.self.now {
+      clients = c.ask.new.self;
+      scratch = c.read_said.new.scratch;
+      tally = c.hear.new.self;
+    }) =
     record {
       tokens = b.tokens;
       machine = b.machine;
