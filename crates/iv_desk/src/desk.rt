@@ -19,6 +19,7 @@ use crate::places::{
 use iv_clients::{OwnedLine, Token};
 use iv_gate::laws::events_leave_their_marks;
 use iv_gateway::{Gateway, GatewayFault, Journal, RestoreFault, Tally};
+use iv_journal::Line;
 use std::alloc::{AllocError, Global};
 
 /// Peers by their numbers, and the gateway whose clients have the same numbers. After a fault it is dead: it hears, tells and offers nothing

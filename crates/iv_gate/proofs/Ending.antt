@@ -12,8 +12,8 @@ use Rattle.iv_machine.specs.Machine.{Outcome, difference, ending, line_for, line
 use Rattle.iv_machine.specs.Reached.{AreUnique}
 use Rattle.iv_machine.specs.State.{State, Subscription, shown, subscription_of, view_shown}
 use Rattle.iv_machine.specs.declared.Cause.{Cause}
-use Rattle.iv_machine.proofs.RunSums.{shows_nothing}
-use Rattle.iv_machine.proofs.UniqueNumbers.{has_number, none_kept}
+use Rattle.iv_machine.proofs.RunSums.{shown-has_number}
+use Rattle.iv_machine.proofs.UniqueNumbers.{has_number, has_number-filter}
 use Rattle.iv_clients.specs.Feeds.{ends_in, is_end}
 use Rattle.iv_steps.specs.Steps.{Fact, all_carried, among, looked_at, shared, stepped}
 use Rattle.iv_gate.proofs.Places.{any_of_both}
@@ -118,7 +118,7 @@ gone ends (e ∷ es) k x u h w = by (k == e.number) (is_some (ends e)) refl refl
 
     by : (b d : Bool) → (k == e.number) ≡ b → is_some (ends e) ≡ d → cond b (Some e) (subscription_of es k) ≡ Some x → (subscription_of es k ≡ Some x → has_number k left ≡ false)
         → has_number k (cond (not d) (e ∷ left) left) ≡ false
-    by true true q v f more = none_kept k (λ y. not (is_some (ends y))) es (ap (λ i. has_number i es) (eqb-true k e.number q) ∙ u.0)
+    by true true q v f more = has_number-filter k (λ y. not (is_some (ends y))) es (ap (λ i. has_number i es) (eqb-true k e.number q) ∙ u.0)
     by true false q v f more = let same : e ≡ x = cc in absurd (false≢true (sym v ∙ (ap (λ y. is_some (ends y)) same ∙ w)))
     by false true q v f more = more f
     by false false q v f more = (λ i. q i || more f i)
@@ -129,7 +129,7 @@ step_over fs s o u h k e = by (all_carried fs (shared s)) h
     over : (t : State) → ends_in (looked_at s (among s t)).lines k ≡ true → shown (looked_at s (among s t)).state k ≡ []
     over t f =
         let now = among s t in let new = (looked_at s now).state in let x = find_ended k s new (ending now) s.frame.subscriptions u f in
-        shows_nothing new k (gone (ending now) s.frame.subscriptions k x.subscription u x.found x.ended)
+        shown-has_number new k (gone (ending now) s.frame.subscriptions k x.subscription u x.found x.ended)
 
     by : (t : Option State) → option_map (λ v. looked_at s (among s v)) t ≡ Some o → shown o.state k ≡ []
     by None f = cc
