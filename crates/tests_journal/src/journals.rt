@@ -261,7 +261,7 @@ fn cuts_leave_whole_records(rt: HostRuntime) {
 /// written.
 fn is_told(alloc: Global, all: &[u8], at: usize) -> Result<bool, AllocError> {
     let line = line_at(at);
-    let is_open = at + 1 == all.len() && all[at] != 0;
+    let is_open = at.saturating_add(1) == all.len() && all[at] != 0;
     let told = if is_open { None } else { Some(place_of(line)) };
     reads(alloc, all, whole(line), told)
 }
