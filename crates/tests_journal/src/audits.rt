@@ -2,6 +2,7 @@
 use iv_audit::{AuditFault, Share, WriteFault, anew, push_head, push_records, read_audit};
 use iv_journal::Chain;
 use std::alloc::{AllocError, Global};
+use std::test::Fail;
 
 /// What a gateway gives its journal.
 const GIVEN: &[u8] = b"{\"as\":\"ann\",\"do\":\"begin\"}\n{\"as\":\"bob\",\"x\":\"\\u0022\"}\n";
@@ -66,67 +67,68 @@ fn read(alloc: Global, bytes: &[u8]) -> (Vec<u8>, usize, Option<usize>) {
     }
 }
 
-/// Whether the journal is these lines.
-fn is_joined(alloc: Global, out: Result<Vec<u8>, WriteFault>, lines: &[&[u8]]) -> bool {
-    match (out, joined(alloc, lines)) {
-        (Ok(out), Ok(wanted)) => out.as_slice() == wanted.as_slice(),
-        _ => false,
-    }
-}
-
 #[test]
-fn entries_are_written_with_who_and_when(rt: HostRuntime) {
+fn entries_are_written_with_who_and_when(rt: HostRuntime) -> Result<(), Fail> {
     let alloc = rt.alloc();
-    let noted = is_joined(alloc, noted(alloc), &NOTED);
-    let plain = is_joined(alloc, anew(alloc, EPOCH, GIVEN), &PLAIN);
-    assert!(rt; noted && plain, "with notes {noted}, without notes {plain}");
-}
-
-/// Whether bytes are read as these bytes of a gateway, up to there, or as damage at that byte.
-fn is_read(alloc: Global, bytes: &[u8], given: &[u8], end: usize, fault: Option<usize>) -> bool {
-    let (read, read_end, read_fault) = read(alloc, bytes);
-    read.as_slice() == given && read_end == end && read_fault == fault
-}
-
-/// Whether the lines are read as what was given: whole, without their last byte, and without their head.
-fn are_read(alloc: Global, lines: &[&[u8]; 3]) -> Result<[bool; 3], AllocError> {
-    let bytes = joined(alloc, lines)?;
-    let torn = bytes.get(..bytes.len().saturating_sub(1)).unwrap_or(&[]);
-    let kept = lines[0].len().saturating_add(lines[1].len());
-    let first = GIVEN.get(..FIRST).unwrap_or(&[]);
-    let headless = bytes.get(lines[0].len()..).unwrap_or(&[]);
-    Ok([
-        is_read(alloc, &bytes, GIVEN, bytes.len(), None),
-        is_read(alloc, torn, first, kept, None),
-        is_read(alloc, headless, &[], 0, Some(0)),
-    ])
+    let wanted = joined(alloc, &NOTED)?;
+    let is_written = match noted(alloc) {
+        Ok(out) => out == wanted,
+        Err(_) => false,
+    };
+    assert!(rt; is_written, "with notes");
+    let plain = joined(alloc, &PLAIN)?;
+    let is_renewed = match anew(alloc, EPOCH, GIVEN) {
+        Ok(out) => out == plain,
+        Err(_) => false,
+    };
+    assert!(rt; is_renewed, "without notes");
+    Ok(())
 }
 
 #[test]
-fn what_was_given_is_read_again(rt: HostRuntime) {
-    let read = [are_read(rt.alloc(), &NOTED), are_read(rt.alloc(), &PLAIN)];
-    assert!(rt; read == [Ok([true; 3]), Ok([true; 3])]);
-}
-
-/// Lines that are no entries, each with its newline, but for the first.
-const NO_ENTRIES: [&[u8]; 4] = [
-    b"{\"as\":\"ann\"}",
-    b"nonsense\n",
-    b"{\"role\":1}\n",
-    b"{\"as\":\"\0\"}\n",
-];
-
-/// The first of these that is written.
-fn first_written(alloc: Global) -> Option<&'static [u8]> {
-    for bytes in &NO_ENTRIES {
-        if !matches!(anew(alloc, EPOCH, bytes), Err(WriteFault::NotEntries)) {
-            return Some(*bytes);
-        }
+fn what_was_given_is_read_again(rt: HostRuntime) -> Result<(), Fail> {
+    let alloc = rt.alloc();
+    for lines in [NOTED, PLAIN] {
+        let bytes = joined(alloc, &lines)?;
+        let (given, end, fault) = read(alloc, &bytes);
+        assert_eq!(rt;
+            (given.as_slice(), end, fault),
+            (GIVEN, bytes.len(), None),
+            "whole"
+        );
+        let torn = bytes.get(..bytes.len().saturating_sub(1)).unwrap_or(&[]);
+        let (given, end, fault) = read(alloc, torn);
+        let kept = lines[0].len().saturating_add(lines[1].len());
+        assert_eq!(rt;
+            (given.as_slice(), end, fault),
+            (GIVEN.get(..FIRST).unwrap_or(&[]), kept, None),
+            "torn"
+        );
+        let headless = bytes.get(lines[0].len()..).unwrap_or(&[]);
+        let (given, end, fault) = read(alloc, headless);
+        assert_eq!(rt;
+            (given.is_empty(), end, fault),
+            (true, 0, Some(0)),
+            "without its head"
+        );
     }
-    None
+    Ok(())
 }
 
 #[test]
-fn what_is_no_entry_is_not_written(rt: HostRuntime) {
-    assert!(rt; first_written(rt.alloc()).is_none());
+fn what_is_no_entry_is_not_written(rt: HostRuntime) -> Result<(), Fail> {
+    let alloc = rt.alloc();
+    for bytes in [
+        b"{\"as\":\"ann\"}".as_slice(),
+        b"nonsense\n",
+        b"{\"role\":1}\n",
+        b"{\"as\":\"\0\"}\n",
+    ] {
+        let is_refused = match anew(alloc, EPOCH, bytes) {
+            Err(WriteFault::NotEntries) => true,
+            _ => false,
+        };
+        assert!(rt; is_refused, "a line that is no entry is written");
+    }
+    Ok(())
 }

@@ -3,6 +3,7 @@ use iv_journal::{
     Chain, Head, Line, MOST_TEXT, PushFault, Reading, head_in, head_text, read_journal,
 };
 use std::alloc::{AllocError, Global};
+use std::test::Fail;
 
 /// The lines of a journal: a head, a record of one text, and one of a part and a last text.
 const LINES: [&[u8]; 4] = [
@@ -30,7 +31,7 @@ const TEXTS: [(bool, &[u8]); 4] = [
 /// Where each line begins, and where the last one ends.
 const PLACES: [usize; 5] = [0, 145, 245, 332, 408];
 
-/// Some of the lines behind one another.
+/// Some of the lines after one another.
 fn journal(alloc: Global, lines: &[usize]) -> Result<Vec<u8>, AllocError> {
     let mut out = Vec::new(alloc);
     for at in lines {
@@ -46,33 +47,7 @@ fn whole(lines: usize) -> usize {
     if lines == 3 { 2 } else { lines }
 }
 
-/// Whether the line has one of the texts, and how many bytes it has with its digest.
-fn measured(line: &Line) -> (bool, usize) {
-    let is_known = TEXTS
-        .iter()
-        .any(|(last, text)| *last == line.is_last && *text == line.text);
-    (is_known, line.text.len().saturating_add(76))
-}
-
-/// Whether all lines have these texts, and how many bytes they have.
-fn all_measured(lines: &[Line]) -> (bool, usize) {
-    let (mut are_known, mut length) = (true, 0_usize);
-    for line in lines {
-        let (is_known, more) = measured(line);
-        are_known = are_known && is_known;
-        length = length.saturating_add(more);
-    }
-    (are_known, length)
-}
-
-/// Whether it is read as so many lines of whole records, and as a fault at that byte.
-fn is_read(read: &Reading, lines: usize, fault: Option<usize>) -> bool {
-    let lines_are = read.lines.len() == lines && read.end.lines == lines;
-    let (are_known, length) = all_measured(&read.lines);
-    lines_are && are_known && read.end.length == length && read.fault == fault
-}
-
-/// The same of bytes.
+/// Whether bytes read as so many lines of whole records, and as a fault at that byte.
 fn reads(
     alloc: Global,
     bytes: &[u8],
@@ -80,7 +55,19 @@ fn reads(
     fault: Option<usize>,
 ) -> Result<bool, AllocError> {
     let read = read_journal(alloc, bytes)?;
-    Ok(is_read(&read, lines, fault))
+    let lines_are = read.lines.len() == lines && read.end.lines == lines;
+    let mut length = 0;
+    let mut texts_are = true;
+    for line in &read.lines {
+        length = 76_usize
+            .saturating_add(line.text.len())
+            .saturating_add(length);
+        texts_are = texts_are
+            && TEXTS
+                .iter()
+                .any(|(last, text)| *last == line.is_last && *text == line.text);
+    }
+    Ok(lines_are && texts_are && read.end.length == length && read.fault == fault)
 }
 
 /// The byte at which a line begins.
@@ -102,142 +89,130 @@ fn line_at(byte: usize) -> usize {
     line
 }
 
-/// Adds the text of that place to a journal; whether that is done.
-fn push(chain: &mut Chain, out: &mut Vec<u8>, at: usize) -> bool {
-    match TEXTS.get(at) {
-        Some((is_last, text)) => pushed(chain, out, *is_last, text).0 == "written",
-        None => false,
+#[test]
+fn journals_are_written(rt: HostRuntime) -> Result<(), Fail> {
+    let alloc = rt.alloc();
+    let mut chain = Chain::new();
+    let mut out = Vec::new(alloc);
+    for (is_last, text) in &TEXTS {
+        assert!(rt;
+            chain
+                .push(
+                    &mut out,
+                    &Line {
+                        is_last: *is_last,
+                        text
+                    }
+                )
+                .is_ok()
+        );
     }
-}
-
-/// Adds the texts from there on; whether that is done.
-fn push_all(chain: &mut Chain, out: &mut Vec<u8>, first: usize) -> bool {
-    for at in first..TEXTS.len() {
-        if !push(chain, out, at) {
-            return false;
-        }
-    }
-    true
-}
-
-/// Whether the texts make the lines.
-fn are_written(alloc: Global) -> Result<bool, AllocError> {
     let wanted = journal(alloc, &[0, 1, 2, 3])?;
-    let mut chain = Chain::new();
-    let mut out = Vec::new(alloc);
-    Ok(push_all(&mut chain, &mut out, 0) && out.as_slice() == wanted.as_slice())
+    assert_eq!(rt; out.as_slice(), wanted.as_slice());
+    Ok(())
 }
 
 #[test]
-fn journals_are_written(rt: HostRuntime) {
-    assert!(rt; are_written(rt.alloc()) == Ok(true));
-}
-
-/// What comes of a text that is added, and how many bytes there are then.
-fn pushed(
-    chain: &mut Chain,
-    out: &mut Vec<u8>,
-    is_last: bool,
-    text: &[u8],
-) -> (&'static str, usize) {
-    let word = match chain.push(out, &Line { is_last, text }) {
-        Ok(()) => "written",
-        Err(PushFault::NotText) => "no text",
-        Err(PushFault::Memory) => "out of memory",
-    };
-    (word, out.len())
-}
-
-/// A text of so many bytes.
-fn long(alloc: Global, bytes: usize) -> Result<Vec<u8>, AllocError> {
-    let mut text = Vec::new(alloc);
-    text.resize(bytes, b'a')?;
-    Ok(text)
-}
-
-/// What comes of the longest text, of one that is longer, and of texts with a newline and a zero byte, one after another.
-fn all_pushed(alloc: Global) -> Result<[(&'static str, usize); 4], AllocError> {
-    let most = long(alloc, MOST_TEXT)?;
-    let longer = long(alloc, MOST_TEXT + 1)?;
+fn what_is_no_text_is_not_written(rt: HostRuntime) -> Result<(), Fail> {
+    let alloc = rt.alloc();
+    let mut long = Vec::new(alloc);
+    for _ in 0..MOST_TEXT {
+        long.push(b'a')?;
+    }
     let mut chain = Chain::new();
     let mut out = Vec::new(alloc);
-    Ok([
-        pushed(&mut chain, &mut out, false, &most),
-        pushed(&mut chain, &mut out, true, &longer),
-        pushed(&mut chain, &mut out, true, b"a\nb"),
-        pushed(&mut chain, &mut out, true, b"a\0"),
-    ])
+    assert!(rt;
+        chain
+            .push(
+                &mut out,
+                &Line {
+                    is_last: false,
+                    text: &long
+                }
+            )
+            .is_ok()
+    );
+    assert_eq!(rt; out.len(), MOST_TEXT + 76);
+    long.push(b'a')?;
+    for text in [long.as_slice(), b"a\nb", b"a\0"] {
+        let pushed = chain.push(
+            &mut out,
+            &Line {
+                is_last: true,
+                text,
+            },
+        );
+        assert!(rt; matches!(pushed, Err(PushFault::NotText)));
+    }
+    assert_eq!(rt; out.len(), MOST_TEXT + 76);
+    Ok(())
 }
 
 #[test]
-fn what_is_no_text_is_not_written(rt: HostRuntime) {
-    let bytes = MOST_TEXT + 76;
-    let refused = ("no text", bytes);
-    let wanted = [("written", bytes), refused, refused, refused];
-    assert_eq!(rt; all_pushed(rt.alloc()), Ok(wanted));
-}
-
-/// Whether a journal that is cut within its last line, so that the part before it is cut, too, can be written on.
-fn are_written_on(alloc: Global) -> Result<bool, AllocError> {
+fn journals_are_written_on(rt: HostRuntime) -> Result<(), Fail> {
+    let alloc = rt.alloc();
     let all = journal(alloc, &[0, 1, 2, 3])?;
+    // cut within the last line, of which the part before it is cut, too
     let mut left = Vec::from_slice(alloc, &all)?;
     left.truncate(PLACES[4] - 1);
     let end = read_journal(alloc, &left)?.end;
     left.truncate(end.length);
     let mut chain = Chain::behind(end.digest);
-    Ok(push_all(&mut chain, &mut left, 2) && left.as_slice() == all.as_slice())
+    for (is_last, text) in &TEXTS[2..] {
+        assert!(rt;
+            chain
+                .push(
+                    &mut left,
+                    &Line {
+                        is_last: *is_last,
+                        text
+                    }
+                )
+                .is_ok()
+        );
+    }
+    assert_eq!(rt; left.as_slice(), all.as_slice());
+    Ok(())
 }
 
 #[test]
-fn journals_are_written_on(rt: HostRuntime) {
-    assert!(rt; are_written_on(rt.alloc()) == Ok(true));
-}
-
-/// Whether it is the head of the journal.
-fn is_head(head: Option<Head>) -> bool {
-    matches!(
-        head,
-        Some(Head {
-            epoch: b"0123456789abcdef0123456789abcdef",
-            more: b"\"by\":\"a test\"}"
-        })
-    )
-}
-
-/// Whether the head's text is that of the journal, and says what it was made of, and whether another text says nothing.
-fn heads(alloc: Global) -> Result<[bool; 3], AllocError> {
+fn heads_are_told(rt: HostRuntime) -> Result<(), Fail> {
+    let alloc = rt.alloc();
     let text = head_text(
         alloc,
         b"0123456789abcdef0123456789abcdef",
         b"\"by\":\"a test\"}",
     )?;
-    let is_text = text.as_slice() == TEXTS[0].1;
-    Ok([
-        is_text,
-        is_head(head_in(&text)),
-        head_in(TEXTS[1].1).is_none(),
-    ])
-}
-
-/// The byte of the fault of a journal that begins with another text than a head.
-fn fault_without_head(alloc: Global) -> Result<Option<usize>, AllocError> {
-    let mut chain = Chain::new();
+    assert_eq!(rt; text.as_slice(), TEXTS[0].1);
+    let told = matches!(
+        head_in(&text),
+        Some(Head {
+            epoch: b"0123456789abcdef0123456789abcdef",
+            more: b"\"by\":\"a test\"}"
+        })
+    );
+    assert!(rt; told);
+    assert!(rt; head_in(TEXTS[1].1).is_none());
+    // a journal begins with a head
     let mut out = Vec::new(alloc);
-    if push(&mut chain, &mut out, 1) {
-        Ok(read_journal(alloc, &out)?.fault)
-    } else {
-        Err(AllocError)
-    }
+    assert!(rt;
+        Chain::new()
+            .push(
+                &mut out,
+                &Line {
+                    is_last: true,
+                    text: TEXTS[1].1
+                }
+            )
+            .is_ok()
+    );
+    assert_eq!(rt; read_journal(alloc, &out)?.fault, Some(0));
+    Ok(())
 }
 
 #[test]
-fn heads_are_told(rt: HostRuntime) {
-    let told = (heads(rt.alloc()), fault_without_head(rt.alloc()));
-    assert_eq!(rt; told, (Ok([true; 3]), Ok(Some(0))));
-}
-
-/// The first length of a front of the journal that is not read as the whole records in it.
-fn first_bad_cut(alloc: Global) -> Result<Option<usize>, AllocError> {
+fn cuts_leave_whole_records(rt: HostRuntime) -> Result<(), Fail> {
+    let alloc = rt.alloc();
     let all = journal(alloc, &[0, 1, 2, 3])?;
     for cut in 0..=all.len() {
         let lines = if cut == all.len() {
@@ -245,78 +220,48 @@ fn first_bad_cut(alloc: Global) -> Result<Option<usize>, AllocError> {
         } else {
             whole(line_at(cut))
         };
-        if !reads(alloc, &all[..cut], lines, None)? {
-            return Ok(Some(cut));
-        }
+        assert!(rt; reads(alloc, &all[..cut], lines, None)?);
     }
-    Ok(None)
+    Ok(())
 }
 
 #[test]
-fn cuts_leave_whole_records(rt: HostRuntime) {
-    assert_eq!(rt; first_bad_cut(rt.alloc()), Ok(None));
-}
-
-/// Whether the fault of another byte there is told: at its line; if the last newline is damaged alone, that line looks as one that is being
-/// written.
-fn is_told(alloc: Global, all: &[u8], at: usize) -> Result<bool, AllocError> {
-    let line = line_at(at);
-    let is_open = at.saturating_add(1) == all.len() && all[at] != 0;
-    let told = if is_open { None } else { Some(place_of(line)) };
-    reads(alloc, all, whole(line), told)
-}
-
-/// Whether that is so of other bytes in that place.
-fn are_told(alloc: Global, all: &mut [u8], at: usize) -> Result<bool, AllocError> {
-    let was = all[at];
-    for byte in [0, b'\n', b'0', was ^ 1, was ^ 128] {
-        all[at] = byte;
-        if byte != was && !is_told(alloc, all, at)? {
-            return Ok(false);
-        }
-    }
-    all[at] = was;
-    Ok(true)
-}
-
-/// The first byte whose change is not told so.
-fn first_untold(alloc: Global) -> Result<Option<usize>, AllocError> {
+fn changed_bytes_are_told(rt: HostRuntime) -> Result<(), Fail> {
+    let alloc = rt.alloc();
     let mut all = journal(alloc, &[0, 1, 2, 3])?;
     for at in 0..all.len() {
-        if !are_told(alloc, &mut all, at)? {
-            return Ok(Some(at));
+        let line = line_at(at);
+        let was = all[at];
+        for byte in [0, b'\n', b'0', was ^ 1, was ^ 128] {
+            all[at] = byte;
+            // if the last newline is damaged alone, that line looks as one that is being written
+            let told = if at + 1 == all.len() && byte != 0 {
+                None
+            } else {
+                Some(place_of(line))
+            };
+            let same = byte == was;
+            assert!(rt; same || reads(alloc, &all, whole(line), told)?);
         }
+        all[at] = was;
     }
-    Ok(None)
+    Ok(())
 }
 
 #[test]
-fn changed_bytes_are_told(rt: HostRuntime) {
-    assert_eq!(rt; first_untold(rt.alloc()), Ok(None));
-}
-
-/// The first byte, from the end, from which on zeros are not told at its line.
-fn first_zero(alloc: Global) -> Result<Option<usize>, AllocError> {
+fn zeros_are_told(rt: HostRuntime) -> Result<(), Fail> {
+    let alloc = rt.alloc();
     let mut all = journal(alloc, &[0, 1, 2, 3])?;
     all.push(0)?;
-    if !reads(alloc, &all, 4, Some(PLACES[4]))? {
-        return Ok(Some(PLACES[4]));
-    }
+    assert!(rt; reads(alloc, &all, 4, Some(PLACES[4]))?);
     for at in (0..PLACES[4]).rev() {
         if let Some(byte) = all.get_mut(at) {
             *byte = 0;
         }
         let line = line_at(at);
-        if !reads(alloc, &all, whole(line), Some(place_of(line)))? {
-            return Ok(Some(at));
-        }
+        assert!(rt; reads(alloc, &all, whole(line), Some(place_of(line)))?);
     }
-    Ok(None)
-}
-
-#[test]
-fn zeros_are_told(rt: HostRuntime) {
-    assert_eq!(rt; first_zero(rt.alloc()), Ok(None));
+    Ok(())
 }
 
 /// Lines of the journal in another order, how many are read, and the byte of the fault.
@@ -335,37 +280,15 @@ const ORDERS: [(&[usize], usize, Option<usize>); 9] = [
     (&[0, 1, 3, 2], 2, Some(PLACES[2])),
 ];
 
-/// Whether the lines in that order are read so.
-fn is_order(
-    alloc: Global,
-    lines: &[usize],
-    read: usize,
-    fault: Option<usize>,
-) -> Result<bool, AllocError> {
-    let bytes = journal(alloc, lines)?;
-    reads(alloc, &bytes, read, fault)
-}
-
-/// The first order that is read otherwise.
-fn first_other_order(alloc: Global) -> Option<usize> {
-    for at in 0..ORDERS.len() {
-        let (lines, read, fault) = ORDERS[at];
-        if is_order(alloc, lines, read, fault) != Ok(true) {
-            return Some(at);
-        }
+#[test]
+fn other_orders_are_told(rt: HostRuntime) -> Result<(), Fail> {
+    let alloc = rt.alloc();
+    for (lines, read, fault) in &ORDERS {
+        let bytes = journal(alloc, lines)?;
+        assert!(rt; reads(alloc, &bytes, *read, *fault)?);
     }
-    None
-}
-
-/// Whether a line of another journal is told.
-fn is_foreign_told(alloc: Global) -> Result<bool, AllocError> {
     let mut mixed = journal(alloc, &[0])?;
     mixed.extend_from_slice(FOREIGN)?;
-    reads(alloc, &mixed, 1, Some(PLACES[1]))
-}
-
-#[test]
-fn other_orders_are_told(rt: HostRuntime) {
-    let told = (first_other_order(rt.alloc()), is_foreign_told(rt.alloc()));
-    assert_eq!(rt; told, (None, Ok(true)));
+    assert!(rt; reads(alloc, &mixed, 1, Some(PLACES[1]))?);
+    Ok(())
 }
