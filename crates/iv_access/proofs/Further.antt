@@ -11,21 +11,21 @@ use Rattle.iv_access.specs.Rights.{Grantee, Public, Role, Guard, Policy, Rights}
 use Rattle.iv_access.specs.Privileges.{is_for, role_name}
 use Rattle.iv_access.specs.Policies.{applies, by_policies, covers, failed_at, forbids, is_exempt, is_pass, passes, permits, policies_of}
 use Rattle.iv_access.specs.Changing.{changed_at, insert_policy}
-use Rattle.iv_access.proofs.Policies.{filter_is}
+use Rattle.iv_access.proofs.Policies.{is_pass-filter}
 
 -- ---- the guard of a table
 
-pub changed_there : (n : ℕ) (change : Guard → Guard) (gs : List Guard) → slice_get (changed_at n change gs) n ≡ option_map change (slice_get gs n)
-changed_there n change [] = refl
-changed_there zero change (g ∷ gs) = refl
-changed_there (suc n) change (g ∷ gs) = changed_there n change gs
+pub slice_get-changed_at : (n : ℕ) (change : Guard → Guard) (gs : List Guard) → slice_get (changed_at n change gs) n ≡ option_map change (slice_get gs n)
+slice_get-changed_at n change [] = refl
+slice_get-changed_at zero change (g ∷ gs) = refl
+slice_get-changed_at (suc n) change (g ∷ gs) = slice_get-changed_at n change gs
 
-pub same_elsewhere : (n m : ℕ) (change : Guard → Guard) (gs : List Guard) → m ≢ n → slice_get (changed_at n change gs) m ≡ slice_get gs m
-same_elsewhere n m change [] apart = refl
-same_elsewhere zero zero change (g ∷ gs) apart = absurd (apart refl)
-same_elsewhere zero (suc m) change (g ∷ gs) apart = refl
-same_elsewhere (suc n) zero change (g ∷ gs) apart = refl
-same_elsewhere (suc n) (suc m) change (g ∷ gs) apart = same_elsewhere n m change gs (λ e. apart (ap suc e))
+pub slice_get-changed_elsewhere : (n m : ℕ) (change : Guard → Guard) (gs : List Guard) → m ≢ n → slice_get (changed_at n change gs) m ≡ slice_get gs m
+slice_get-changed_elsewhere n m change [] apart = refl
+slice_get-changed_elsewhere zero zero change (g ∷ gs) apart = absurd (apart refl)
+slice_get-changed_elsewhere zero (suc m) change (g ∷ gs) apart = refl
+slice_get-changed_elsewhere (suc n) zero change (g ∷ gs) apart = refl
+slice_get-changed_elsewhere (suc n) (suc m) change (g ∷ gs) apart = slice_get-changed_elsewhere n m change gs (λ e. apart (ap suc e))
 
 -- ---- what policies say does not look at the guards
 
@@ -95,19 +95,19 @@ module _ (r : Rights) (p : Policy) (role : ℕ) (test : Check) (row : Cells) whe
       → is_pass (if is_exempt r role o then Pass else by_policies r role test row (policies_of o)) ≡ true
   narrow None e h = h
   narrow (Some g) e h =
-      sym (filter_is (is_exempt r role (Some g)) r role test row g.policies)
+      sym (is_pass-filter (is_exempt r role (Some g)) r role test row g.policies)
       ∙ narrowed p.restrictive (is_exempt r role (Some g)) (applies r role test p && passes (role_name r role) test row p) (applies r role test p && not (passes (role_name r role) test row p))
       (list_any (permits r role test row) g.policies) (list_any (forbids r role test row) g.policies) e
       ((λ i. is_exempt r role (Some g) || (sym (any_inserted (permits r role test row) p g.policies) i && not (sym (any_inserted (forbids r role test row) p g.policies) i)))
-      ∙ filter_is (is_exempt r role (Some g)) r role test row (insert_policy p g.policies) ∙ h)
+      ∙ is_pass-filter (is_exempt r role (Some g)) r role test row (insert_policy p g.policies) ∙ h)
 
   pub widen : (o : Option Guard) → p.restrictive ≡ false
       → is_pass (if is_exempt r role o then Pass else by_policies r role test row (policies_of o)) ≡ true
       → is_pass (if is_exempt r role (option_map (further p) o) then Pass else by_policies r role test row (policies_of (option_map (further p) o))) ≡ true
   widen None e h = h
   widen (Some g) e h =
-      sym (filter_is (is_exempt r role (Some g)) r role test row (insert_policy p g.policies))
+      sym (is_pass-filter (is_exempt r role (Some g)) r role test row (insert_policy p g.policies))
       ∙ (λ i. is_exempt r role (Some g) || (any_inserted (permits r role test row) p g.policies i && not (any_inserted (forbids r role test row) p g.policies i)))
       ∙ widened p.restrictive (is_exempt r role (Some g)) (applies r role test p && passes (role_name r role) test row p) (applies r role test p && not (passes (role_name r role) test row p))
       (list_any (permits r role test row) g.policies) (list_any (forbids r role test row) g.policies) e
-      (filter_is (is_exempt r role (Some g)) r role test row g.policies ∙ h)
+      (is_pass-filter (is_exempt r role (Some g)) r role test row g.policies ∙ h)

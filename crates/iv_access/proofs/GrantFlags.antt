@@ -11,10 +11,10 @@ use Rattle.iv_access.specs.Privileges.{privilege_eq}
 use Rattle.iv_access.specs.Changing.{grantee_eq, grant_eq, revoked}
 use Rattle.iv_access.specs.Given.{is_among}
 use Rattle.iv_access.specs.Grants.{AreFlags, FlagsStay, flag_of, grantees_of, IsClear, IsSetIn, is_flagged, no_grants}
-use Rattle.iv_roles.proofs.Chains.{never}
-use Rattle.iv_roles.proofs.Flags.{none_set}
-use Rattle.iv_access.proofs.GrantSets.{none_left}
-use Rattle.iv_access.proofs.GrantNames.{among_granted, among_revoked}
+use Rattle.iv_roles.proofs.Chains.{absurd-true_false}
+use Rattle.iv_roles.proofs.Flags.{get_or-replicate_false}
+use Rattle.iv_access.proofs.GrantSets.{filter-none_passes}
+use Rattle.iv_access.proofs.GrantNames.{is_among-granted, is_among-revoked}
 
 -- ---- no flag
 
@@ -23,16 +23,16 @@ nobody_of n = record { all = false; roles = replicate n false }
 
 to_nobody : (n : ℕ) (to : Grantee) → flag_of (nobody_of n) to ≡ false
 to_nobody n Public = refl
-to_nobody n (Role k) = none_set n k
+to_nobody n (Role k) = get_or-replicate_false n k
 
-pub clear_of : (n : ℕ) → IsClear (record { select = nobody_of n; insert = nobody_of n; update = nobody_of n; delete = nobody_of n })
-clear_of n Select to = to_nobody n to
-clear_of n Insert to = to_nobody n to
-clear_of n Update to = to_nobody n to
-clear_of n Delete to = to_nobody n to
+pub IsClear-nobody : (n : ℕ) → IsClear (record { select = nobody_of n; insert = nobody_of n; update = nobody_of n; delete = nobody_of n })
+IsClear-nobody n Select to = to_nobody n to
+IsClear-nobody n Insert to = to_nobody n to
+IsClear-nobody n Update to = to_nobody n to
+IsClear-nobody n Delete to = to_nobody n to
 
 clear_past : IsClear no_grants
-clear_past = clear_of 0
+clear_past = IsClear-nobody 0
 
 past_all : (rs : List RelationGrants) (g : Grant) → length rs ≤ g.rel → is_flagged rs g ≡ false
 past_all rs g l = ap (λ r. flag_of (grantees_of r g.privilege) g.grantee) (get_or_past rs g.rel no_grants l) ∙ clear_past g.privilege g.grantee
@@ -47,8 +47,8 @@ all_clear k n fresh h p to =
     ]
 
 -- more relations without a flag
-pub more_clear : (rs : List RelationGrants) (k : ℕ) (fresh : RelationGrants) → IsClear fresh → FlagsStay rs (rs ++ replicate k fresh)
-more_clear rs k fresh h g =
+pub FlagsStay-append : (rs : List RelationGrants) (k : ℕ) (fresh : RelationGrants) → IsClear fresh → FlagsStay rs (rs ++ replicate k fresh)
+FlagsStay-append rs k fresh h g =
     elim (cases_lt g.rel (length rs)) [
       | inl l ↦ ap (λ r. flag_of (grantees_of r g.privilege) g.grantee) (get_or_append_left rs (replicate k fresh) no_grants g.rel l)
       | inr past ↦
@@ -86,31 +86,31 @@ cleared_here true f = refl
 cleared_here false f = refl
 
 -- a grant that was not held
-pub given_one : (gs : List Grant) (rs : List RelationGrants) (h : Grant) (old new : RelationGrants) → AreFlags gs rs → is_among gs h ≡ false → h.rel < length rs
+pub AreFlags-granted : (gs : List Grant) (rs : List RelationGrants) (h : Grant) (old new : RelationGrants) → AreFlags gs rs → is_among gs h ≡ false → h.rel < length rs
     → old ≡ get_or rs h.rel old → IsSetIn h.privilege h.grantee true old new → AreFlags (gs ++ h ∷ []) (set rs h.rel new)
-given_one gs rs h old new are none l is step g =
+AreFlags-granted gs rs h old new are none l is step g =
     changed rs h true old new l is step g
     ∙ set_here (grant_eq g h) (is_flagged rs g)
     ∙ ap (λ f. f || grant_eq g h) (are g)
-    ∙ sym (among_granted g h gs)
+    ∙ sym (is_among-granted g h gs)
     ∙ ap (λ b. is_among (if b then gs else gs ++ h ∷ []) g) none
 
 -- a grant that is held no more
-pub taken_one : (gs : List Grant) (rs : List RelationGrants) (h : Grant) (old new : RelationGrants) → AreFlags gs rs → h.rel < length rs
+pub AreFlags-revoked : (gs : List Grant) (rs : List RelationGrants) (h : Grant) (old new : RelationGrants) → AreFlags gs rs → h.rel < length rs
     → old ≡ get_or rs h.rel old → IsSetIn h.privilege h.grantee false old new → AreFlags (revoked h gs) (set rs h.rel new)
-taken_one gs rs h old new are l is step g =
+AreFlags-revoked gs rs h old new are l is step g =
     changed rs h false old new l is step g
     ∙ cleared_here (grant_eq g h) (is_flagged rs g)
     ∙ ap (λ f. not (grant_eq g h) && f) (are g)
-    ∙ sym (among_revoked g h gs)
+    ∙ sym (is_among-revoked g h gs)
 
-pub nothing_taken : (gs : List Grant) (h : Grant) → is_among gs h ≡ false → gs ≡ revoked h gs
-nothing_taken gs h none = sym (none_left (grant_eq h) gs none)
+pub revoked-absent : (gs : List Grant) (h : Grant) → is_among gs h ≡ false → gs ≡ revoked h gs
+revoked-absent gs h none = sym (filter-none_passes (grant_eq h) gs none)
 
 -- a grant that is held has a flag
-pub has_flag : (gs : List Grant) (rs : List RelationGrants) (h : Grant) → AreFlags gs rs → is_among gs h ≡ true → h.rel < length rs
-has_flag gs rs h are e =
+pub lt-is_among : (gs : List Grant) (rs : List RelationGrants) (h : Grant) → AreFlags gs rs → is_among gs h ≡ true → h.rel < length rs
+lt-is_among gs rs h are e =
     elim (cases_lt h.rel (length rs)) [
       | inl l ↦ l
-      | inr past ↦ never (is_among gs h) e (sym (are h) ∙ past_all rs h past)
+      | inr past ↦ absurd-true_false (is_among gs h) e (sym (are h) ∙ past_all rs h past)
     ]

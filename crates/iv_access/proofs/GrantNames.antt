@@ -11,7 +11,7 @@ use Rattle.iv_access.specs.Rights.{Grantee, Grant}
 use Rattle.iv_access.specs.Privileges.{privilege_eq}
 use Rattle.iv_access.specs.Changing.{grantee_eq, grant_eq, granted, revoked, for_each}
 use Rattle.iv_access.specs.Given.{is_among, is_named_by}
-use Rattle.iv_access.proofs.GrantSets.{grant_eq_decides, grant_turned}
+use Rattle.iv_access.proofs.GrantSets.{grant_eq_decides, grant_eq-turned}
 
 or_false : (a : Bool) → (a || false) ≡ a
 or_false true = refl
@@ -23,18 +23,18 @@ taken_in false true f = f refl
 taken_in false false f = refl
 
 -- one grant
-pub among_granted : (g h : Grant) (gs : List Grant) → is_among (granted h gs) g ≡ (is_among gs g || grant_eq g h)
-among_granted g h gs =
+pub is_among-granted : (g h : Grant) (gs : List Grant) → is_among (granted h gs) g ≡ (is_among gs g || grant_eq g h)
+is_among-granted g h gs =
     elim (list_any (grant_eq h) gs) as (λ b. list_any (grant_eq h) gs ≡ b → list_any (grant_eq g) (if b then gs else gs ++ h ∷ []) ≡ (is_among gs g || grant_eq g h)) [
       | true ↦ λ t. taken_in (is_among gs g) (grant_eq g h) (λ e. subst (λ k. list_any (grant_eq k) gs ≡ true) (sym ((grant_eq_decides g h).0 e)) t)
       | false ↦ λ _. list_any-append (grant_eq g) gs (h ∷ []) ∙ ap (λ b. is_among gs g || b) (or_false (grant_eq g h))
     ] refl
 
 -- one revoke
-pub among_revoked : (g h : Grant) (gs : List Grant) → is_among (revoked h gs) g ≡ (not (grant_eq g h) && is_among gs g)
-among_revoked g h gs =
+pub is_among-revoked : (g h : Grant) (gs : List Grant) → is_among (revoked h gs) g ≡ (not (grant_eq g h) && is_among gs g)
+is_among-revoked g h gs =
     any-filter_same (grant_eq g) (λ k. not (grant_eq h k)) (not (grant_eq g h))
-    (λ k e. ap not (ap (grant_eq h) (sym ((grant_eq_decides g k).0 e)) ∙ grant_turned h g)) gs
+    (λ k e. ap not (ap (grant_eq h) (sym ((grant_eq_decides g k).0 e)) ∙ grant_eq-turned h g)) gs
 
 no_more : (a t b : Bool) → b ≡ (b || (a && (false && t)))
 no_more true t true = refl
@@ -50,11 +50,11 @@ one_more true true false true false = refl
 one_more true true false false false = refl
 one_more true false t y false = refl
 
-pub among_given : (rel : ℕ) (ps : List Privilege) (to : Grantee) (g : Grant) (gs : List Grant) → is_among (for_each granted rel ps to gs) g ≡ (is_among gs g || is_named_by rel ps to g)
-among_given rel [] to g gs = no_more (g.rel == rel) (grantee_eq g.grantee to) (is_among gs g)
-among_given rel (p ∷ ps) to g gs =
-    among_given rel ps to g (granted (record { grantee = to; privilege = p; rel = rel }) gs)
-    ∙ ap (λ b. b || is_named_by rel ps to g) (among_granted g (record { grantee = to; privilege = p; rel = rel }) gs)
+pub is_among-for_each_granted : (rel : ℕ) (ps : List Privilege) (to : Grantee) (g : Grant) (gs : List Grant) → is_among (for_each granted rel ps to gs) g ≡ (is_among gs g || is_named_by rel ps to g)
+is_among-for_each_granted rel [] to g gs = no_more (g.rel == rel) (grantee_eq g.grantee to) (is_among gs g)
+is_among-for_each_granted rel (p ∷ ps) to g gs =
+    is_among-for_each_granted rel ps to g (granted (record { grantee = to; privilege = p; rel = rel }) gs)
+    ∙ ap (λ b. b || is_named_by rel ps to g) (is_among-granted g (record { grantee = to; privilege = p; rel = rel }) gs)
     ∙ one_more (g.rel == rel) (privilege_eq g.privilege p) (grantee_eq g.grantee to) (list_any (privilege_eq g.privilege) ps) (is_among gs g)
 
 none_less : (a t b : Bool) → b ≡ (not (a && (false && t)) && b)
@@ -72,22 +72,22 @@ one_less true false true false b = refl
 one_less true false false true b = refl
 one_less true false false false b = refl
 
-pub among_taken : (rel : ℕ) (ps : List Privilege) (to : Grantee) (g : Grant) (gs : List Grant) → is_among (for_each revoked rel ps to gs) g ≡ (not (is_named_by rel ps to g) && is_among gs g)
-among_taken rel [] to g gs = none_less (g.rel == rel) (grantee_eq g.grantee to) (is_among gs g)
-among_taken rel (p ∷ ps) to g gs =
-    among_taken rel ps to g (revoked (record { grantee = to; privilege = p; rel = rel }) gs)
-    ∙ ap (λ b. not (is_named_by rel ps to g) && b) (among_revoked g (record { grantee = to; privilege = p; rel = rel }) gs)
+pub is_among-for_each_revoked : (rel : ℕ) (ps : List Privilege) (to : Grantee) (g : Grant) (gs : List Grant) → is_among (for_each revoked rel ps to gs) g ≡ (not (is_named_by rel ps to g) && is_among gs g)
+is_among-for_each_revoked rel [] to g gs = none_less (g.rel == rel) (grantee_eq g.grantee to) (is_among gs g)
+is_among-for_each_revoked rel (p ∷ ps) to g gs =
+    is_among-for_each_revoked rel ps to g (revoked (record { grantee = to; privilege = p; rel = rel }) gs)
+    ∙ ap (λ b. not (is_named_by rel ps to g) && b) (is_among-revoked g (record { grantee = to; privilege = p; rel = rel }) gs)
     ∙ one_less (g.rel == rel) (privilege_eq g.privilege p) (grantee_eq g.grantee to) (list_any (privilege_eq g.privilege) ps) (is_among gs g)
 
 -- what is held is not added again
 held_stays : (h : Grant) (gs : List Grant) → is_among gs h ≡ true → granted h gs ≡ gs
 held_stays h gs e = ap (λ b. if b then gs else gs ++ h ∷ []) e
 
-pub all_held : (rel : ℕ) (ps : List Privilege) (to : Grantee) (gs : List Grant) → AllPass (λ p. is_among gs (record { grantee = to; privilege = p; rel = rel })) ps → for_each granted rel ps to gs ≡ gs
-all_held rel [] to gs h = refl
-all_held rel (p ∷ ps) to gs h =
+pub for_each-all_held : (rel : ℕ) (ps : List Privilege) (to : Grantee) (gs : List Grant) → AllPass (λ p. is_among gs (record { grantee = to; privilege = p; rel = rel })) ps → for_each granted rel ps to gs ≡ gs
+for_each-all_held rel [] to gs h = refl
+for_each-all_held rel (p ∷ ps) to gs h =
     ap (for_each granted rel ps to) (held_stays (record { grantee = to; privilege = p; rel = rel }) gs (All-head (λ q. is_among gs (record { grantee = to; privilege = q; rel = rel }) ≡ true) p ps h))
-    ∙ all_held rel ps to gs (All-tail (λ q. is_among gs (record { grantee = to; privilege = q; rel = rel }) ≡ true) p ps h)
+    ∙ for_each-all_held rel ps to gs (All-tail (λ q. is_among gs (record { grantee = to; privilege = q; rel = rel }) ≡ true) p ps h)
 
 pub privilege_among_all : (p : Privilege) → list_any (privilege_eq p) (Select ∷ Insert ∷ Update ∷ Delete ∷ []) ≡ true
 privilege_among_all Select = refl

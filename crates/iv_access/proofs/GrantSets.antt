@@ -11,7 +11,7 @@ use Rattle.iv_roles.specs.Memberships.{reaches}
 use Rattle.iv_roles.specs.Roles.{is_admin}
 use Rattle.iv_access.specs.Privileges.{has, privilege_eq, is_for}
 use Rattle.iv_access.specs.Changing.{grant_eq, grantee_eq}
-use Rattle.iv_roles.proofs.Chains.{never, one_of, each_of, by_left, by_right, by_both, two_ways, follows, reaches_itself, reaches_on}
+use Rattle.iv_roles.proofs.Chains.{absurd-true_false, one_of, each_of, by_left, by_right, by_both, is-both_ways, Follows-reaches, reaches_itself, reaches-trans}
 
 -- ---- grants that are found equal are one grant
 
@@ -62,27 +62,27 @@ grant_same a b e =
       rel = (unsigned_Decides a.rel b.rel).0 first.0 i;
     }
 
-pub grant_itself : (a : Grant) → grant_eq a a ≡ true
-grant_itself a = (λ i. number_itself a.rel i && (privilege_itself a.privilege i && grantee_itself a.grantee i))
+pub grant_eq-itself : (a : Grant) → grant_eq a a ≡ true
+grant_eq-itself a = (λ i. number_itself a.rel i && (privilege_itself a.privilege i && grantee_itself a.grantee i))
 
 pub grant_eq_decides : (a b : Grant) → Decides (grant_eq a b) (a ≡ b)
-grant_eq_decides a b = (grant_same a b, λ e. subst (λ c. grant_eq a c ≡ true) e (grant_itself a))
+grant_eq_decides a b = (grant_same a b, λ e. subst (λ c. grant_eq a c ≡ true) e (grant_eq-itself a))
 
-pub grant_turned : (a b : Grant) → grant_eq a b ≡ grant_eq b a
-grant_turned a b =
-    two_ways (grant_eq a b) (grant_eq b a)
+pub grant_eq-turned : (a b : Grant) → grant_eq a b ≡ grant_eq b a
+grant_eq-turned a b =
+    is-both_ways (grant_eq a b) (grant_eq b a)
     (λ e. (grant_eq_decides b a).1 (sym (grant_same a b e)))
     (λ e. (grant_eq_decides a b).1 (sym (grant_same b a e)))
 
 -- ---- what is taken out
 
 -- where none is there, none is taken out
-pub none_left : {A : Type 0} (test : A → Bool) (xs : List A) → list_any test xs ≡ false → filter (λ x. not (test x)) xs ≡ xs
-none_left test [] e = refl
-none_left test (x ∷ xs) e =
+pub filter-none_passes : {A : Type 0} (test : A → Bool) (xs : List A) → list_any test xs ≡ false → filter (λ x. not (test x)) xs ≡ xs
+filter-none_passes test [] e = refl
+filter-none_passes test (x ∷ xs) e =
     elim (test x) as (λ b. (b || list_any test xs) ≡ false → cond (not b) (x ∷ filter (λ y. not (test y)) xs) (filter (λ y. not (test y)) xs) ≡ (x ∷ xs)) [
       | true ↦ λ h. cc
-      | false ↦ λ h. ap (λ ys. x ∷ ys) (none_left test xs h)
+      | false ↦ λ h. ap (λ ys. x ∷ ys) (filter-none_passes test xs h)
     ] e
 
 -- ---- who has what
@@ -109,7 +109,7 @@ module _ (r : Rights) (role : ℕ) (p : Privilege) (rel : ℕ) where
         | inl x ↦
             let same = each_of (rel == g.rel) (privilege_eq p g.privilege && is_for r role g.grantee) x in
             let rest = each_of (privilege_eq p g.privilege) (is_for r role g.grantee) same.1 in
-            let whole = each_of (g.rel == g.rel) (privilege_eq g.privilege g.privilege && grantee_eq g.grantee g.grantee) (grant_itself g) in
+            let whole = each_of (g.rel == g.rel) (privilege_eq g.privilege g.privilege && grantee_eq g.grantee g.grantee) (grant_eq-itself g) in
             let to = (each_of (privilege_eq g.privilege g.privilege) (grantee_eq g.grantee g.grantee) whole.1).1 in (
               g.grantee,
               rest.1,
@@ -123,7 +123,7 @@ module _ (r : Rights) (role : ℕ) (p : Privilege) (rel : ℕ) where
 
   by_grantee : (to : Grantee) → is_for r role to ≡ true → is_among r.grants (grant_to to p rel) ≡ true → HasBy r role p rel
   by_grantee Public f e = by_all r role p rel e
-  by_grantee (Role other) f e = by_role r role other p rel ((follows r.members role other).0 f) e
+  by_grantee (Role other) f e = by_role r role other p rel ((Follows-reaches r.members role other).0 f) e
 
   pub has_by : has r role p rel ≡ true → HasBy r role p rel
   has_by e =
@@ -152,33 +152,33 @@ module _ (r : Rights) (role : ℕ) (p : Privilege) (rel : ℕ) where
         | false ↦ λ s.
             by_right own_or_all t (elim t as (λ b. t ≡ b → b ≡ true) [
               | true ↦ λ _. refl
-              | false ↦ λ h. never (is_among r.grants (grant_to (Role other) p rel)) e (lacks h other s f)
+              | false ↦ λ h. absurd-true_false (is_among r.grants (grant_to (Role other) p rel)) e (lacks h other s f)
             ] refl)
       ] refl
 
   -- what was granted to all roles, to the role, or to another that it reaches, is what it has
   pub told : (t : Bool) → (t ≡ true → IsInherited r role p rel) → (t ≡ false → IsNotInherited r role p rel) → (own_or_all || t) ≡ list_any gives r.grants
   told t heir lacks =
-      two_ways (own_or_all || t) (list_any gives r.grants)
+      is-both_ways (own_or_all || t) (list_any gives r.grants)
       (λ e. elim (one_of own_or_all t e) [
         | inl x ↦ by_own x
         | inr x ↦ given (Role (heir x).other) r.grants (heir x).reached (heir x).granted
       ])
       (λ e. let found = giver r.grants e in told_to t lacks found.0 found.1 found.2)
 
-pub by_has : {r : Rights} {role : ℕ} {p : Privilege} {rel : ℕ} → HasBy r role p rel → has r role p rel ≡ true
-by_has (as_admin r role p rel e) = by_left (is_admin role) (list_any (gives r role p rel) r.grants) e
-by_has (by_all r role p rel e) = by_right (is_admin role) (list_any (gives r role p rel) r.grants) (given r role p rel Public r.grants refl e)
-by_has (by_role r role other p rel h e) = by_right (is_admin role) (list_any (gives r role p rel) r.grants) (given r role p rel (Role other) r.grants ((follows r.members role other).1 h) e)
+pub has-HasBy : {r : Rights} {role : ℕ} {p : Privilege} {rel : ℕ} → HasBy r role p rel → has r role p rel ≡ true
+has-HasBy (as_admin r role p rel e) = by_left (is_admin role) (list_any (gives r role p rel) r.grants) e
+has-HasBy (by_all r role p rel e) = by_right (is_admin role) (list_any (gives r role p rel) r.grants) (given r role p rel Public r.grants refl e)
+has-HasBy (by_role r role other p rel h e) = by_right (is_admin role) (list_any (gives r role p rel) r.grants) (given r role p rel (Role other) r.grants ((Follows-reaches r.members role other).1 h) e)
 
 for_member : (r : Rights) (role other : ℕ) → reaches r.members role other ≡ true → (to : Grantee) → is_for r other to ≡ true → is_for r role to ≡ true
 for_member r role other e Public f = refl
-for_member r role other e (Role last) f = reaches_on r.members role other last e f
+for_member r role other e (Role last) f = reaches-trans r.members role other last e f
 
-pub members_hold : (r : Rights) (role other : ℕ) (p : Privilege) (rel : ℕ) → reaches r.members role other ≡ true → is_admin other ≡ false → has r other p rel ≡ true → has r role p rel ≡ true
-members_hold r role other p rel e lacks h =
+pub has-reaches : (r : Rights) (role other : ℕ) (p : Privilege) (rel : ℕ) → reaches r.members role other ≡ true → is_admin other ≡ false → has r other p rel ≡ true → has r role p rel ≡ true
+has-reaches r role other p rel e lacks h =
     elim (one_of (is_admin other) (list_any (gives r other p rel) r.grants) h) [
-      | inl x ↦ never (is_admin other) x lacks
+      | inl x ↦ absurd-true_false (is_admin other) x lacks
       | inr x ↦
           let found = giver r other p rel r.grants x in
           by_right (is_admin role) (list_any (gives r role p rel) r.grants) (given r role p rel found.0 r.grants (for_member r role other e found.0 found.1) found.2)

@@ -10,14 +10,14 @@ use Rattle.iv_rows.specs.declared.value.Kind.{Kind}
 use Rattle.iv_access.specs.Rights.{Name}
 use Rattle.iv_access.specs.Access.{relation_of}
 use Rattle.iv_access.specs.Stored.{relation_at}
-use Rattle.iv_roles.proofs.Lists.{absent_map}
-use Rattle.iv_access.proofs.Lists.{no_value}
+use Rattle.iv_roles.proofs.Lists.{list_any-no_position-map}
+use Rattle.iv_access.proofs.Lists.{lookup-none_passes}
 
-pub entered : {S : Type 0} (m : IndexMap (String Global) (Option (Vec Kind)) S) (text : String Global) (kinds : Option (Vec Kind)) (name : Name)
+pub insert_entry-new_relation : {S : Type 0} (m : IndexMap (String Global) (Option (Vec Kind)) S) (text : String Global) (kinds : Option (Vec Kind)) (name : Name)
     → string_bytes text ≡ name → relation_of (map relation_at m.entries) name ≡ None
     → map relation_at (insert_entry (λ a b. bytes_eq (string_bytes a) (string_bytes b)) m.entries text kinds) ≡ map relation_at m.entries ++ relation_at (text, kinds) ∷ []
-entered m text kinds name e new =
-    let none : list_any (λ x. bytes_eq name (string_bytes x.0)) m.entries ≡ false = absent_map (λ r. bytes_eq name r.name) relation_at m.entries new in
+insert_entry-new_relation m text kinds name e new =
+    let none : list_any (λ x. bytes_eq name (string_bytes x.0)) m.entries ≡ false = list_any-no_position-map (λ r. bytes_eq name r.name) relation_at m.entries new in
     let here : list_any (λ x. bytes_eq (string_bytes text) (string_bytes x.0)) m.entries ≡ false = subst (λ n. list_any (λ x. bytes_eq n (string_bytes x.0)) m.entries ≡ false) (sym e) none in
-    ap (map relation_at) (insert_entry-new (λ a b. bytes_eq (string_bytes a) (string_bytes b)) m text kinds (no_value (λ k. bytes_eq (string_bytes text) (string_bytes k)) m.entries here))
+    ap (map relation_at) (insert_entry-new (λ a b. bytes_eq (string_bytes a) (string_bytes b)) m text kinds (lookup-none_passes (λ k. bytes_eq (string_bytes text) (string_bytes k)) m.entries here))
     ∙ map-append relation_at m.entries ((text, kinds) ∷ [])

@@ -20,7 +20,7 @@ use Rattle.iv_access.specs.NewPolicies.{policy_from}
 use Rattle.iv_access.specs.Changing.{changed_at, insert_policy, remove_policy}
 use Rattle.iv_access.specs.Policies.{failed_at, is_named, policies_of, policy_of}
 use Rattle.iv_access.specs.Reached.{IsReached, at_start, role_created, role_granted, role_revoked, relation_added, privileges_granted, privileges_revoked, security_switched, policy_created, policy_dropped, ComesBefore, Rise, IsFirstByName}
-use Rattle.iv_roles.proofs.Lists.{absent}
+use Rattle.iv_roles.proofs.Lists.{list_any-no_position}
 use Rattle.iv_access.proofs.Lists.{or_left, or_right}
 
 -- ---- names
@@ -96,34 +96,34 @@ no_place (Some n) e = cc
 nothing_rises : Rise []
 nothing_rises i j d lt within = absurd (omega arith)
 
-pub reached_rise : {r : Rights} → IsReached r → (table : ℕ) → Rise (policies_of (slice_get r.guards table))
-reached_rise at_start table = nothing_rises
-reached_rise (role_created r name h) table = reached_rise h table
-reached_rise (role_granted r acting role to free h) table = reached_rise h table
-reached_rise (role_revoked r role member h) table = reached_rise h table
-reached_rise (relation_added r owner h) table =
-    rise_pushed r.guards (record { owner = owner; enabled = false; forced = false; policies = [] }) nothing_rises (reached_rise h) table
-reached_rise (privileges_granted r rel ps to h) table = reached_rise h table
-reached_rise (privileges_revoked r rel ps to h) table = reached_rise h table
-reached_rise (security_switched r n enabled forced h) table =
+pub Rise-IsReached : {r : Rights} → IsReached r → (table : ℕ) → Rise (policies_of (slice_get r.guards table))
+Rise-IsReached at_start table = nothing_rises
+Rise-IsReached (role_created r name h) table = Rise-IsReached h table
+Rise-IsReached (role_granted r acting role to free h) table = Rise-IsReached h table
+Rise-IsReached (role_revoked r role member h) table = Rise-IsReached h table
+Rise-IsReached (relation_added r owner h) table =
+    rise_pushed r.guards (record { owner = owner; enabled = false; forced = false; policies = [] }) nothing_rises (Rise-IsReached h) table
+Rise-IsReached (privileges_granted r rel ps to h) table = Rise-IsReached h table
+Rise-IsReached (privileges_revoked r rel ps to h) table = Rise-IsReached h table
+Rise-IsReached (security_switched r n enabled forced h) table =
     rise_changed n (λ g. record g { enabled = enabled; forced = forced }) r.guards
-    (λ g e. subst (λ o. Rise (policies_of o)) e (reached_rise h n)) (reached_rise h) table
-reached_rise (policy_created r n p free h) table =
+    (λ g e. subst (λ o. Rise (policies_of o)) e (Rise-IsReached h n)) (Rise-IsReached h) table
+Rise-IsReached (policy_created r n p free h) table =
     let none : list_any (is_named p.name) (policies_of (slice_get r.guards n)) ≡ false =
-    absent (is_named p.name) (policies_of (slice_get r.guards n)) (no_place (policy_of r n p.name) (not_taken _ _ _ free)) in
+    list_any-no_position (is_named p.name) (policies_of (slice_get r.guards n)) (no_place (policy_of r n p.name) (not_taken _ _ _ free)) in
     rise_changed n (λ g. record g { policies = insert_policy (policy_from r p) g.policies }) r.guards
-    (λ g e. subst (λ o. Rise (insert_policy (policy_from r p) (policies_of o))) e (rise_inserted (policy_from r p) (policies_of (slice_get r.guards n)) none (reached_rise h n))) (reached_rise h) table
-reached_rise (policy_dropped r n name h) table =
+    (λ g e. subst (λ o. Rise (insert_policy (policy_from r p) (policies_of o))) e (rise_inserted (policy_from r p) (policies_of (slice_get r.guards n)) none (Rise-IsReached h n))) (Rise-IsReached h) table
+Rise-IsReached (policy_dropped r n name h) table =
     rise_changed n (λ g. record g { policies = remove_policy name g.policies }) r.guards
-    (λ g e. subst (λ o. Rise (remove_policy name (policies_of o))) e (AllPairs-filter ComesBefore _ (policies_of (slice_get r.guards n)) (reached_rise h n))) (reached_rise h) table
+    (λ g e. subst (λ o. Rise (remove_policy name (policies_of o))) e (AllPairs-filter ComesBefore _ (policies_of (slice_get r.guards n)) (Rise-IsReached h n))) (Rise-IsReached h) table
 
--- ---- the one that is told
+-- ---- the one that is is-Restrictive
 
-pub told : (exempt permitted : Bool) (o : Option ℕ) (place : ℕ) → (if exempt then Pass else (if permitted then failed_at o else NoPermissive)) ≡ Restrictive place → o ≡ Some place
-told true permitted o place e = cc
-told false false o place e = cc
-told false true None place e = cc
-told false true (Some n) place e = cc
+pub is-Restrictive : (exempt permitted : Bool) (o : Option ℕ) (place : ℕ) → (if exempt then Pass else (if permitted then failed_at o else NoPermissive)) ≡ Restrictive place → o ≡ Some place
+is-Restrictive true permitted o place e = cc
+is-Restrictive false false o place e = cc
+is-Restrictive false true None place e = cc
+is-Restrictive false true (Some n) place e = cc
 
 same_read : {A : Type 0} (xs : List A) (i : ℕ) (c d : A) → i < length xs → get_or xs i c ≡ get_or xs i d
 same_read xs i c d within = let one = slice_get-get_or xs i c within in let other = slice_get-get_or xs i d within in cc
@@ -134,8 +134,8 @@ no_policy = record { name = []; restrictive = false; command = command.All; to =
 both_ways : {A : Type 0} (b : Bool) → b ≡ true → b ≡ false → A
 both_ways b e f = cc
 
-pub first_by_name : (test : Policy → Bool) (ps : List Policy) (place : ℕ) → Rise ps → position test ps ≡ Some place → IsFirstByName test ps place
-first_by_name test ps place h e =
+pub IsFirstByName-Rise : (test : Policy → Bool) (ps : List Policy) (place : ℕ) → Rise ps → position test ps ≡ Some place → IsFirstByName test ps place
+IsFirstByName-Rise test ps place h e =
     let found = position-Some test ps place no_policy e in
     record {
       policy = get_or ps place no_policy;

@@ -8,8 +8,8 @@ and_false : (b : Bool) → (b && false) ≡ false
 and_false true = refl
 and_false false = refl
 
-pub not_alike : (a b : List Column) → (length a ≡ length b → ⊥) → false ≡ kinds_eq (kinds_of a) (kinds_of b)
-not_alike [] [] h = absurd (h refl)
-not_alike [] (d ∷ ds) h = refl
-not_alike (c ∷ cs) [] h = refl
-not_alike (c ∷ cs) (d ∷ ds) h = sym (and_false (kind_eq c.kind d.kind)) ∙ ap (λ b. kind_eq c.kind d.kind && b) (not_alike cs ds (λ e. h (ap suc e)))
+pub kinds_eq-not_alike : (a b : List Column) → (length a ≡ length b → ⊥) → false ≡ kinds_eq (kinds_of a) (kinds_of b)
+kinds_eq-not_alike [] [] h = absurd (h refl)
+kinds_eq-not_alike [] (d ∷ ds) h = refl
+kinds_eq-not_alike (c ∷ cs) [] h = refl
+kinds_eq-not_alike (c ∷ cs) (d ∷ ds) h = sym (and_false (kind_eq c.kind d.kind)) ∙ ap (λ b. kind_eq c.kind d.kind && b) (kinds_eq-not_alike cs ds (λ e. h (ap suc e)))

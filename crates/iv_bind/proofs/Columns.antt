@@ -37,10 +37,10 @@ only_one p [] x h = cc
 only_one p (y ∷ []) x h = let e : y ≡ x = cc in ap (λ z. z ∷ []) e
 only_one p (y ∷ z ∷ ys) x h = cc
 
--- a column that is found has its kind at its place
-pub found : (scope : List Named) (c : ColumnTree) (x : ℕ × Kind) → column_bound scope c ≡ Ok x → slice_get (kinds_in scope) x.0 ≡ Some x.1
+-- a column that is slice_get-column_bound has its kind at its place
+pub slice_get-column_bound : (scope : List Named) (c : ColumnTree) (x : ℕ × Kind) → column_bound scope c ≡ Ok x → slice_get (kinds_in scope) x.0 ≡ Some x.1
 unfolding column_bound
-found scope c x h =
+slice_get-column_bound scope c x h =
     let m = first_meant c 0 scope x [] (only_one (column_place c) (meant c 0 scope) x h) in
     let e : x.0 - 0 ≡ x.0 = omega arith in
     ap (slice_get (kinds_in scope)) (sym e) ∙ m.1

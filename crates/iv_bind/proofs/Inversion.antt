@@ -6,32 +6,32 @@ use Rattle.iv_bind.specs.Faults.{Fault, ◌>>=◌, through}
 use Rattle.iv_rows.specs.Options.{if_some}
 
 -- both steps went well
-pub both_ok : {A B : Type 0} (r : Result A Fault) (f : A → Result B Fault) (y : B) → (r >>= f) ≡ Ok y → (x : A) × (r ≡ Ok x) × (f x ≡ Ok y)
-both_ok (Ok x) f y h = (x, refl, h)
-both_ok (Err e) f y h = cc
+pub Ok-bind : {A B : Type 0} (r : Result A Fault) (f : A → Result B Fault) (y : B) → (r >>= f) ≡ Ok y → (x : A) × (r ≡ Ok x) × (f x ≡ Ok y)
+Ok-bind (Ok x) f y h = (x, refl, h)
+Ok-bind (Err e) f y h = cc
 
 -- a test that answers a fault where it fails
-pub then_ok : {B : Type 0} (b : Bool) (r : Result B Fault) (e : Fault) (y : B) → (if b then r else Err e) ≡ Ok y → (b ≡ true) × (r ≡ Ok y)
-then_ok true r e y h = (refl, h)
-then_ok false r e y h = cc
+pub Ok-then : {B : Type 0} (b : Bool) (r : Result B Fault) (e : Fault) (y : B) → (if b then r else Err e) ≡ Ok y → (b ≡ true) × (r ≡ Ok y)
+Ok-then true r e y h = (refl, h)
+Ok-then false r e y h = cc
 
 -- a test that answers a fault where it holds
-pub else_ok : {B : Type 0} (b : Bool) (e : Fault) (r : Result B Fault) (y : B) → (if b then Err e else r) ≡ Ok y → (b ≡ false) × (r ≡ Ok y)
-else_ok true e r y h = cc
-else_ok false e r y h = (refl, h)
+pub Ok-else : {B : Type 0} (b : Bool) (e : Fault) (r : Result B Fault) (y : B) → (if b then Err e else r) ≡ Ok y → (b ≡ false) × (r ≡ Ok y)
+Ok-else true e r y h = cc
+Ok-else false e r y h = (refl, h)
 
-pub some_ok : {A B : Type 0} (o : Option A) (e : Fault) (f : A → Result B Fault) (y : B) → if_some o (Err e) f ≡ Ok y → (x : A) × (o ≡ Some x) × (f x ≡ Ok y)
-some_ok None e f y h = cc
-some_ok (Some x) e f y h = (x, refl, h)
+pub Ok-if_some : {A B : Type 0} (o : Option A) (e : Fault) (f : A → Result B Fault) (y : B) → if_some o (Err e) f ≡ Ok y → (x : A) × (o ≡ Some x) × (f x ≡ Ok y)
+Ok-if_some None e f y h = cc
+Ok-if_some (Some x) e f y h = (x, refl, h)
 
-pub none_ok : {A B : Type 0} (o : Option A) (r : Result B Fault) (e : A → Fault) (y : B) → if_some o r (λ x. Err (e x)) ≡ Ok y → (o ≡ None) × (r ≡ Ok y)
-none_ok None r e y h = (refl, h)
-none_ok (Some x) r e y h = cc
+pub Ok-if_none : {A B : Type 0} (o : Option A) (r : Result B Fault) (e : A → Fault) (y : B) → if_some o r (λ x. Err (e x)) ≡ Ok y → (o ≡ None) × (r ≡ Ok y)
+Ok-if_none None r e y h = (refl, h)
+Ok-if_none (Some x) r e y h = cc
 
 -- what each step keeps stands at the end
-pub kept : {A B : Type 0} (P : A → Type 0) (step : A → B → Result A Fault) → ((a : A) (b : B) (c : A) → P a → step a b ≡ Ok c → P c) → (a : A) (bs : List B) (c : A) → P a → through step a bs ≡ Ok c → P c
-kept {A} P step keeps a [] c p h = let e : a ≡ c = cc in subst P e p
-kept P step keeps a (b ∷ bs) c p h = let s = both_ok (step a b) (λ d. through step d bs) c h in kept P step keeps s.0 bs c (keeps a b s.0 p s.1) s.2
+pub through-keeps : {A B : Type 0} (P : A → Type 0) (step : A → B → Result A Fault) → ((a : A) (b : B) (c : A) → P a → step a b ≡ Ok c → P c) → (a : A) (bs : List B) (c : A) → P a → through step a bs ≡ Ok c → P c
+through-keeps {A} P step keeps a [] c p h = let e : a ≡ c = cc in subst P e p
+through-keeps P step keeps a (b ∷ bs) c p h = let s = Ok-bind (step a b) (λ d. through step d bs) c h in through-keeps P step keeps s.0 bs c (keeps a b s.0 p s.1) s.2
 
 pub all_head : {B : Type 0} (Q : B → Type 0) (b : B) (bs : List B) → All Q (b ∷ bs) → Q b
 all_head Q b bs h = h 0 b (omega arith)

@@ -7,11 +7,11 @@ use Rattle.iv_zset.specs.Bags.{stands}
 use Rattle.iv_bind.specs.Catalogs.{AreAmong}
 use Rattle.iv_bind.specs.Binding.{once}
 
-pub among_behind : (n : ℕ) (ns others : List ℕ) → AreAmong ns others → AreAmong ns (n ∷ others)
-among_behind n ns others h m c = Contains-append_right (n ∷ []) others m (h m c)
+pub AreAmong-cons : (n : ℕ) (ns others : List ℕ) → AreAmong ns others → AreAmong ns (n ∷ others)
+AreAmong-cons n ns others h m c = Contains-append_right (n ∷ []) others m (h m c)
 
-pub among_both : (ns ms xs ys : List ℕ) → AreAmong ns xs → AreAmong ms ys → AreAmong (ns ++ ms) (xs ++ ys)
-among_both ns ms xs ys h k n c = part (Contains-append_cases ns ms n c)
+pub AreAmong-append : (ns ms xs ys : List ℕ) → AreAmong ns xs → AreAmong ms ys → AreAmong (ns ++ ms) (xs ++ ys)
+AreAmong-append ns ms xs ys h k n c = part (Contains-append_cases ns ms n c)
   where
     part : Contains ns n ⊎ Contains ms n → Contains (xs ++ ys) n
     part (inl d) = Contains-append_left xs ys n (h n d)
@@ -55,5 +55,5 @@ once_keeps before (m ∷ ns) n (inr c) = once_keeps (if stands ◌==◌ m before
     part (inl d) = inl (subst (Contains (if stands ◌==◌ m before then before else before ++ m ∷ [])) (only_one m n d) (taken before m (stands ◌==◌ m before) refl))
     part (inr d) = inr d
 
-pub among_once : (ns others : List ℕ) → AreAmong ns others → AreAmong ns (once [] others)
-among_once ns others h n c = once_keeps [] others n (inr (h n c))
+pub AreAmong-once : (ns others : List ℕ) → AreAmong ns others → AreAmong ns (once [] others)
+AreAmong-once ns others h n c = once_keeps [] others n (inr (h n c))

@@ -22,10 +22,10 @@ use Rattle.iv_bind.specs.Faults.{FaultAt, ◌>>=◌, through}
 use Rattle.iv_rows.specs.Options.{if_some}
 use Rattle.iv_bind.specs.Binding.{Named, Out, column_place, column_bound, keys_bound, first_aggregate, nothing, output_bound, within_group, output_name, name_text, aggregated, item_bound, star_bound}
 use Rattle.iv_query.specs.Well.{IsWellName, IsWellItem}
-use Rattle.iv_bind.proofs.Inversion.{both_ok, then_ok, else_ok, some_ok, kept, all_head, all_tail}
-use Rattle.iv_bind.proofs.Columns.{kinds_in, found}
+use Rattle.iv_bind.proofs.Inversion.{Ok-bind, Ok-then, Ok-else, Ok-if_some, through-keeps, all_head, all_tail}
+use Rattle.iv_bind.proofs.Columns.{kinds_in, slice_get-column_bound}
 use Rattle.iv_bind.proofs.Predicates.{and_parts, and_whole}
-use Rattle.iv_bind.proofs.Joins.{get_front, get_back, all_push}
+use Rattle.iv_bind.proofs.Joins.{slice_get-append_front, slice_get-append_back, list_all-push}
 
 -- ---- kinds at places
 
@@ -46,25 +46,25 @@ at_more : (kinds more : List Kind) (ks : List ℕ) (cs : List Column) → AreAt 
 at_more kinds more [] [] a = tt
 at_more kinds more [] (d ∷ ds) a = absurd a
 at_more kinds more (j ∷ js) [] a = absurd a
-at_more kinds more (j ∷ js) (d ∷ ds) a = (get_front kinds more j (slice_get_within kinds j d.kind a.0) ∙ a.0, at_more kinds more js ds a.1)
+at_more kinds more (j ∷ js) (d ∷ ds) a = (slice_get-append_front kinds more j (slice_get_within kinds j d.kind a.0) ∙ a.0, at_more kinds more js ds a.1)
 
-pub at_there : (kinds : List Kind) (ks : List ℕ) (cs : List Column) → AreAt kinds ks cs → are_there kinds ks ≡ true
-at_there kinds [] [] a = refl
-at_there kinds [] (d ∷ ds) a = absurd a
-at_there kinds (j ∷ js) [] a = absurd a
-at_there kinds (j ∷ js) (d ∷ ds) a = and_whole (nat_lt j (length kinds)) (are_there kinds js) (lt-ltb j (length kinds) (slice_get_within kinds j d.kind a.0)) (at_there kinds js ds a.1)
+pub are_there-AreAt : (kinds : List Kind) (ks : List ℕ) (cs : List Column) → AreAt kinds ks cs → are_there kinds ks ≡ true
+are_there-AreAt kinds [] [] a = refl
+are_there-AreAt kinds [] (d ∷ ds) a = absurd a
+are_there-AreAt kinds (j ∷ js) [] a = absurd a
+are_there-AreAt kinds (j ∷ js) (d ∷ ds) a = and_whole (nat_lt j (length kinds)) (are_there kinds js) (lt-ltb j (length kinds) (slice_get_within kinds j d.kind a.0)) (are_there-AreAt kinds js ds a.1)
 
-pub at_kinds : (kinds : List Kind) (ks : List ℕ) (cs : List Column) → AreAt kinds ks cs → map (kind_at kinds) ks ≡ kinds_of cs
-at_kinds kinds [] [] a = refl
-at_kinds kinds [] (d ∷ ds) a = absurd a
-at_kinds kinds (j ∷ js) [] a = absurd a
-at_kinds kinds (j ∷ js) (d ∷ ds) a = λ i. or_flag (a.0 i) ∷ at_kinds kinds js ds a.1 i
+pub map-AreAt : (kinds : List Kind) (ks : List ℕ) (cs : List Column) → AreAt kinds ks cs → map (kind_at kinds) ks ≡ kinds_of cs
+map-AreAt kinds [] [] a = refl
+map-AreAt kinds [] (d ∷ ds) a = absurd a
+map-AreAt kinds (j ∷ js) [] a = absurd a
+map-AreAt kinds (j ∷ js) (d ∷ ds) a = λ i. or_flag (a.0 i) ∷ map-AreAt kinds js ds a.1 i
 
-pub at_length : (kinds : List Kind) (ks : List ℕ) (cs : List Column) → AreAt kinds ks cs → length ks ≡ length cs
-at_length kinds [] [] a = refl
-at_length kinds [] (d ∷ ds) a = absurd a
-at_length kinds (j ∷ js) [] a = absurd a
-at_length kinds (j ∷ js) (d ∷ ds) a = ap suc (at_length kinds js ds a.1)
+pub length-AreAt : (kinds : List Kind) (ks : List ℕ) (cs : List Column) → AreAt kinds ks cs → length ks ≡ length cs
+length-AreAt kinds [] [] a = refl
+length-AreAt kinds [] (d ∷ ds) a = absurd a
+length-AreAt kinds (j ∷ js) [] a = absurd a
+length-AreAt kinds (j ∷ js) (d ∷ ds) a = ap suc (length-AreAt kinds js ds a.1)
 
 -- ---- names
 
@@ -114,7 +114,7 @@ with_column out k name kind = record out { columns = out.columns ++ k ∷ []; sc
 pub output_keeps : (kinds : List Kind) (keys : List ℕ) (p : ℕ) (out : Out) (k : ℕ) (name : List ℕ) (kd : Kind) (o : Out) → IsOut kinds keys out → slice_get (below kinds keys out.aggs) k ≡ Some kd → is_name name ≡ true → output_bound p out k name kd ≡ Ok o → IsOut kinds keys o × (1 ≤ length o.schema) × (length o.columns ≡ length out.columns + 1)
 unfolding output_bound
 output_keeps kinds keys p out k name kd o is at n h =
-    let s = else_ok (list_any (λ c. bytes_eq name c.name) out.schema) (FaultAt p why.DuplicateName) (Ok (with_column out k name kd)) o h in
+    let s = Ok-else (list_any (λ c. bytes_eq name c.name) out.schema) (FaultAt p why.DuplicateName) (Ok (with_column out k name kd)) o h in
     let e : with_column out k name kd ≡ o = cc in
     let c : Column = record { name = name; kind = kd } in
     let P : Out → Type 0 = λ x. IsOut kinds keys x × (1 ≤ length x.schema) × (length x.columns ≡ length out.columns + 1) in
@@ -122,7 +122,7 @@ output_keeps kinds keys p out k name kd o is at n h =
       record {
         columns = at_push (below kinds keys out.aggs) out.columns out.schema k c is.columns at;
         aggs = is.aggs;
-        names = all_push (λ d. is_name d.name) out.schema c is.names n;
+        names = list_all-push (λ d. is_name d.name) out.schema c is.names n;
         distinct = distinct_push out.schema c is.distinct s.0;
       },
       omega (arith, length-append out.schema (c ∷ [])),
@@ -159,7 +159,7 @@ within_kind kinds (key ∷ keys) aggs x k kd f h =
     let a = key_kind kinds (key ∷ keys) x 0 k h in
     let z : k - 0 ≡ k = omega arith in
     let here : slice_get (map (kind_at kinds) (key ∷ keys)) k ≡ Some kd = ap (slice_get (map (kind_at kinds) (key ∷ keys))) (sym z) ∙ a.1 ∙ ap (λ o. Some (or_flag o)) f in
-    get_front (map (kind_at kinds) (key ∷ keys)) (map (λ g. kind.Int) aggs) k (slice_get_within (map (kind_at kinds) (key ∷ keys)) k kd here) ∙ here
+    slice_get-append_front (map (kind_at kinds) (key ∷ keys)) (map (λ g. kind.Int) aggs) k (slice_get_within (map (kind_at kinds) (key ∷ keys)) k kd here) ∙ here
 
 map_length : {A B : Type 0} (f : A → B) (xs : List A) → length (map f xs) ≡ length xs
 map_length f [] = refl
@@ -175,7 +175,7 @@ below_length : (kinds : List Kind) (key : ℕ) (keys : List ℕ) (aggs : List Ag
 below_length kinds key keys aggs = length-append (map (kind_at kinds) (key ∷ keys)) (map (λ g. kind.Int) aggs) ∙ (λ i. map_length (kind_at kinds) (key ∷ keys) i + map_length (λ (g : Agg). kind.Int) aggs i)
 
 last_kind : (ks : List Kind) (n : ℕ) (k : Kind) → length ks ≡ n → slice_get (ks ++ k ∷ []) n ≡ Some k
-last_kind ks n k e = get_back ks (k ∷ []) n (omega (arith, e)) ∙ ap (λ m. slice_get (k ∷ []) (n - m)) e ∙ at_once k [] n
+last_kind ks n k e = slice_get-append_back ks (k ∷ []) n (omega (arith, e)) ∙ ap (λ m. slice_get (k ∷ []) (n - m)) e ∙ at_once k [] n
 
 agg_kind : (kinds : List Kind) (key : ℕ) (keys : List ℕ) (aggs : List Agg) (a : Agg) → slice_get (below kinds (key ∷ keys) (aggs ++ a ∷ [])) (length (key ∷ keys) + length aggs) ≡ Some kind.Int
 agg_kind kinds key keys aggs a =
@@ -186,7 +186,7 @@ aggregated_keeps : (kinds : List Kind) (key : ℕ) (keys : List ℕ) (out : Out)
 aggregated_keeps kinds key keys out a is f = record {
   columns = let P : List Kind → Type 0 = λ ks. AreAt ks out.columns out.schema in
       subst P (sym (below_push kinds key keys out.aggs a)) (at_more (below kinds (key ∷ keys) out.aggs) (kind.Int ∷ []) out.columns out.schema is.columns);
-  aggs = all_push (agg_fits kinds) out.aggs a is.aggs f;
+  aggs = list_all-push (agg_fits kinds) out.aggs a is.aggs f;
   names = is.names;
   distinct = is.distinct;
 }
@@ -212,10 +212,10 @@ Keeps kinds keys o = IsOut kinds keys o × (1 ≤ length o.schema)
 column_item : (scope : List Named) (keys : List ℕ) (out : Out) (c : ColumnTree) (alias : Option NameTree) (o : Out) → IsOut (kinds_in scope) keys out → IsWellItem (ItemOf c alias) → item_bound scope keys out (ItemOf c alias) ≡ Ok o → Keeps (kinds_in scope) keys o
 unfolding item_bound
 column_item scope keys out c alias o is w h =
-    let s = both_ok (column_bound scope c) (λ x. if_some (within_group keys x.0) (Err (FaultAt (column_place c) why.NotGrouped)) (λ k. output_bound (column_place c) out k (output_name c alias) x.1)) o h in
+    let s = Ok-bind (column_bound scope c) (λ x. if_some (within_group keys x.0) (Err (FaultAt (column_place c) why.NotGrouped)) (λ k. output_bound (column_place c) out k (output_name c alias) x.1)) o h in
     let x = s.0 in
-    let t = some_ok (within_group keys x.0) (FaultAt (column_place c) why.NotGrouped) (λ k. output_bound (column_place c) out k (output_name c alias) x.1) o s.2 in
-    let r = output_keeps (kinds_in scope) keys (column_place c) out t.0 (output_name c alias) x.1 o is (within_kind (kinds_in scope) keys out.aggs x.0 t.0 x.1 (found scope c x s.1) t.1) (name_well c alias w) t.2 in
+    let t = Ok-if_some (within_group keys x.0) (FaultAt (column_place c) why.NotGrouped) (λ k. output_bound (column_place c) out k (output_name c alias) x.1) o s.2 in
+    let r = output_keeps (kinds_in scope) keys (column_place c) out t.0 (output_name c alias) x.1 o is (within_kind (kinds_in scope) keys out.aggs x.0 t.0 x.1 (slice_get-column_bound scope c x s.1) t.1) (name_well c alias w) t.2 in
     (r.0, r.1)
 
 behind_keys : (kinds : List Kind) (key : ℕ) (keys : List ℕ) (p : ℕ) (out : Out) (a : Agg) (n : NameTree) (o : Out) → IsOut kinds (key ∷ keys) out → agg_fits kinds a ≡ true → IsWellName n
@@ -231,10 +231,10 @@ item_keeps scope [] out (SumOf p c alias) o is g w h = absurd g
 item_keeps scope [] out (CountOf p alias) o is g w h = absurd g
 item_keeps scope (key ∷ keys) out (ItemOf c alias) o is g w h = column_item scope (key ∷ keys) out c alias o is w h
 item_keeps scope (key ∷ keys) out (SumOf p c alias) o is g w h =
-    let s = both_ok (column_bound scope c) (λ x. if kind_eq x.1 kind.Int then output_bound p (aggregated out (Sum x.0)) (length (key ∷ keys) + length out.aggs) (name_text alias) kind.Int else Err (FaultAt (column_place c) why.KindMismatch)) o h in
+    let s = Ok-bind (column_bound scope c) (λ x. if kind_eq x.1 kind.Int then output_bound p (aggregated out (Sum x.0)) (length (key ∷ keys) + length out.aggs) (name_text alias) kind.Int else Err (FaultAt (column_place c) why.KindMismatch)) o h in
     let x = s.0 in
-    let t = then_ok (kind_eq x.1 kind.Int) (output_bound p (aggregated out (Sum x.0)) (length (key ∷ keys) + length out.aggs) (name_text alias) kind.Int) (FaultAt (column_place c) why.KindMismatch) o s.2 in
-    behind_keys (kinds_in scope) key keys p out (Sum x.0) alias o is (ap (λ k. same_kind k (Some kind.Int)) (found scope c x s.1) ∙ t.0) w.1 t.1
+    let t = Ok-then (kind_eq x.1 kind.Int) (output_bound p (aggregated out (Sum x.0)) (length (key ∷ keys) + length out.aggs) (name_text alias) kind.Int) (FaultAt (column_place c) why.KindMismatch) o s.2 in
+    behind_keys (kinds_in scope) key keys p out (Sum x.0) alias o is (ap (λ k. same_kind k (Some kind.Int)) (slice_get-column_bound scope c x s.1) ∙ t.0) w.1 t.1
 item_keeps scope (key ∷ keys) out (CountOf p alias) o is g w h = behind_keys (kinds_in scope) key keys p out Count alias o is refl w h
 
 -- no item is an aggregate, or there is a key
@@ -255,17 +255,17 @@ all_go k keys (i ∷ items) = (tt, all_go k keys items)
 items_keep : (scope : List Named) (keys : List ℕ) (out : Out) (items : List ItemTree) (o : Out) → Keeps (kinds_in scope) keys out → AllGo keys items → All IsWellItem items → through (item_bound scope keys) out items ≡ Ok o → Keeps (kinds_in scope) keys o
 items_keep scope keys out [] o is g w h = let e : out ≡ o = cc in let P : Out → Type 0 = λ x. Keeps (kinds_in scope) keys x in subst P e is
 items_keep scope keys out (i ∷ items) o is g w h =
-    let s = both_ok (item_bound scope keys out i) (λ d. through (item_bound scope keys) d items) o h in
+    let s = Ok-bind (item_bound scope keys out i) (λ d. through (item_bound scope keys) d items) o h in
     items_keep scope keys s.0 items o (item_keeps scope keys out i s.0 is.0 g.0 (all_head IsWellItem i items w) s.1) g.1 (all_tail IsWellItem i items w) s.2
 
 listed : (scope : List Named) (keys : List ℕ) (i : ItemTree) (items : List ItemTree) (o : Out) → AllGo keys (i ∷ items) → All IsWellItem (i ∷ items) → through (item_bound scope keys) nothing (i ∷ items) ≡ Ok o → Keeps (kinds_in scope) keys o
 listed scope keys i items o g w h =
-    let s = both_ok (item_bound scope keys nothing i) (λ d. through (item_bound scope keys) d items) o h in
+    let s = Ok-bind (item_bound scope keys nothing i) (λ d. through (item_bound scope keys) d items) o h in
     items_keep scope keys s.0 items o (item_keeps scope keys nothing i s.0 (nothing_is (kinds_in scope) keys) g.0 (all_head IsWellItem i items w) s.1) g.1 (all_tail IsWellItem i items w) s.2
 
-pub listed_keep : (scope : List Named) (keys : List ℕ) (i : ItemTree) (items : List ItemTree) (o : Out) → (keys ≡ [] → first_aggregate (i ∷ items) ≡ None) → All IsWellItem (i ∷ items) → through (item_bound scope keys) nothing (i ∷ items) ≡ Ok o → Keeps (kinds_in scope) keys o
-listed_keep scope [] i items o a w h = listed scope [] i items o (none_left (i ∷ items) (a refl)) w h
-listed_keep scope (k ∷ keys) i items o a w h = listed scope (k ∷ keys) i items o (all_go k keys (i ∷ items)) w h
+pub Keeps-listed : (scope : List Named) (keys : List ℕ) (i : ItemTree) (items : List ItemTree) (o : Out) → (keys ≡ [] → first_aggregate (i ∷ items) ≡ None) → All IsWellItem (i ∷ items) → through (item_bound scope keys) nothing (i ∷ items) ≡ Ok o → Keeps (kinds_in scope) keys o
+Keeps-listed scope [] i items o a w h = listed scope [] i items o (none_left (i ∷ items) (a refl)) w h
+Keeps-listed scope (k ∷ keys) i items o a w h = listed scope (k ∷ keys) i items o (all_go k keys (i ∷ items)) w h
 
 -- ---- the star
 
@@ -277,13 +277,13 @@ star_keeps done [] p out o e names is (inr s) h =
     let P : Out → Type 0 = λ x. Keeps (kinds_in (done ++ [])) [] x in
     subst P q (is, s)
 star_keeps done (n ∷ rest) p out o e names is some h =
-    let s = both_ok (output_bound p out (length out.columns) n.name n.kind) (λ d. through (λ out n. output_bound p out (length out.columns) n.name n.kind) d rest) o h in
+    let s = Ok-bind (output_bound p out (length out.columns) n.name n.kind) (λ d. through (λ out n. output_bound p out (length out.columns) n.name n.kind) d rest) o h in
     let w = and_parts (is_name n.name) (list_all (λ m. is_name m.name) rest) names in
     let split : kinds_in (done ++ n ∷ rest) ≡ kinds_in done ++ n.kind ∷ kinds_in rest = map-append (λ m. m.kind) done (n ∷ rest) in
     let many : length (kinds_in done) ≡ length out.columns = map_length (λ (m : Named). m.kind) done ∙ sym e in
     let here : slice_get (kinds_in (done ++ n ∷ rest)) (length out.columns) ≡ Some n.kind =
     ap (λ ks. slice_get ks (length out.columns)) split
-    ∙ get_back (kinds_in done) (n.kind ∷ kinds_in rest) (length out.columns) (omega (arith, many))
+    ∙ slice_get-append_back (kinds_in done) (n.kind ∷ kinds_in rest) (length out.columns) (omega (arith, many))
     ∙ ap (λ m. slice_get (n.kind ∷ kinds_in rest) (length out.columns - m)) many
     ∙ at_once n.kind (kinds_in rest) (length out.columns) in
     let r = output_keeps (kinds_in (done ++ n ∷ rest)) [] p out (length out.columns) n.name n.kind s.0 is here w.0 s.1 in
@@ -292,9 +292,9 @@ star_keeps done (n ∷ rest) p out o e names is some h =
     let P : List Named → Type 0 = λ ns. Keeps (kinds_in ns) [] o in
     subst P again (star_keeps (done ++ n ∷ []) rest p s.0 o (r.2 ∙ ap (λ m. m + 1) e ∙ sym (length-append done (n ∷ []))) w.1 (subst Q (sym again) r.0) (inr r.1) s.2)
 
-pub starred_keep : (scope : List Named) (p : ℕ) (o : Out) → list_all (λ n. is_name n.name) scope ≡ true → 1 ≤ length scope → star_bound scope p ≡ Ok o → Keeps (kinds_in scope) [] o
+pub Keeps-starred : (scope : List Named) (p : ℕ) (o : Out) → list_all (λ n. is_name n.name) scope ≡ true → 1 ≤ length scope → star_bound scope p ≡ Ok o → Keeps (kinds_in scope) [] o
 unfolding star_bound
-starred_keep scope p o names some h = star_keeps [] scope p nothing o refl names (nothing_is (kinds_in scope) []) (inl some) h
+Keeps-starred scope p o names some h = star_keeps [] scope p nothing o refl names (nothing_is (kinds_in scope) []) (inl some) h
 
 -- ---- keys
 
@@ -303,15 +303,15 @@ with_key keys k = if stands ◌==◌ k keys then keys else keys ++ k ∷ []
 
 key_there : (kinds : List Kind) (keys : List ℕ) (k : ℕ) (b : Bool) → are_there kinds keys ≡ true → nat_lt k (length kinds) ≡ true → are_there kinds (if b then keys else keys ++ k ∷ []) ≡ true
 key_there kinds keys k true h g = h
-key_there kinds keys k false h g = all_push (λ j. nat_lt j (length kinds)) keys k h g
+key_there kinds keys k false h g = list_all-push (λ j. nat_lt j (length kinds)) keys k h g
 
-pub keys_keep : (scope : List Named) (group : List ColumnTree) (keys : List ℕ) → keys_bound scope group ≡ Ok keys → are_there (kinds_in scope) keys ≡ true
+pub are_there-keys_bound : (scope : List Named) (group : List ColumnTree) (keys : List ℕ) → keys_bound scope group ≡ Ok keys → are_there (kinds_in scope) keys ≡ true
 unfolding keys_bound
-keys_keep scope group keys h =
-    kept (λ ks. are_there (kinds_in scope) ks ≡ true) (λ ks c. column_bound scope c >>= λ x. Ok (with_key ks x.0))
+are_there-keys_bound scope group keys h =
+    through-keeps (λ ks. are_there (kinds_in scope) ks ≡ true) (λ ks c. column_bound scope c >>= λ x. Ok (with_key ks x.0))
     (λ ks c js g step.
-    let s = both_ok (column_bound scope c) (λ x. Ok (with_key ks x.0)) js step in
+    let s = Ok-bind (column_bound scope c) (λ x. Ok (with_key ks x.0)) js step in
     let e : with_key ks s.0.0 ≡ js = cc in
     let P : List ℕ → Type 0 = λ rs. are_there (kinds_in scope) rs ≡ true in
-    subst P e (key_there (kinds_in scope) ks s.0.0 (stands ◌==◌ s.0.0 ks) g (lt-ltb s.0.0 (length (kinds_in scope)) (slice_get_within (kinds_in scope) s.0.0 s.0.1 (found scope c s.0 s.1)))))
+    subst P e (key_there (kinds_in scope) ks s.0.0 (stands ◌==◌ s.0.0 ks) g (lt-ltb s.0.0 (length (kinds_in scope)) (slice_get_within (kinds_in scope) s.0.0 s.0.1 (slice_get-column_bound scope c s.0 s.1)))))
     [] group keys refl h

@@ -13,10 +13,10 @@ use Rattle.iv_bind.specs.Faults.{Gives}
 use Rattle.iv_algebra.specs.Shapes.{condition_of}
 use Rattle.iv_bind.specs.Binding.{Named, under, pred_bound}
 use Rattle.iv_bind.proofs.Columns.{kinds_in}
-use Rattle.iv_bind.proofs.Predicates.{bound_fits}
-use Rattle.iv_bind.proofs.Joins.{same_kinds}
+use Rattle.iv_bind.proofs.Predicates.{condition_fits-pred_bound}
+use Rattle.iv_bind.proofs.Joins.{kinds_in-under}
 
-pub policy_fits : (columns : List Column) (scope : List Named) (t : PredTree) (r : Result Pred BindFault) → scope ≡ under [] columns → IsWellPred Policy t → Gives condition_of r (pred_bound scope t)
+pub condition_fits-Gives : (columns : List Column) (scope : List Named) (t : PredTree) (r : Result Pred BindFault) → scope ≡ under [] columns → IsWellPred Policy t → Gives condition_of r (pred_bound scope t)
     → IfOk r (λ p. condition_fits (Some Text) (kinds_of columns) (condition_of p) ≡ true)
-policy_fits columns scope t (Ok p) e w g = (λ i. condition_fits (Some Text) (sym (ap kinds_in e ∙ same_kinds [] columns) i) (condition_of p)) ∙ bound_fits Policy scope t (condition_of p) w g
-policy_fits columns scope t (Err f) e w g = tt
+condition_fits-Gives columns scope t (Ok p) e w g = (λ i. condition_fits (Some Text) (sym (ap kinds_in e ∙ kinds_in-under [] columns) i) (condition_of p)) ∙ condition_fits-pred_bound Policy scope t (condition_of p) w g
+condition_fits-Gives columns scope t (Err f) e w g = tt

@@ -16,8 +16,8 @@ use Rattle.iv_query.specs.declared.tree.Dialect.TheVariants.{Query, Policy}
 use Rattle.iv_query.specs.Well.{IsWellOperand, IsWellPred}
 use Rattle.iv_algebra.specs.Fits.{term_kind, condition_fits}
 use Rattle.iv_bind.specs.Sound.{user_kind}
-use Rattle.iv_bind.proofs.Inversion.{both_ok, then_ok}
-use Rattle.iv_bind.proofs.Columns.{kinds_in, found}
+use Rattle.iv_bind.proofs.Inversion.{Ok-bind, Ok-then}
+use Rattle.iv_bind.proofs.Columns.{kinds_in, slice_get-column_bound}
 
 pub and_parts : (a b : Bool) → (a && b) ≡ true → (a ≡ true) × (b ≡ true)
 and_parts true b h = (refl, h)
@@ -29,10 +29,10 @@ and_whole a b h g = (λ i. h i && g i)
 operand_kind : (d : Dialect) (scope : List Named) (t : OperandTree) (x : Term × Kind) → IsWellOperand d t → operand_bound scope t ≡ Ok x → term_kind (user_kind d) (kinds_in scope) x.0 ≡ Some x.1
 unfolding operand_bound
 operand_kind d scope (OfColumn c) x q h =
-    let s = both_ok (column_bound scope c) (λ y. Ok (shape.Column y.0, y.1)) x h in
+    let s = Ok-bind (column_bound scope c) (λ y. Ok (shape.Column y.0, y.1)) x h in
     let e : (shape.Column s.0.0, s.0.1) ≡ x = cc in
     let P : Term × Kind → Type 0 = λ y. term_kind (user_kind d) (kinds_in scope) y.0 ≡ Some y.1 in
-    subst P e (found scope c s.0 s.1)
+    subst P e (slice_get-column_bound scope c s.0 s.1)
 operand_kind d scope (Literal v p) x q h =
     let e : (shape.Literal v, kind_of v) ≡ x = cc in
     let P : Term × Kind → Type 0 = λ y. term_kind (user_kind d) (kinds_in scope) y.0 ≡ Some y.1 in
@@ -46,37 +46,37 @@ operand_kind Policy scope (CurrentUser p) x q h =
 compared : (d : Dialect) (scope : List Named) (a b : OperandTree) (o : Op) (c : Condition) → IsWellOperand d a → IsWellOperand d b → compare_bound scope a o b ≡ Ok c → condition_fits (user_kind d) (kinds_in scope) c ≡ true
 unfolding compare_bound
 compared d scope a b o c qa qb h =
-    let s = both_ok (operand_bound scope a) (λ x. operand_bound scope b >>= λ y. if kind_eq x.1 y.1 then Ok (shape.Compare x.0 (comparison_of o) y.0) else Err (FaultAt (place_of_operand b) why.KindMismatch)) c h in
+    let s = Ok-bind (operand_bound scope a) (λ x. operand_bound scope b >>= λ y. if kind_eq x.1 y.1 then Ok (shape.Compare x.0 (comparison_of o) y.0) else Err (FaultAt (place_of_operand b) why.KindMismatch)) c h in
     let x = s.0 in
-    let t = both_ok (operand_bound scope b) (λ y. if kind_eq x.1 y.1 then Ok (shape.Compare x.0 (comparison_of o) y.0) else Err (FaultAt (place_of_operand b) why.KindMismatch)) c s.2 in
+    let t = Ok-bind (operand_bound scope b) (λ y. if kind_eq x.1 y.1 then Ok (shape.Compare x.0 (comparison_of o) y.0) else Err (FaultAt (place_of_operand b) why.KindMismatch)) c s.2 in
     let y = t.0 in
-    let u = then_ok (kind_eq x.1 y.1) (Ok (shape.Compare x.0 (comparison_of o) y.0)) (FaultAt (place_of_operand b) why.KindMismatch) c t.2 in
+    let u = Ok-then (kind_eq x.1 y.1) (Ok (shape.Compare x.0 (comparison_of o) y.0)) (FaultAt (place_of_operand b) why.KindMismatch) c t.2 in
     let e : shape.Compare x.0 (comparison_of o) y.0 ≡ c = cc in
     let P : Condition → Type 0 = λ f. condition_fits (user_kind d) (kinds_in scope) f ≡ true in
     subst P e ((λ i. same_kind (operand_kind d scope a x qa s.1 i) (operand_kind d scope b y qb t.1 i)) ∙ u.0)
 
-pub bound_fits : (d : Dialect) (scope : List Named) (t : PredTree) (c : Condition) → IsWellPred d t → pred_bound scope t ≡ Ok c → condition_fits (user_kind d) (kinds_in scope) c ≡ true
+pub condition_fits-pred_bound : (d : Dialect) (scope : List Named) (t : PredTree) (c : Condition) → IsWellPred d t → pred_bound scope t ≡ Ok c → condition_fits (user_kind d) (kinds_in scope) c ≡ true
 unfolding pred_bound
-bound_fits d scope (Either a b) c q h =
-    let s = both_ok (pred_bound scope a) (λ x. pred_bound scope b >>= λ y. Ok (shape.Or x y)) c h in
-    let t = both_ok (pred_bound scope b) (λ y. Ok (shape.Or s.0 y)) c s.2 in
+condition_fits-pred_bound d scope (Either a b) c q h =
+    let s = Ok-bind (pred_bound scope a) (λ x. pred_bound scope b >>= λ y. Ok (shape.Or x y)) c h in
+    let t = Ok-bind (pred_bound scope b) (λ y. Ok (shape.Or s.0 y)) c s.2 in
     let e : shape.Or s.0 t.0 ≡ c = cc in
     let P : Condition → Type 0 = λ f. condition_fits (user_kind d) (kinds_in scope) f ≡ true in
-    subst P e (and_whole (condition_fits (user_kind d) (kinds_in scope) s.0) (condition_fits (user_kind d) (kinds_in scope) t.0) (bound_fits d scope a s.0 q.0 s.1) (bound_fits d scope b t.0 q.1 t.1))
-bound_fits d scope (Both a b) c q h =
-    let s = both_ok (pred_bound scope a) (λ x. pred_bound scope b >>= λ y. Ok (shape.And x y)) c h in
-    let t = both_ok (pred_bound scope b) (λ y. Ok (shape.And s.0 y)) c s.2 in
+    subst P e (and_whole (condition_fits (user_kind d) (kinds_in scope) s.0) (condition_fits (user_kind d) (kinds_in scope) t.0) (condition_fits-pred_bound d scope a s.0 q.0 s.1) (condition_fits-pred_bound d scope b t.0 q.1 t.1))
+condition_fits-pred_bound d scope (Both a b) c q h =
+    let s = Ok-bind (pred_bound scope a) (λ x. pred_bound scope b >>= λ y. Ok (shape.And x y)) c h in
+    let t = Ok-bind (pred_bound scope b) (λ y. Ok (shape.And s.0 y)) c s.2 in
     let e : shape.And s.0 t.0 ≡ c = cc in
     let P : Condition → Type 0 = λ f. condition_fits (user_kind d) (kinds_in scope) f ≡ true in
-    subst P e (and_whole (condition_fits (user_kind d) (kinds_in scope) s.0) (condition_fits (user_kind d) (kinds_in scope) t.0) (bound_fits d scope a s.0 q.0 s.1) (bound_fits d scope b t.0 q.1 t.1))
-bound_fits d scope (Negation a) c q h =
-    let s = both_ok (pred_bound scope a) (λ x. Ok (shape.Not x)) c h in
+    subst P e (and_whole (condition_fits (user_kind d) (kinds_in scope) s.0) (condition_fits (user_kind d) (kinds_in scope) t.0) (condition_fits-pred_bound d scope a s.0 q.0 s.1) (condition_fits-pred_bound d scope b t.0 q.1 t.1))
+condition_fits-pred_bound d scope (Negation a) c q h =
+    let s = Ok-bind (pred_bound scope a) (λ x. Ok (shape.Not x)) c h in
     let e : shape.Not s.0 ≡ c = cc in
     let P : Condition → Type 0 = λ f. condition_fits (user_kind d) (kinds_in scope) f ≡ true in
-    subst P e (bound_fits d scope a s.0 q s.1)
-bound_fits d scope (Constant b) c q h =
+    subst P e (condition_fits-pred_bound d scope a s.0 q s.1)
+condition_fits-pred_bound d scope (Constant b) c q h =
     let e : shape.Constant b ≡ c = cc in
     let P : Condition → Type 0 = λ f. condition_fits (user_kind d) (kinds_in scope) f ≡ true in
     subst P e refl
-bound_fits d scope (Comparison a o b) c q h =
+condition_fits-pred_bound d scope (Comparison a o b) c q h =
     compared d scope a b o c q.0 q.1 h

@@ -24,12 +24,12 @@ use Rattle.iv_query.specs.Well.{IsWellList, IsWellSelect, IsWellQuery}
 use Rattle.iv_bind.specs.Sound.{is_schema, IsTyped, IsSoundView, IsSoundCatalog, ReadsWell}
 use Rattle.iv_bind.specs.declared.bound.Bound.{Bound}
 use Rattle.iv_bind.specs.declared.fault.BindFault.{BindFault}
-use Rattle.iv_bind.proofs.Needs.{among_both, among_once}
-use Rattle.iv_bind.proofs.Inversion.{both_ok, then_ok, none_ok}
+use Rattle.iv_bind.proofs.Needs.{AreAmong-append, AreAmong-once}
+use Rattle.iv_bind.proofs.Inversion.{Ok-bind, Ok-then, Ok-if_none}
 use Rattle.iv_bind.proofs.Columns.{kinds_in}
 use Rattle.iv_bind.proofs.Predicates.{and_parts, and_whole}
-use Rattle.iv_bind.proofs.Joins.{IsFrom, from_keeps, filter_keeps}
-use Rattle.iv_bind.proofs.Outputs.{at_there, at_kinds, at_length, below, IsOut, listed_keep, starred_keep, keys_keep}
+use Rattle.iv_bind.proofs.Joins.{IsFrom, IsFrom-from_bound, IsFrom-filter_bound}
+use Rattle.iv_bind.proofs.Outputs.{are_there-AreAt, map-AreAt, length-AreAt, below, IsOut, Keeps-listed, Keeps-starred, are_there-keys_bound}
 
 -- the rows below the output
 grouped_type : (heads : Heads) (plan : Shape) (kinds : List Kind) (keys : List ℕ) (aggs : List Agg) → type_of heads plan ≡ Some kinds → are_there kinds keys ≡ true → list_all (agg_fits kinds) aggs ≡ true → type_of heads (grouped_shape keys aggs plan) ≡ Some (below kinds keys aggs)
@@ -57,12 +57,12 @@ wide_schema cs l h n d =
 
 selected_keeps : (catalog : List CatalogEntry) (d : Bool) (from : From) (keys : List ℕ) (out : Out) → IsFrom catalog from → are_there (kinds_in from.scope) keys ≡ true → IsOut (kinds_in from.scope) keys out → 1 ≤ length out.schema → nat_le (length out.columns) 16 ≡ true → IsSoundView catalog (selected d from keys out)
 selected_keeps catalog d from keys out f k is some few = record {
-  schema = wide_schema out.schema some (omega (arith, leb-true (length out.columns) 16 few, at_length (below (kinds_in from.scope) keys out.aggs) out.columns out.schema is.columns)) is.names is.distinct;
+  schema = wide_schema out.schema some (omega (arith, leb-true (length out.columns) 16 few, length-AreAt (below (kinds_in from.scope) keys out.aggs) out.columns out.schema is.columns)) is.names is.distinct;
   typed = λ heads a.
       let kinds = below (kinds_in from.scope) keys out.aggs in
       distinct_type heads d (Project out.columns (grouped_shape keys out.aggs from.plan))
       ∙ (λ i. option_and_then (λ ks. if_fits (are_there ks out.columns) (map (kind_at ks) out.columns)) (grouped_type heads from.plan (kinds_in from.scope) keys out.aggs (f.typed heads a) k is.aggs i))
-      ∙ (λ i. if_fits (at_there kinds out.columns out.schema is.columns i) (at_kinds kinds out.columns out.schema is.columns i));
+      ∙ (λ i. if_fits (are_there-AreAt kinds out.columns out.schema is.columns i) (map-AreAt kinds out.columns out.schema is.columns i));
   scanned = λ n c. f.scanned n (output_scans d from.plan keys out n c);
 }
 
@@ -75,31 +75,31 @@ no_aggregate (k ∷ keys) items h e = cc
 
 list_keeps : (catalog : List CatalogEntry) (from : From) (keys : List ℕ) (l : ListTree) (o : Out) → IsFrom catalog from → IsWellList l → ungrouped keys l ≡ None → list_bound from.scope keys l ≡ Ok o → Keeps (kinds_in from.scope) keys o
 unfolding list_bound
-list_keeps catalog from [] (StarAt p) o f w u h = starred_keep from.scope p o f.names f.some h
+list_keeps catalog from [] (StarAt p) o f w u h = Keeps-starred from.scope p o f.names f.some h
 list_keeps catalog from (k ∷ keys) (StarAt p) o f w u h = cc
 list_keeps catalog from keys (ItemsOf []) o f w u h = absurd (omega (arith, w.0))
-list_keeps catalog from keys (ItemsOf (i ∷ items)) o f w u h = listed_keep from.scope keys i items o (no_aggregate keys (i ∷ items) u) w.1 h
+list_keeps catalog from keys (ItemsOf (i ∷ items)) o f w u h = Keeps-listed from.scope keys i items o (no_aggregate keys (i ∷ items) u) w.1 h
 
 output_keeps : (catalog : List CatalogEntry) (p : ℕ) (d : Bool) (l : ListTree) (from : From) (group : List ColumnTree) (a : BoundQuery) → IsFrom catalog from → IsWellList l → output_of p d l from group ≡ Ok a → IsSoundView catalog a
 unfolding output_of
 output_keeps catalog p d l from group a f w h =
-    let s = both_ok (keys_bound from.scope group) (λ keys. if_some (ungrouped keys l) (list_bound from.scope keys l >>= λ out. if nat_le (length out.columns) 16 then Ok (selected d from keys out) else Err (FaultAt p why.TooManyColumns)) (λ q. Err (FaultAt q why.NotGrouped))) a h in
+    let s = Ok-bind (keys_bound from.scope group) (λ keys. if_some (ungrouped keys l) (list_bound from.scope keys l >>= λ out. if nat_le (length out.columns) 16 then Ok (selected d from keys out) else Err (FaultAt p why.TooManyColumns)) (λ q. Err (FaultAt q why.NotGrouped))) a h in
     let keys = s.0 in
-    let t = none_ok (ungrouped keys l) (list_bound from.scope keys l >>= λ out. if nat_le (length out.columns) 16 then Ok (selected d from keys out) else Err (FaultAt p why.TooManyColumns)) (λ q. FaultAt q why.NotGrouped) a s.2 in
-    let u = both_ok (list_bound from.scope keys l) (λ out. if nat_le (length out.columns) 16 then Ok (selected d from keys out) else Err (FaultAt p why.TooManyColumns)) a t.1 in
+    let t = Ok-if_none (ungrouped keys l) (list_bound from.scope keys l >>= λ out. if nat_le (length out.columns) 16 then Ok (selected d from keys out) else Err (FaultAt p why.TooManyColumns)) (λ q. FaultAt q why.NotGrouped) a s.2 in
+    let u = Ok-bind (list_bound from.scope keys l) (λ out. if nat_le (length out.columns) 16 then Ok (selected d from keys out) else Err (FaultAt p why.TooManyColumns)) a t.1 in
     let out = u.0 in
-    let v = then_ok (nat_le (length out.columns) 16) (Ok (selected d from keys out)) (FaultAt p why.TooManyColumns) a u.2 in
+    let v = Ok-then (nat_le (length out.columns) 16) (Ok (selected d from keys out)) (FaultAt p why.TooManyColumns) a u.2 in
     let e : selected d from keys out ≡ a = cc in
     let o = list_keeps catalog from keys l out f w t.0 u.1 in
     let P : BoundQuery → Type 0 = λ b. IsSoundView catalog b in
-    subst P {x = selected d from keys out} e (selected_keeps catalog d from keys out f (keys_keep from.scope group keys s.1) o.0 o.1 v.0)
+    subst P {x = selected d from keys out} e (selected_keeps catalog d from keys out f (are_there-keys_bound from.scope group keys s.1) o.0 o.1 v.0)
 
 select_keeps : (catalog : List CatalogEntry) (s : SelectTree) (a : BoundQuery) → IsSoundCatalog catalog → IsWellSelect s → select_bound catalog s ≡ Ok a → IsSoundView catalog a
 unfolding select_bound
 select_keeps catalog (SelectOf p d l s joins filter group) a sound w h =
-    let x = both_ok (from_bound catalog s joins) (λ all. filter_bound all filter >>= λ from. output_of p d l from group) a h in
-    let y = both_ok (filter_bound x.0 filter) (λ from. output_of p d l from group) a x.2 in
-    output_keeps catalog p d l y.0 group a (filter_keeps catalog x.0 filter y.0 (from_keeps catalog s joins x.0 sound x.1) w.3 y.1) w.0 y.2
+    let x = Ok-bind (from_bound catalog s joins) (λ all. filter_bound all filter >>= λ from. output_of p d l from group) a h in
+    let y = Ok-bind (filter_bound x.0 filter) (λ from. output_of p d l from group) a x.2 in
+    output_keeps catalog p d l y.0 group a (IsFrom-filter_bound catalog x.0 filter y.0 (IsFrom-from_bound catalog s joins x.0 sound x.1) w.3 y.1) w.0 y.2
 
 combined_type : (heads : Heads) (o : SetOp) (a b : Shape) (ks ls : List Kind) → type_of heads a ≡ Some ks → type_of heads b ≡ Some ls → kinds_eq ks ls ≡ true → type_of heads (combined_plan o a b) ≡ Some ks
 combined_type heads set.UnionAll a b ks ls t u e = (λ i. option_and_then (λ ms. option_and_then (λ ns. if_fits (kinds_eq ms ns) ms) (u i)) (t i)) ∙ (λ i. if_fits (e i) ks)
@@ -115,11 +115,11 @@ query_keeps : (catalog : List CatalogEntry) (q : QueryTree) (a : BoundQuery) →
 unfolding query_bound
 query_keeps catalog (One s) a sound w h = select_keeps catalog s a sound w h
 query_keeps catalog (Combined q o s) a sound w h =
-    let x = both_ok (query_bound catalog q) (λ left. select_bound catalog s >>= λ right. if kinds_eq (kinds_of left.schema) (kinds_of right.schema) then Ok (combined o left right) else Err (FaultAt (place_of_select s) why.ColumnsDiffer)) a h in
+    let x = Ok-bind (query_bound catalog q) (λ left. select_bound catalog s >>= λ right. if kinds_eq (kinds_of left.schema) (kinds_of right.schema) then Ok (combined o left right) else Err (FaultAt (place_of_select s) why.ColumnsDiffer)) a h in
     let left = x.0 in
-    let y = both_ok (select_bound catalog s) (λ right. if kinds_eq (kinds_of left.schema) (kinds_of right.schema) then Ok (combined o left right) else Err (FaultAt (place_of_select s) why.ColumnsDiffer)) a x.2 in
+    let y = Ok-bind (select_bound catalog s) (λ right. if kinds_eq (kinds_of left.schema) (kinds_of right.schema) then Ok (combined o left right) else Err (FaultAt (place_of_select s) why.ColumnsDiffer)) a x.2 in
     let right = y.0 in
-    let z = then_ok (kinds_eq (kinds_of left.schema) (kinds_of right.schema)) (Ok (combined o left right)) (FaultAt (place_of_select s) why.ColumnsDiffer) a y.2 in
+    let z = Ok-then (kinds_eq (kinds_of left.schema) (kinds_of right.schema)) (Ok (combined o left right)) (FaultAt (place_of_select s) why.ColumnsDiffer) a y.2 in
     let e : combined o left right ≡ a = cc in
     let l = query_keeps catalog q left sound w.0 x.1 in
     let r = select_keeps catalog s right sound w.1 y.1 in
@@ -127,12 +127,12 @@ query_keeps catalog (Combined q o s) a sound w h =
     subst P {x = combined o left right} e (record {
       schema = l.schema;
       typed = λ heads g. combined_type heads o left.plan right.plan (kinds_of left.schema) (kinds_of right.schema) (l.typed heads g) (r.typed heads g) z.0;
-      scanned = λ n c. among_both (scans left.plan) (scans right.plan) left.needs right.needs l.scanned r.scanned n (subst (λ (ts : List ℕ). Contains ts n) (combined_scans o left.plan right.plan) c);
+      scanned = λ n c. AreAmong-append (scans left.plan) (scans right.plan) left.needs right.needs l.scanned r.scanned n (subst (λ (ts : List ℕ). Contains ts n) (combined_scans o left.plan right.plan) c);
     })
 
 -- what a query is bound to is sound
-pub answer_keeps : (catalog : List CatalogEntry) (q : QueryTree) (a : BoundQuery) → IsSoundCatalog catalog → IsWellQuery q → query_bound catalog q ≡ Ok a → IsSoundView catalog a
-answer_keeps catalog q a sound w h = query_keeps catalog q a sound w h
+pub IsSoundView-query_bound : (catalog : List CatalogEntry) (q : QueryTree) (a : BoundQuery) → IsSoundCatalog catalog → IsWellQuery q → query_bound catalog q ≡ Ok a → IsSoundView catalog a
+IsSoundView-query_bound catalog q a sound w h = query_keeps catalog q a sound w h
 
 finished_keeps : (catalog : List CatalogEntry) (a b : BoundQuery) → IsSoundView catalog a → finished a ≡ Ok b → IsSoundView catalog b
 unfolding finished
@@ -142,32 +142,32 @@ finished_keeps catalog a b s h = part (nat_le (nodes a.plan) 256) h
     part true g =
         let e : record a { needs = once [] a.needs } ≡ b = cc in
         let P : BoundQuery → Type 0 = λ x. IsSoundView catalog x in
-        subst P {x = record a { needs = once [] a.needs }} e (record { schema = s.schema; typed = s.typed; scanned = among_once (scans a.plan) a.needs s.scanned })
+        subst P {x = record a { needs = once [] a.needs }} e (record { schema = s.schema; typed = s.typed; scanned = AreAmong-once (scans a.plan) a.needs s.scanned })
     part false g = cc
 
 -- what the program holds is sound, where it is what a part that was found becomes
-pub bound_keeps : (catalog : List CatalogEntry) (a : BoundQuery) (r : Result Bound BindFault) → IsSoundView catalog a → Gives bound_of r (finished a) → IfOk r (λ b. IsSoundView catalog (bound_of b))
-bound_keeps catalog a (Ok b) s g = finished_keeps catalog a (bound_of b) s g
-bound_keeps catalog a (Err e) s g = tt
+pub IsSoundView-finished : (catalog : List CatalogEntry) (a : BoundQuery) (r : Result Bound BindFault) → IsSoundView catalog a → Gives bound_of r (finished a) → IfOk r (λ b. IsSoundView catalog (bound_of b))
+IsSoundView-finished catalog a (Ok b) s g = finished_keeps catalog a (bound_of b) s g
+IsSoundView-finished catalog a (Err e) s g = tt
 
-pub bound_typed : (catalog : List CatalogEntry) (r : Result Bound BindFault) → IfOk r (λ b. IsSoundView catalog (bound_of b)) → IfOk r (λ b. IsTyped catalog (bound_of b))
-bound_typed catalog (Ok b) s = s.typed
-bound_typed catalog (Err e) s = tt
+pub IsTyped-IsSoundView : (catalog : List CatalogEntry) (r : Result Bound BindFault) → IfOk r (λ b. IsSoundView catalog (bound_of b)) → IfOk r (λ b. IsTyped catalog (bound_of b))
+IsTyped-IsSoundView catalog (Ok b) s = s.typed
+IsTyped-IsSoundView catalog (Err e) s = tt
 
-pub bound_scanned : (catalog : List CatalogEntry) (r : Result Bound BindFault) → IfOk r (λ b. IsSoundView catalog (bound_of b)) → IfOk r (λ b. AreAmong (scans (shape_of b.plan)) (numbers b.needs.items))
-bound_scanned catalog (Ok b) s = s.scanned
-bound_scanned catalog (Err e) s = tt
+pub AreAmong-IsSoundView : (catalog : List CatalogEntry) (r : Result Bound BindFault) → IfOk r (λ b. IsSoundView catalog (bound_of b)) → IfOk r (λ b. AreAmong (scans (shape_of b.plan)) (numbers b.needs.items))
+AreAmong-IsSoundView catalog (Ok b) s = s.scanned
+AreAmong-IsSoundView catalog (Err e) s = tt
 
 -- ---- trees and texts
 
-pub tree_keeps : (catalog : List CatalogEntry) (q : QueryTree) (a : BoundQuery) → IsSoundCatalog catalog → IsWellQuery q → bound catalog q ≡ Ok a → IsSoundView catalog a
+pub IsSoundView-bound : (catalog : List CatalogEntry) (q : QueryTree) (a : BoundQuery) → IsSoundCatalog catalog → IsWellQuery q → bound catalog q ≡ Ok a → IsSoundView catalog a
 unfolding bound
-tree_keeps catalog q a sound w h =
-    let s = both_ok (query_bound catalog q) finished a h in
-    finished_keeps catalog s.0 a (answer_keeps catalog q s.0 sound w s.1) s.2
+IsSoundView-bound catalog q a sound w h =
+    let s = Ok-bind (query_bound catalog q) finished a h in
+    finished_keeps catalog s.0 a (IsSoundView-query_bound catalog q s.0 sound w s.1) s.2
 
-pub text_keeps : (catalog : List CatalogEntry) (text : List ℕ) (a : BoundQuery) → IsSoundCatalog catalog → ReadsWell text → bound_query catalog text ≡ Ok a → IsSoundView catalog a
-text_keeps catalog text a sound w h = part (read_query text) w h
+pub IsSoundView-bound_query : (catalog : List CatalogEntry) (text : List ℕ) (a : BoundQuery) → IsSoundCatalog catalog → ReadsWell text → bound_query catalog text ≡ Ok a → IsSoundView catalog a
+IsSoundView-bound_query catalog text a sound w h = part (read_query text) w h
   where
     of_tree : (q : QueryTree) (r : Result BoundQuery Fault) → ((b : BoundQuery) → r ≡ Ok b → IsSoundView catalog b) → of_binding r ≡ Ok a → IsSoundView catalog a
     of_tree q (Ok b) k e =
@@ -177,5 +177,5 @@ text_keeps catalog text a sound w h = part (read_query text) w h
     of_tree q (Err (FaultAt place reason)) k e = cc
 
     part : (r : Result QueryTree reading.Fault) → ((q : QueryTree) → r ≡ Ok q → IsWellQuery q) → then_bound (bound catalog) r ≡ Ok a → IsSoundView catalog a
-    part (Ok q) k e = of_tree q (bound catalog q) (λ b g. tree_keeps catalog q b sound (k q refl) g) e
+    part (Ok q) k e = of_tree q (bound catalog q) (λ b g. IsSoundView-bound catalog q b sound (k q refl) g) e
     part (Err fault) k e = cc

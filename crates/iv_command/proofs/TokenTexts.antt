@@ -21,29 +21,29 @@ map-map g f [] = refl
 map-map g f (x ∷ xs) = ap (λ v. g (f x) ∷ v) (map-map g f xs)
 
 -- the next text is made and appended
-pub appends_text : {X Z : Type 0} (f : X → List Z) (xs : List X) (sofar part : List Z) (i : ℕ) (x : X) → sofar ≡ flat_map f (take i xs) → i < length xs → x ≡ get_or xs i x → part ≡ f x → sofar ++ part ≡ flat_map f (take (i + 1) xs)
-appends_text f xs sofar part i x h l e k =
+pub flat_map-take_next : {X Z : Type 0} (f : X → List Z) (xs : List X) (sofar part : List Z) (i : ℕ) (x : X) → sofar ≡ flat_map f (take i xs) → i < length xs → x ≡ get_or xs i x → part ≡ f x → sofar ++ part ≡ flat_map f (take (i + 1) xs)
+flat_map-take_next f xs sofar part i x h l e k =
     ap (λ t. t ++ part) h ∙ (ap (λ t. flat_map f (take i xs) ++ t) (k ∙ (ap f e ∙ sym (append-nil (f (get_or xs i x)))))
     ∙ (sym (flat_map-append f (take i xs) (get_or xs i x ∷ [])) ∙ ap (flat_map f) (sym (rw add-one (take-suc xs i x l)))))
 
 -- ---- tokens
 
 -- the first token
-pub adds_first : (old new : Written) (t : Token) → new.before ≡ old.before → new.tokens ≡ old.tokens ++ t ∷ [] → Adds old new (t ∷ [])
-adds_first old new t b h = (b, h)
+pub Adds-first : (old new : Written) (t : Token) → new.before ≡ old.before → new.tokens ≡ old.tokens ++ t ∷ [] → Adds old new (t ∷ [])
+Adds-first old new t b h = (b, h)
 
 -- some tokens, and then some more
-pub adds_more : (old mid new : Written) (ts us : List Token) → Adds old mid ts → Adds mid new us → Adds old new (ts ++ us)
-adds_more old mid new ts us h k = (k.0 ∙ h.0, k.1 ∙ (ap (λ v. v ++ us) h.1 ∙ append_assoc old.tokens ts us))
+pub Adds-append : (old mid new : Written) (ts us : List Token) → Adds old mid ts → Adds mid new us → Adds old new (ts ++ us)
+Adds-append old mid new ts us h k = (k.0 ∙ h.0, k.1 ∙ (ap (λ v. v ++ us) h.1 ∙ append_assoc old.tokens ts us))
 
 -- some tokens, and then the last
-pub adds_last : {E : Type 0} (r : Result (Unit {0}) E) (old mid new : Written) (ts : List Token) (t : Token) → Adds old mid ts → Writes r mid new t → OnOk r (Adds old new (ts ++ t ∷ []))
-adds_last (Ok x) old mid new ts t h k = adds_more old mid new ts (t ∷ []) h (k.room.0, k.ok)
-adds_last (Err e) old mid new ts t h k = tt
+pub Adds-push : {E : Type 0} (r : Result (Unit {0}) E) (old mid new : Written) (ts : List Token) (t : Token) → Adds old mid ts → Writes r mid new t → OnOk r (Adds old new (ts ++ t ∷ []))
+Adds-push (Ok x) old mid new ts t h k = Adds-append old mid new ts (t ∷ []) h (k.room.0, k.ok)
+Adds-push (Err e) old mid new ts t h k = tt
 
 -- some tokens, and then some more, where they were taken
 pub adds_then : {E : Type 0} (r : Result (Unit {0}) E) (old mid new : Written) (ts us : List Token) → Adds old mid ts → OnOk r (Adds mid new us) → OnOk r (Adds old new (ts ++ us))
-adds_then (Ok x) old mid new ts us h k = adds_more old mid new ts us h k
+adds_then (Ok x) old mid new ts us h k = Adds-append old mid new ts us h k
 adds_then (Err e) old mid new ts us h k = tt
 
 -- the tokens of each
@@ -55,27 +55,27 @@ items_each f [] = refl
 items_each f (x ∷ xs) = let ts = json_tokens (outline (f x)) in ap (λ v. ts ++ v) (items_each f xs) ∙ sym (append_assoc ts (each_tokens f xs) (end_array ∷ []))
 
 -- one more item
-pub adds_item : {X : Type 0} (f : X → Data) (xs : List X) (old mid new : Written) (i : ℕ) (x : X) → Adds old mid (begin_array ∷ each_tokens f (take i xs)) → i < length xs → x ≡ get_or xs i x → AddsValue mid new (f x) → Adds old new (begin_array ∷ each_tokens f (take (i + 1) xs))
-adds_item f xs old mid new i x h l e k =
-    let more = adds_more old mid new (begin_array ∷ each_tokens f (take i xs)) (json_tokens (outline (f x))) h k in
-    let step = appends_text (λ y. json_tokens (outline (f y))) xs (each_tokens f (take i xs)) (json_tokens (outline (f x))) i x refl l e refl in
+pub Adds-item : {X : Type 0} (f : X → Data) (xs : List X) (old mid new : Written) (i : ℕ) (x : X) → Adds old mid (begin_array ∷ each_tokens f (take i xs)) → i < length xs → x ≡ get_or xs i x → AddsValue mid new (f x) → Adds old new (begin_array ∷ each_tokens f (take (i + 1) xs))
+Adds-item f xs old mid new i x h l e k =
+    let more = Adds-append old mid new (begin_array ∷ each_tokens f (take i xs)) (json_tokens (outline (f x))) h k in
+    let step = flat_map-take_next (λ y. json_tokens (outline (f y))) xs (each_tokens f (take i xs)) (json_tokens (outline (f x))) i x refl l e refl in
     (more.0, more.1 ∙ ap (λ v. old.tokens ++ begin_array ∷ v) step)
 
 -- all items
-pub adds_items : {E X : Type 0} (r : Result (Unit {0}) E) (f : X → Data) (xs : List X) (old mid new : Written) (i : ℕ) → length xs ≤ i → Adds old mid (begin_array ∷ each_tokens f (take i xs)) → Writes r mid new end_array → OnOk r (AddsValue old new (array (items_of (map f xs))))
-adds_items (Err e) f xs old mid new i l h k = tt
-adds_items (Ok x) f xs old mid new i l h k =
-    let all = adds_last (Ok x) old mid new (begin_array ∷ each_tokens f (take i xs)) end_array h k in
+pub AddsValue-items : {E X : Type 0} (r : Result (Unit {0}) E) (f : X → Data) (xs : List X) (old mid new : Written) (i : ℕ) → length xs ≤ i → Adds old mid (begin_array ∷ each_tokens f (take i xs)) → Writes r mid new end_array → OnOk r (AddsValue old new (array (items_of (map f xs))))
+AddsValue-items (Err e) f xs old mid new i l h k = tt
+AddsValue-items (Ok x) f xs old mid new i l h k =
+    let all = Adds-push (Ok x) old mid new (begin_array ∷ each_tokens f (take i xs)) end_array h k in
     (all.0, all.1 ∙ ap (λ v. old.tokens ++ begin_array ∷ v) (ap (λ ys. each_tokens f ys ++ end_array ∷ []) (take_all i xs l) ∙ sym (items_each f xs)))
 
--- ---- what is printed
+-- ---- what is print-AddsValue
 
 -- a writer that began with nothing has the text of the value
-pub printed : (room : List ℕ) (first last : Written) (d : Data) → room ≡ [] → first.before ≡ room → first.tokens ≡ [] → AddsValue first last d → last.before ++ print last.tokens ≡ compact_text d
-printed room first last d e b t h =
+pub print-AddsValue : (room : List ℕ) (first last : Written) (d : Data) → room ≡ [] → first.before ≡ room → first.tokens ≡ [] → AddsValue first last d → last.before ++ print last.tokens ≡ compact_text d
+print-AddsValue room first last d e b t h =
     ap (λ v. v ++ print last.tokens) (h.0 ∙ (b ∙ e)) ∙ (ap print (h.1 ∙ ap (λ v. v ++ json_tokens (outline d)) t) ∙ print-outline d)
 
 -- the text of a number is that of its integer
-pub whole_text : (z : ℤ) → number_text (of_integer z) ≡ signed_decimal z
-whole_text (pos n) = refl
-whole_text (negsuc n) = refl
+pub number_text-of_integer : (z : ℤ) → number_text (of_integer z) ≡ signed_decimal z
+number_text-of_integer (pos n) = refl
+number_text-of_integer (negsuc n) = refl

@@ -23,7 +23,7 @@ use Rattle.iv_database.specs.Changes.{Change, change_at}
 use Rattle.iv_database.specs.Placed.{Placed, entry_of}
 use Rattle.iv_database.specs.Stands.{Stands}
 use Rattle.iv_database.specs.Summed.{AreSmall, AreTables, IsFirst, LeadTo}
-use Rattle.iv_database.proofs.TablesOf.{first_rel, first_rows, set_else, set_own, set_tables}
+use Rattle.iv_database.proofs.TablesOf.{rel-IsFirst, change_at-IsFirst, change_at-set_elsewhere, change_at-set, AreTables-set}
 
 abbrev pub Line : Type 0
 Line = List Cell
@@ -32,7 +32,7 @@ Line = List Cell
 
 module _ (sums0 sums : List Change) (k t : ℕ) (s : Change) (first : IsFirst sums k t) (was : s ≡ get_or sums k s) (same : (u : ℕ) → change_at sums u ≡ change_at sums0 u) where
   table_rows : change_at sums0 t ≡ s.rows
-  table_rows = sym (same t) ∙ first_rows sums k t s first was
+  table_rows = sym (same t) ∙ change_at-IsFirst sums k t s first was
 
   pub table_small : AreSmall 1000 (change_at sums0 t) → AreSmall 1000 s.rows
   table_small h = subst (AreSmall 1000) table_rows h
@@ -42,17 +42,17 @@ module _ (sums0 sums : List Change) (k t : ℕ) (s : Change) (first : IsFirst su
 
   module _ (new : Change) (rel : new.rel ≡ s.rel) where
     of_table : new.rel ≡ t
-    of_table = rel ∙ first_rel sums k t s first was
+    of_table = rel ∙ rel-IsFirst sums k t s first was
 
     pub table_set : (tables : List Table) → AreTables tables sums → AreTables tables (set sums k new)
-    table_set tables a = set_tables tables sums k t new first of_table a
+    table_set tables a = AreTables-set tables sums k t new first of_table a
 
     pub table_added : (add : Line → ℤ) → ((q : Line) → weight_of new.rows q ≡ weight_of s.rows q +ℤ add q) → (u : ℕ) (q : Line) → weight_of (change_at (set sums k new) u) q ≡ weight_of (change_at sums0 u) q +ℤ cond (t == u) (add q) (pos 0)
     table_added add more u q = ⊎_elim
         (λ y. subst (λ v. weight_of (change_at (set sums k new) v) q ≡ weight_of (change_at sums0 v) q +ℤ cond (t == v) (add q) (pos 0)) y.1
-        (ap (λ rows. weight_of rows q) (set_own sums k t new first of_table) ∙ more q
+        (ap (λ rows. weight_of rows q) (change_at-set sums k t new first of_table) ∙ more q
         ∙ (λ i. weight_of (sym table_rows i) q +ℤ cond (sym (own t) i) (add q) (pos 0))))
-        (λ n. ap (λ rows. weight_of rows q) (set_else sums k t u new first of_table n.0 ∙ same u) ∙ no_more (weight_of (change_at sums0 u) q)
+        (λ n. ap (λ rows. weight_of rows q) (change_at-set_elsewhere sums k t u new first of_table n.0 ∙ same u) ∙ no_more (weight_of (change_at sums0 u) q)
         ∙ ap (λ b. weight_of (change_at sums0 u) q +ℤ cond b (add q) (pos 0)) (sym n.0))
         (eqb_tells t u)
       where
@@ -64,14 +64,14 @@ module _ (sums0 sums : List Change) (k t : ℕ) (s : Change) (first : IsFirst su
 
 -- ---- the size of sums
 
-pub small_start : (n : ℕ) → AreSmall n []
-small_start n q = let m : 0 ≤ n * 2 ^ 63 = omega arith in (omega (arith, ints), omega (arith, ints))
+pub AreSmall-none : (n : ℕ) → AreSmall n []
+AreSmall-none n q = let m : 0 ≤ n * 2 ^ 63 = omega arith in (omega (arith, ints), omega (arith, ints))
 
-pub small_more : (n m : ℕ) (es : Weighed) → n ≤ m → AreSmall n es → AreSmall m es
-small_more n m es l h q = let a = (h q).0 in let b = (h q).1 in let k : n * 2 ^ 63 ≤ m * 2 ^ 63 = omega arith in (omega (arith, ints), omega (arith, ints))
+pub AreSmall-more : (n m : ℕ) (es : Weighed) → n ≤ m → AreSmall n es → AreSmall m es
+AreSmall-more n m es l h q = let a = (h q).0 in let b = (h q).1 in let k : n * 2 ^ 63 ≤ m * 2 ^ 63 = omega arith in (omega (arith, ints), omega (arith, ints))
 
-pub few_copies : (c : ℕ) → is_positive c ≡ true → c ≤ 2 ^ 63
-few_copies c h = by (nat_le 1 c) (nat_lt c (2 ^ 63)) refl h
+pub le-is_positive : (c : ℕ) → is_positive c ≡ true → c ≤ 2 ^ 63
+le-is_positive c h = by (nat_le 1 c) (nat_lt c (2 ^ 63)) refl h
   where
     below : nat_lt c (2 ^ 63) ≡ true → c ≤ 2 ^ 63
     below h = let l : c < 2 ^ 63 = grind (arith, nat_tests) in omega arith
@@ -101,8 +101,8 @@ adds_few (update old new) c q l = two (row_eq q new) (row_eq q old)
     two false true = (omega (arith, ints), omega (arith, ints))
     two false false = (omega (arith, ints), omega (arith, ints))
 
-pub small_next : (n : ℕ) (old new : Weighed) (op : Op) (c : ℕ) (b : Bool) → c ≤ 2 ^ 63 → AreSmall n old → ((q : Line) → weight_of new q ≡ weight_of old q +ℤ cond b (adds op c q) (pos 0)) → AreSmall (n + 1) new
-small_next n old new op c b l s more q = by b (weight_of new q) (weight_of old q) (adds op c q) (adds_few op c q l) (s q) (more q)
+pub AreSmall-next : (n : ℕ) (old new : Weighed) (op : Op) (c : ℕ) (b : Bool) → c ≤ 2 ^ 63 → AreSmall n old → ((q : Line) → weight_of new q ≡ weight_of old q +ℤ cond b (adds op c q) (pos 0)) → AreSmall (n + 1) new
+AreSmall-next n old new op c b l s more q = by b (weight_of new q) (weight_of old q) (adds op c q) (adds_few op c q l) (s q) (more q)
   where
     by : (b : Bool) (v w a : ℤ) → (pos 0 ≤ℤ (a +ℤ pos (2 ^ 63))) × (a ≤ℤ pos (2 ^ 63)) → (pos 0 ≤ℤ (w +ℤ pos (n * 2 ^ 63))) × (w ≤ℤ pos (n * 2 ^ 63)) → v ≡ w +ℤ cond b a (pos 0) → (pos 0 ≤ℤ (v +ℤ pos ((n + 1) * 2 ^ 63))) × (v ≤ℤ pos ((n + 1) * 2 ^ 63))
     by true v w a f s e = let x = f.0 in let y = f.1 in let u = s.0 in let t = s.1 in (omega (arith, ints), omega (arith, ints))
@@ -149,5 +149,5 @@ module _ (catalog : List catalogs.CatalogEntry) (p : Placed) (number : rel_of ca
       swap : (v w a b r : ℤ) → v ≡ w +ℤ a → w +ℤ b ≡ r → v +ℤ b ≡ r +ℤ a
       swap v w a b r h k = omega (arith, ints)
 
-pub leads_start : (tables : List Table) (T : Lists) → Stands T tables → LeadTo [] tables T
-leads_start tables T s t = s t
+pub LeadTo-none : (tables : List Table) (T : Lists) → Stands T tables → LeadTo [] tables T
+LeadTo-none tables T s t = s t

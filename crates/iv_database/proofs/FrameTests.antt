@@ -21,13 +21,13 @@ use Rattle.iv_command.specs.Stops.{IsTested}
 use Rattle.iv_command.specs.Views.{refusal_of}
 use Rattle.iv_command.specs.declared.stop.Stop.{Stop}
 use Rattle.iv_command.specs.declared.stop.Stop.TheVariants.{Refused, Memory}
-use Rattle.iv_database.proofs.RightsRefusals.{acts}
+use Rattle.iv_database.proofs.RightsRefusals.{first-tests_by}
 
 -- ---- the shape of an entry
 
-pub shape_is : (f : Frame) (n : ℕ) (name : Name) (op : Op) (k : ℕ) (c : List Column) → is_some (named f.catalog name) ≡ true → table_columns f.catalog name ≡ Some c
+pub entry_shape-named : (f : Frame) (n : ℕ) (name : Name) (op : Op) (k : ℕ) (c : List Column) → is_some (named f.catalog name) ≡ true → table_columns f.catalog name ≡ Some c
     → entry_shape f n (record { rel = name; op = op; copies = k }) ≡ or_else (test (not (list_all (accepts (kinds_of c)) (rows_in op))) (machine.bad_row n)) None
-shape_is f n name op k c there columns =
+entry_shape-named f n name op k c there columns =
     λ i. or_else (test (not (there i)) machine.unknown_relation) (or_else (test (not (is_some (columns i))) machine.not_a_table) (or_else (test (not (list_all (accepts (kinds_of (unwrap_or (columns i) []))) (rows_in op))) (machine.bad_row n)) None))
 
 pub get_is : (cs : List (List Column)) (k : ℕ) (c : List Column) → k < length cs → c ≡ get_or cs k c → slice_get cs k ≡ Some c
@@ -54,25 +54,25 @@ missing_is f role k name (p ∷ ps) h = by (has f.rights role p k) (missing_is f
 -- ---- tests one after another
 
 -- the first fails
-pub first_stops : (o rest : Option machine.Refusal) (stop : Stop) → IsTested o (Err stop) → IsTested (or_else o rest) (Err stop)
-first_stops o rest (Refused r) h = ap (λ x. or_else x rest) h
-first_stops o rest Memory h = tt
+pub IsTested-Err : (o rest : Option machine.Refusal) (stop : Stop) → IsTested o (Err stop) → IsTested (or_else o rest) (Err stop)
+IsTested-Err o rest (Refused r) h = ap (λ x. or_else x rest) h
+IsTested-Err o rest Memory h = tt
 
 -- tests of rows that are borrowed
-pub tests_borrowed : (f : Check × List Cell → Option machine.Refusal) (tests : List (Check × Bor (List Cell))) → first_of f tests ≡ first (map f (map (λ t. (t.0, t.1.now)) tests))
-tests_borrowed f [] = refl
-tests_borrowed f (t ∷ ts) = ap (or_else (f (t.0, t.1.now))) (tests_borrowed f ts)
+pub first_of-first : (f : Check × List Cell → Option machine.Refusal) (tests : List (Check × Bor (List Cell))) → first_of f tests ≡ first (map f (map (λ t. (t.0, t.1.now)) tests))
+first_of-first f [] = refl
+first_of-first f (t ∷ ts) = ap (or_else (f (t.0, t.1.now))) (first_of-first f ts)
 
 -- the tests of an update
-pub update_tested : (f : Frame) (role n : ℕ) (p : Placed) (old new : List Cell) (x : Result Unit Stop) → p.op ≡ machine.update old new
+pub IsTested-update : (f : Frame) (role n : ℕ) (p : Placed) (old new : List Cell) (x : Result Unit Stop) → p.op ≡ machine.update old new
     → IsTested (first (map (entry_check f role n p.name) (checks_for (machine.update old new)))) x → IsTested (entry_policies f role n (entry_of p)) x
-update_tested f role n p old new x is h = subst (λ (o : Op). IsTested (first (map (entry_check f role n p.name) (checks_for o))) x) (sym is) h
+IsTested-update f role n p old new x is h = subst (λ (o : Op). IsTested (first (map (entry_check f role n p.name) (checks_for o))) x) (sym is) h
 
 -- ---- the tests in their order
 
 module _ (e : Database) (a : ℕ) (n : ℕ) (es : List Entry) (acting : Some a ≡ option_map (λ s. s.role) (session_of e.sessions n)) where
   in_order : frame_refusal (frame_of e) n (write es) ≡ or_else (each_entry (entry_shape (frame_of e)) 1 es) (or_else (each_entry (entry_privileges (frame_of e) a) 1 es) (or_else (each_entry (entry_policies (frame_of e) a) 1 es) None))
-  in_order = acts e n a (write es) acting
+  in_order = first-tests_by e n a (write es) acting
 
   by_shape : (r : machine.Refusal) → each_entry (entry_shape (frame_of e)) 1 es ≡ Some r → frame_refusal (frame_of e) n (write es) ≡ Some r
   by_shape r shape = in_order ∙ ap (λ x. or_else x (or_else (each_entry (entry_privileges (frame_of e) a) 1 es) (or_else (each_entry (entry_policies (frame_of e) a) 1 es) None))) shape
@@ -102,14 +102,14 @@ module _ (e : Database) (a : ℕ) (n : ℕ) (es : List Entry) (acting : Some a �
 
 -- ---- entries that keep the rules on shape
 
-pub both : (b c : Bool) → (b && c) ≡ true → (b ≡ true) × (c ≡ true)
-both true c h = (refl, h)
-both false c h = cc
+pub and-true_both : (b c : Bool) → (b && c) ≡ true → (b ≡ true) × (c ≡ true)
+and-true_both true c h = (refl, h)
+and-true_both false c h = cc
 
 -- what holds of all holds of the last
-pub last_of : {A : Type 0} (P : A → Type 0) (xs : List A) (d : A) → AllByRecursion P xs → 0 < length xs → d ≡ get_or xs (length xs - 1) d → P d
-last_of P [] d a l h = absurd (omega arith)
-last_of P (x ∷ []) d a l h = subst P (sym h) a.0
-last_of P (x ∷ y ∷ xs) d a l h =
+pub last-AllByRecursion : {A : Type 0} (P : A → Type 0) (xs : List A) (d : A) → AllByRecursion P xs → 0 < length xs → d ≡ get_or xs (length xs - 1) d → P d
+last-AllByRecursion P [] d a l h = absurd (omega arith)
+last-AllByRecursion P (x ∷ []) d a l h = subst P (sym h) a.0
+last-AllByRecursion P (x ∷ y ∷ xs) d a l h =
     let less : suc (suc (length xs)) - 1 ≡ suc (suc (length xs) - 1) = omega arith in
-    last_of P (y ∷ xs) d a.1 (omega arith) (h ∙ ap (λ k. get_or (x ∷ y ∷ xs) k d) less)
+    last-AllByRecursion P (y ∷ xs) d a.1 (omega arith) (h ∙ ap (λ k. get_or (x ∷ y ∷ xs) k d) less)

@@ -20,8 +20,8 @@ use Rattle.iv_database.specs.Next.{IsDone}
 use Rattle.iv_database.specs.Target.{IsTarget}
 use Rattle.iv_database.specs.Telling.{IsTold, told}
 use Rattle.iv_command.specs.declared.stop.Stop.{Stop}
-use Rattle.iv_database.proofs.MembershipChanges.{HasTurned, done_by}
-use Rattle.iv_database.proofs.RightsRefusals.{Tells, acts}
+use Rattle.iv_database.proofs.MembershipChanges.{HasTurned, IsDone-IsTold}
+use Rattle.iv_database.proofs.RightsRefusals.{Tells, first-tests_by}
 
 two : (a b : Bool) (name : Name) → Tells (first_fault ((a, fault.NotOwner) ∷ (b, fault.Role) ∷ [])) name (or_else (test a (machine.not_owner name)) (or_else (test b machine.unknown_role) None))
 two true b name = record { none = λ h. cc; some = λ x h. let e : fault.NotOwner ≡ x = cc in (machine.not_owner name, (refl, ap (λ y. told y name) e)) }
@@ -57,11 +57,11 @@ module _ (u e : Database) (K : Access) (n a number : ℕ) (called rel : Name) (p
       (or_else (test (not (owns u.known.rights a (sym here.number i))) (machine.not_owner called)) (or_else (known_grantee (frame_of u) to) None))) ∙ all
 
   pub granted_done : HasTurned u K (with_grants number privileges (grantee_of u.known.rights to) u.known.rights) (grant_fault u.known.rights a number to) x → IsDone e n (grant rel privileges to) y (record u { known = K })
-  granted_done h = as_named (λ name. grant name privileges to) (done_by u K _ n (grant called privileges to) (grant_fault u.known.rights a number to) called refusal x y tells
-      (first_told (grant called privileges to) (sym (acts u n a (grant called privileges to) here.acts)))
+  granted_done h = as_named (λ name. grant name privileges to) (IsDone-IsTold u K _ n (grant called privileges to) (grant_fault u.known.rights a number to) called refusal x y tells
+      (first_told (grant called privileges to) (sym (first-tests_by u n a (grant called privileges to) here.acts)))
       (λ i. with_rights (with_grants (sym here.number i) privileges (grantee_of u.known.rights to) u.known.rights) u) h told_here)
 
   pub taken_done : HasTurned u K (without_grants number privileges (grantee_of u.known.rights to) u.known.rights) (grant_fault u.known.rights a number to) x → IsDone e n (revoke rel privileges to) y (record u { known = K })
-  taken_done h = as_named (λ name. revoke name privileges to) (done_by u K _ n (revoke called privileges to) (grant_fault u.known.rights a number to) called refusal x y tells
-      (first_told (revoke called privileges to) (sym (acts u n a (revoke called privileges to) here.acts)))
+  taken_done h = as_named (λ name. revoke name privileges to) (IsDone-IsTold u K _ n (revoke called privileges to) (grant_fault u.known.rights a number to) called refusal x y tells
+      (first_told (revoke called privileges to) (sym (first-tests_by u n a (revoke called privileges to) here.acts)))
       (λ i. with_rights (without_grants (sym here.number i) privileges (grantee_of u.known.rights to) u.known.rights) u) h told_here)

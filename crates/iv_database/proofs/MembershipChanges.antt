@@ -19,7 +19,7 @@ use Rattle.iv_database.specs.Telling.{IsTold, told}
 use Rattle.iv_command.specs.Views.{refusal_of}
 use Rattle.iv_command.specs.declared.stop.Stop.{Stop}
 use Rattle.iv_command.specs.declared.stop.Stop.TheVariants.{Refused, Memory}
-use Rattle.iv_database.proofs.RightsRefusals.{Tells, acts}
+use Rattle.iv_database.proofs.RightsRefusals.{Tells, first-tests_by}
 
 four : (a b c d : Bool) (name : Name) → Tells (first_fault ((a, fault.NotAdmin) ∷ (b, fault.Role) ∷ (c, fault.Role) ∷ (d, fault.Loop) ∷ [])) name
     (or_else (test a machine.not_administrator) (or_else (test b machine.unknown_role) (or_else (test c machine.unknown_role) (or_else (test d machine.membership_loop) None))))
@@ -45,19 +45,19 @@ pub record HasTurned (u : Database) (K : Access) (R : Rights) (f : Option Access
   pub unchanged : OnErr x (K ≡ u.known)
 
 -- want of memory is told as no refusal
-pub memory_is_none : (y : AccessFault) (name : Name) (r : Refusal) → y ≡ fault.Memory → told y name ≡ Some r → ⊥
-memory_is_none y name r is t = let e : None ≡ Some r = sym (ap (λ z. told z name) is) ∙ t in cc
+pub not_told-Memory : (y : AccessFault) (name : Name) (r : Refusal) → y ≡ fault.Memory → told y name ≡ Some r → ⊥
+not_told-Memory y name r is t = let e : None ≡ Some r = sym (ap (λ z. told z name) is) ∙ t in cc
 
-pub done_by : (u : Database) (K : Access) (R : Rights) (n : ℕ) (act : Act) (f : Option AccessFault) (name : Name) (o : Option Refusal) (x : Result Unit AccessFault) (y : Result Unit Stop)
+pub IsDone-IsTold : (u : Database) (K : Access) (R : Rights) (n : ℕ) (act : Act) (f : Option AccessFault) (name : Name) (o : Option Refusal) (x : Result Unit AccessFault) (y : Result Unit Stop)
     → Tells f name o → o ≡ frame_refusal (frame_of u) n act → with_rights R u ≡ database_after u n act → HasTurned u K R f x → IsTold x name y → IsDone u n act y (record u { known = K })
-done_by u K R n act f name o (Ok i) (Ok v) tells is left h t =
+IsDone-IsTold u K R n act f name o (Ok i) (Ok v) tells is left h t =
     (sym is ∙ tells.none h.ok_when, (λ j. record u { known = record { relations = h.relations j; rights = h.rights j } }) ∙ left)
-done_by u K R n act f name o (Ok i) (Err s) tells is left h t = absurd t
-done_by u K R n act f name o (Err x) (Ok v) tells is left h t = absurd t
-done_by u K R n act f name o (Err x) (Err (Refused r)) tells is left h t = ⊎_elim
-    (λ m. absurd (memory_is_none x name (refusal_of r) m t))
+IsDone-IsTold u K R n act f name o (Ok i) (Err s) tells is left h t = absurd t
+IsDone-IsTold u K R n act f name o (Err x) (Ok v) tells is left h t = absurd t
+IsDone-IsTold u K R n act f name o (Err x) (Err (Refused r)) tells is left h t = ⊎_elim
+    (λ m. absurd (not_told-Memory x name (refusal_of r) m t))
     (λ s. let z = tells.some x s in (sym is ∙ z.1.0 ∙ z.1.1 ∙ t, ap (λ k. record u { known = k }) h.unchanged)) h.err_when
-done_by u K R n act f name o (Err x) (Err Memory) tells is left h t = tt
+IsDone-IsTold u K R n act f name o (Err x) (Err Memory) tells is left h t = tt
 
 module _ (u e : Database) (K : Access) (n a : ℕ) (called role to : Name) (x : Result Unit AccessFault) (y : Result Unit Stop)
     (is : u ≡ e) (same : called ≡ role) (acting : Some a ≡ option_map (λ s. s.role) (session_of e.sessions n)) (t : IsTold x role y) where
@@ -72,15 +72,15 @@ module _ (u e : Database) (K : Access) (n a : ℕ) (called role to : Name) (x : 
 
   pub joined_done : HasTurned u K (with_member (role_number u.known.rights called) (role_number u.known.rights to) u.known.rights) (grant_role_fault u.known.rights a called to) x
       → IsDone e n (grant_role role to) y (record u { known = K })
-  joined_done h = as_named (λ name. grant_role name to) (done_by u K _ n (grant_role called to) (grant_role_fault u.known.rights a called to) called _ x y
+  joined_done h = as_named (λ name. grant_role name to) (IsDone-IsTold u K _ n (grant_role called to) (grant_role_fault u.known.rights a called to) called _ x y
       (four (not (is_admin a)) (not (is_some (role_of u.known.rights called))) (not (is_some (role_of u.known.rights to))) (acts_as u.known.rights (role_number u.known.rights called) (role_number u.known.rights to)) called)
-      (sym (acts u n a (grant_role called to) acts_here)) refl h told_here)
+      (sym (first-tests_by u n a (grant_role called to) acts_here)) refl h told_here)
 
   pub parted_done : HasTurned u K (without_member (role_number u.known.rights called) (role_number u.known.rights to) u.known.rights) (revoke_role_fault u.known.rights a called to) x
       → IsDone e n (revoke_role role to) y (record u { known = K })
-  parted_done h = as_named (λ name. revoke_role name to) (done_by u K _ n (revoke_role called to) (revoke_role_fault u.known.rights a called to) called _ x y
+  parted_done h = as_named (λ name. revoke_role name to) (IsDone-IsTold u K _ n (revoke_role called to) (revoke_role_fault u.known.rights a called to) called _ x y
       (three (not (is_admin a)) (not (is_some (role_of u.known.rights called))) (not (is_some (role_of u.known.rights to))) called)
-      (sym (acts u n a (revoke_role called to) acts_here)) refl h told_here)
+      (sym (first-tests_by u n a (revoke_role called to) acts_here)) refl h told_here)
 
 -- a fault that is no want of memory
 pub without_memory : (x : Result Unit AccessFault) (f : Option AccessFault) → IfErr x (λ y. f ≡ Some y) → IfErr x (λ y. (y ≡ fault.Memory) ⊎ (f ≡ Some y))

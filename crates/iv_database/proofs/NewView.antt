@@ -26,19 +26,19 @@ use Rattle.iv_command.specs.Views.{refusal_of}
 use Rattle.iv_command.specs.declared.stop.Stop.{Stop}
 use Rattle.iv_command.specs.declared.stop.Stop.TheVariants.{Refused, Memory}
 use Rattle.iv_database.specs.Telling.{IsStopOf, told as told_as}
-use Rattle.iv_database.proofs.MembershipChanges.{memory_is_none}
-use Rattle.iv_database.proofs.RightsRefusals.{closed, named_known, opened}
+use Rattle.iv_database.proofs.MembershipChanges.{not_told-Memory}
+use Rattle.iv_database.proofs.RightsRefusals.{is_some-None, named_known, is_some-acting}
 
 -- ---- the session and the names
 
 module _ (e : Database) (n : ℕ) (name owner : Name) (more : List (Option machine.Refusal)) where
   pub no_creator : None ≡ option_map (λ s. s.role) (session_of e.sessions n) → creator_tests (frame_of e) n name owner more ≡ Some machine.no_session
-  no_creator h = ap (λ b. or_else (test (not b) machine.no_session) (first (administrator (actor (frame_of e) n) ∷ known_role (frame_of e) owner ∷ free_relation (frame_of e) name ∷ more))) (closed (session_of e.sessions n) h)
+  no_creator h = ap (λ b. or_else (test (not b) machine.no_session) (first (administrator (actor (frame_of e) n) ∷ known_role (frame_of e) owner ∷ free_relation (frame_of e) name ∷ more))) (is_some-None (session_of e.sessions n) h)
 
   module _ (a : ℕ) (h : Some a ≡ option_map (λ s. s.role) (session_of e.sessions n)) where
     by_names : creator_tests (frame_of e) n name owner more
         ≡ or_else (test (not (is_admin a)) machine.not_administrator) (or_else (test (not (is_some (role_of e.known.rights owner))) machine.unknown_role) (or_else (test (is_some (named e.catalog name)) machine.name_taken) (first more)))
-    by_names = let o = opened (session_of e.sessions n) a (length e.known.rights.roles) h in
+    by_names = let o = is_some-acting (session_of e.sessions n) a (length e.known.rights.roles) h in
         λ i. or_else (test (not (o.0 i)) machine.no_session) (first (administrator (o.1 i) ∷ known_role (frame_of e) owner ∷ free_relation (frame_of e) name ∷ more))
 
     pub no_admin : is_admin a ≡ false → creator_tests (frame_of e) n name owner more ≡ Some machine.not_administrator
@@ -54,9 +54,9 @@ module _ (e : Database) (n : ℕ) (name owner : Name) (more : List (Option machi
   creator_passes acting m = by_names acting.0 m.acts ∙ (λ i. or_else (test (not (m.admin i)) machine.not_administrator) (or_else (test (not (m.known i)) machine.unknown_role) (or_else (test (is_some (m.free i)) machine.name_taken) (first more))))
 
 -- a number that is found, whatever it is wrapped in
-pub found_is : {A : Type 0} (f : A → ℕ) (o : Option A) (p : Option ℕ) → option_map f o ≡ p → is_some p ≡ is_some o
-found_is f None p h = sym (ap (λ (x : Option ℕ). is_some x) h)
-found_is f (Some a) p h = sym (ap (λ (x : Option ℕ). is_some x) h)
+pub is_some-same : {A : Type 0} (f : A → ℕ) (o : Option A) (p : Option ℕ) → option_map f o ≡ p → is_some p ≡ is_some o
+is_some-same f None p h = sym (ap (λ (x : Option ℕ). is_some x) h)
+is_some-same f (Some a) p h = sym (ap (λ (x : Option ℕ). is_some x) h)
 
 -- ---- how many views
 
@@ -111,16 +111,16 @@ module _ (e : Database) (h : IsDatabase e) (acting : ℕ) (name owner : Name) (a
   pub view_stops : (x : AccessFault) (stop : Stop) (a : BoundQuery) (new : Database) → (x ≡ fault.Memory) ⊎ (add_relation_fault e.known acting name owner false ≡ Some x) → IsStopOf x name stop → new ≡ e
       → IsViewAdded e name owner a (Err stop) new
   view_stops x (Refused r) a new h' told same = ⊎_elim
-      (λ m. absurd (memory_is_none x name (refusal_of r) m told))
+      (λ m. absurd (not_told-Memory x name (refusal_of r) m told))
       (λ f. let full = full_alone x f in (full.0, same_refusal (refusal_of r) (sym (ap (λ y. told_as y name) full.1) ∙ told), same)) h'
   view_stops x Memory a new h' told same = tt
 
 -- ---- the text, and what is kept
 
 -- the session or the names refuse it
-pub creator_refused : (e : Database) (n : ℕ) (name owner : Name) (query : List ℕ) (stop : Stop) → IsCreator e n name owner (Err stop) → IsDone e n (create_view name owner query) (Err stop) e
-creator_refused e n name owner query (Refused r) h = (h (bad_text (bound_query e.catalog query) ∷ full 64 (views (frame_of e)) ∷ []), refl)
-creator_refused e n name owner query Memory h = tt
+pub IsDone-IsCreator : (e : Database) (n : ℕ) (name owner : Name) (query : List ℕ) (stop : Stop) → IsCreator e n name owner (Err stop) → IsDone e n (create_view name owner query) (Err stop) e
+IsDone-IsCreator e n name owner query (Refused r) h = (h (bad_text (bound_query e.catalog query) ∷ full 64 (views (frame_of e)) ∷ []), refl)
+IsDone-IsCreator e n name owner query Memory h = tt
 
 module _ (e : Database) (n : ℕ) (name owner : Name) (query : List ℕ) (acting : RoleId) (m : MayAdd e n name owner acting) where
   text_tests : frame_refusal (frame_of e) n (create_view name owner query) ≡ or_else (bad_text (bound_query e.catalog query)) (or_else (full 64 (views (frame_of e))) None)

@@ -130,26 +130,26 @@ module _ (e : Database) (n : ℕ) (p : PolicyText) (t : RelId) (preds : Predicat
   pub is_full : has_room rights t.0 ≡ false → frame_refusal (frame_of e) n (create_policy p) ≡ Some machine.too_many
   is_full h = ready_tests ∙ full_by (nat_le 32 (length (policies_of (slice_get rights.guards t.0)))) h
 
-pub err_is : {A E : Type 0} (r : Result A E) (P : E → Type 0) (Q : Result A E → Type 0) → IsErrAnd r P → ((x : E) → P x → Q (Err x)) → Q r
-err_is (OkResult a) P Q h k = absurd h
-err_is (Err x) P Q h k = k x h
+pub IsErrAnd-gives : {A E : Type 0} (r : Result A E) (P : E → Type 0) (Q : Result A E → Type 0) → IsErrAnd r P → ((x : E) → P x → Q (Err x)) → Q r
+IsErrAnd-gives (OkResult a) P Q h k = absurd h
+IsErrAnd-gives (Err x) P Q h k = k x h
 
 -- the session or the name of the relation refuses it
-pub acting_refused : (d : Database) (n : ℕ) (act : Act) (rel : Name) (stop : Stop) (more : List (Option machine.Refusal)) → frame_refusal (frame_of d) n act ≡ target_tests (frame_of d) n rel more → IsActingOn d n rel (Err stop) → IsDone d n act (Err stop) d
-acting_refused d n act rel (Refused r) more same h = (same ∙ h more, refl)
-acting_refused d n act rel Memory more same h = tt
+pub IsDone-IsActingOn : (d : Database) (n : ℕ) (act : Act) (rel : Name) (stop : Stop) (more : List (Option machine.Refusal)) → frame_refusal (frame_of d) n act ≡ target_tests (frame_of d) n rel more → IsActingOn d n rel (Err stop) → IsDone d n act (Err stop) d
+IsDone-IsActingOn d n act rel (Refused r) more same h = (same ∙ h more, refl)
+IsDone-IsActingOn d n act rel Memory more same h = tt
 
 -- the same of a table that is to be owned
-pub not_owned : (d : Database) (n : ℕ) (rel : Name) (stop : Stop) → IsActingOn d n rel (Err stop) → IsOwned d n rel (Err stop)
-not_owned d n rel (Refused r) h = λ more. h (table_alone (frame_of d) rel ∷ owner_alone (frame_of d) (actor (frame_of d) n) rel ∷ more)
-not_owned d n rel Memory h = tt
+pub IsOwned-IsActingOn : (d : Database) (n : ℕ) (rel : Name) (stop : Stop) → IsActingOn d n rel (Err stop) → IsOwned d n rel (Err stop)
+IsOwned-IsActingOn d n rel (Refused r) h = λ more. h (table_alone (frame_of d) rel ∷ owner_alone (frame_of d) (actor (frame_of d) n) rel ∷ more)
+IsOwned-IsActingOn d n rel Memory h = tt
 
 -- ---- the requests
 
 -- the owner's tests refuse it
-pub owned_refused : (d : Database) (n : ℕ) (act : Act) (rel : Name) (stop : Stop) (more : List (Option machine.Refusal)) → frame_refusal (frame_of d) n act ≡ owner_tests (frame_of d) n rel more → IsOwned d n rel (Err stop) → IsGuarded d n act rel (Err stop) d
-owned_refused d n act rel (Refused r) more same h = (same ∙ h more, refl)
-owned_refused d n act rel Memory more same h = tt
+pub IsGuarded-IsOwned : (d : Database) (n : ℕ) (act : Act) (rel : Name) (stop : Stop) (more : List (Option machine.Refusal)) → frame_refusal (frame_of d) n act ≡ owner_tests (frame_of d) n rel more → IsOwned d n rel (Err stop) → IsGuarded d n act rel (Err stop) d
+IsGuarded-IsOwned d n act rel (Refused r) more same h = (same ∙ h more, refl)
+IsGuarded-IsOwned d n act rel Memory more same h = tt
 
 -- the tests of a policy refuse it
 pub checked_refused : (d : Database) (n : ℕ) (p : PolicyText) (stop : Stop) → IsChecked d n p (Err stop) → IsGuarded d n (create_policy p) p.rel (Err stop) d

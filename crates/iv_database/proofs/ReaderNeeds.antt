@@ -16,8 +16,8 @@ use Rattle.iv_machine.specs.Numbered.{AreNumbered}
 use Rattle.iv_machine.specs.State.{missing_for, name_of, needs_at}
 use Rattle.iv_database.specs.Database.{Database, IsDatabase, frame_of, relation_in}
 use Rattle.iv_access.specs.Privileges.{select_from}
-use Rattle.iv_database.proofs.TablesAndViews.{numbered_there}
-use Rattle.iv_database.proofs.Tables.{found_rel}
+use Rattle.iv_database.proofs.TablesAndViews.{numbered-there}
+use Rattle.iv_database.proofs.Tables.{rel-numbered}
 
 -- ---- a relation, and those that it reaches
 
@@ -32,7 +32,7 @@ needs_by (Some x) k t r = held_needs x.held x.rel ∙ ap (λ m. m ∷ if_some (v
 
 module _ (e : Database) (h : IsDatabase e) (role k : ℕ) (low : k < length e.catalog) where
   needs_are : needs_at e.catalog k ≡ k ∷ if_some (view_of e.catalog k) [] (λ (a : BoundQuery). a.needs)
-  needs_are = needs_by (numbered e.catalog k) k (numbered_there 0 e.catalog k h.numbered (omega arith) (omega (arith, low))) (found_rel e.catalog k)
+  needs_are = needs_by (numbered e.catalog k) k (numbered-there 0 e.catalog k h.numbered (omega arith) (omega (arith, low))) (rel-numbered e.catalog k)
 
   missing_is : missing_for (frame_of e) role k ≡ cond (has e.known.rights role Select k) (first_missing e.known.rights role (map (λ r. (Select, r)) (if_some (view_of e.catalog k) [] (λ (a : BoundQuery). a.needs)))) (Some (Select, k))
   missing_is = ap (λ ns. first_missing e.known.rights role (map (λ r. (Select, r)) ns)) needs_are

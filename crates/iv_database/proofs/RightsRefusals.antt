@@ -25,23 +25,23 @@ use Rattle.iv_database.specs.Next.{IsDone}
 use Rattle.iv_command.specs.declared.stop.Stop.{Stop}
 use Rattle.iv_command.specs.declared.stop.Stop.TheVariants.{Refused, Memory}
 use Rattle.iv_database.specs.Telling.{told, IsAdded}
-use Rattle.iv_database.proofs.Tables.{IsNamed, counted, is_of, none_later, none_named, relation_is}
+use Rattle.iv_database.proofs.Tables.{IsNamed, count_like-tables, is_of, numbered-None, named-None, IsNamed-position_from}
 
 -- ---- the acting role
 
-pub opened : (o : Option Session) (a d : ℕ) → Some a ≡ option_map (λ s. s.role) o → (is_some o ≡ true) × (unwrap_or (option_map (λ s. s.role) o) d ≡ a)
-opened None a d h = cc
-opened (Some s) a d h = let e : s.role ≡ a = cc in (refl, e)
+pub is_some-acting : (o : Option Session) (a d : ℕ) → Some a ≡ option_map (λ s. s.role) o → (is_some o ≡ true) × (unwrap_or (option_map (λ s. s.role) o) d ≡ a)
+is_some-acting None a d h = cc
+is_some-acting (Some s) a d h = let e : s.role ≡ a = cc in (refl, e)
 
 -- where the session is open, the tests are those of its role
-pub acts : (e : Database) (n a : ℕ) (act : Act) → Some a ≡ option_map (λ s. s.role) (session_of e.sessions n)
+pub first-tests_by : (e : Database) (n a : ℕ) (act : Act) → Some a ≡ option_map (λ s. s.role) (session_of e.sessions n)
     → or_else (test (not (is_open (frame_of e) n)) machine.no_session) (first (tests_by (frame_of e) n (actor (frame_of e) n) act)) ≡ first (tests_by (frame_of e) n a act)
-acts e n a act h = let o = opened (session_of e.sessions n) a (length e.known.rights.roles) h in
+first-tests_by e n a act h = let o = is_some-acting (session_of e.sessions n) a (length e.known.rights.roles) h in
     (λ i. or_else (test (not (o.0 i)) machine.no_session) (first (tests_by (frame_of e) n (o.1 i) act)))
 
-pub closed : (o : Option Session) → None ≡ option_map (λ s. s.role) o → is_some o ≡ false
-closed None h = refl
-closed (Some s) h = cc
+pub is_some-None : (o : Option Session) → None ≡ option_map (λ s. s.role) o → is_some o ≡ false
+is_some-None None h = refl
+is_some-None (Some s) h = cc
 
 -- ---- faults in their order
 
@@ -65,10 +65,10 @@ module _ (e : Database) (h : IsDatabase e) where
   place name = position_from-zero (is_of name) e.known.relations ∙ ap (position_from (is_of name) 0) h.relations
 
   pub unknown : (name : Name) → relation_of e.known.relations name ≡ None → named e.catalog name ≡ None
-  unknown name n = none_named 0 e.catalog name (sym (place name) ∙ n)
+  unknown name n = named-None 0 e.catalog name (sym (place name) ∙ n)
 
   pub known : (name : Name) (k : ℕ) → relation_of e.known.relations name ≡ Some k → (x : CatalogEntry) × IsNamed e.catalog x name k
-  known name k n = relation_is 0 e.catalog name k h.numbered (sym (place name) ∙ n)
+  known name k n = IsNamed-position_from 0 e.catalog name k h.numbered (sym (place name) ∙ n)
 
   pub as_long : length e.known.relations ≡ length e.catalog
   as_long = ap (λ (rs : List Relation). length rs) h.relations ∙ length-map {B = Relation} e.catalog relation_in
@@ -93,14 +93,14 @@ module _ (e : Database) (h : IsDatabase e) where
   pub table_told : (n a : ℕ) (name owner : Name) (columns : List Column) → Some a ≡ option_map (λ s. s.role) (session_of e.sessions n)
       → Tells (add_relation_fault e.known a name owner true) name (frame_refusal (frame_of e) n (create_table name owner columns))
   table_told n a name owner columns h' =
-      subst (Tells (add_relation_fault e.known a name owner true) name) (sym (acts e n a (create_table name owner columns) h'))
+      subst (Tells (add_relation_fault e.known a name owner true) name) (sym (first-tests_by e n a (create_table name owner columns) h'))
       (subst (λ m. Tells (add_relation_fault e.known a name owner true) name (or_else (test (not (is_admin a)) machine.not_administrator) (or_else (test (not (is_some (role_of e.known.rights owner))) machine.unknown_role) (or_else (test (is_some (named (frame_of e).catalog name)) machine.name_taken) (or_else (test (nat_le 64 m) machine.too_many) None)))))
-      (ap (count_like true) h.relations ∙ counted e.catalog)
+      (ap (count_like true) h.relations ∙ count_like-tables e.catalog)
       (subst (λ b. Tells (add_relation_fault e.known a name owner true) name (or_else (test (not (is_admin a)) machine.not_administrator) (or_else (test (not (is_some (role_of e.known.rights owner))) machine.unknown_role) (or_else (test b machine.name_taken) (or_else (test (nat_le 64 (count_like true e.known.relations)) machine.too_many) None)))))
       (named_known name)
       (four (not (is_admin a)) (not (is_some (role_of e.known.rights owner))) (is_some (relation_of e.known.relations name)) (nat_le 64 (count_like true e.known.relations)) name)))
 
--- ---- a relation that may be added is new
+-- ---- a relation that may be IsDone-IsAdded is new
 
 free_by : (a d b c : Bool) → first_fault ((a, fault.NotAdmin) ∷ (d, fault.Role) ∷ (b, fault.Taken) ∷ (c, fault.TooMany) ∷ []) ≡ None → b ≡ false
 free_by true d b c h = cc
@@ -108,25 +108,25 @@ free_by false true b c h = cc
 free_by false false true c h = cc
 free_by false false false c h = refl
 
-pub none_is : (o : Option ℕ) → is_some o ≡ false → o ≡ None
-none_is None h = refl
-none_is (Some k) h = cc
+pub None-not_some : (o : Option ℕ) → is_some o ≡ false → o ≡ None
+None-not_some None h = refl
+None-not_some (Some k) h = cc
 
-pub free_name : (e : Database) → IsDatabase e → (a : ℕ) (name owner : Name) → add_relation_fault e.known a name owner true ≡ None → named e.catalog name ≡ None
-free_name e h a name owner f = unknown e h name (none_is (relation_of e.known.relations name)
+pub named-add_relation_fault : (e : Database) → IsDatabase e → (a : ℕ) (name owner : Name) → add_relation_fault e.known a name owner true ≡ None → named e.catalog name ≡ None
+named-add_relation_fault e h a name owner f = unknown e h name (None-not_some (relation_of e.known.relations name)
     (free_by (not (is_admin a)) (not (is_some (role_of e.known.rights owner))) (is_some (relation_of e.known.relations name)) (nat_le 64 (count_like true e.known.relations)) f))
 
-pub free_number : (e : Database) → IsDatabase e → (k : ℕ) → k ≡ length e.known.relations → numbered e.catalog k ≡ None
-free_number e h k l = none_later 0 e.catalog k h.numbered (let m = as_long e h in omega arith)
+pub numbered-length : (e : Database) → IsDatabase e → (k : ℕ) → k ≡ length e.known.relations → numbered e.catalog k ≡ None
+numbered-length e h k l = numbered-None 0 e.catalog k h.numbered (let m = as_long e h in omega arith)
 
-pub added : (e new : Database) (n a : ℕ) (name owner : Name) (columns : List Column) (x : Result Unit Stop)
+pub IsDone-IsAdded : (e new : Database) (n a : ℕ) (name owner : Name) (columns : List Column) (x : Result Unit Stop)
     → IsDatabase e → Some a ≡ option_map (λ s. s.role) (session_of e.sessions n)
     → IsAdded e a name owner columns x new → IsDone e n (create_table name owner columns) x new
-added e new n a name owner columns (Ok u) h o d = ((table_told e h n a name owner columns o).none d.0, d.1)
-added e new n a name owner columns (Err (Refused r)) h o d =
+IsDone-IsAdded e new n a name owner columns (Ok u) h o d = ((table_told e h n a name owner columns o).none d.0, d.1)
+IsDone-IsAdded e new n a name owner columns (Err (Refused r)) h o d =
     let z = (table_told e h n a name owner columns o).some d.0 d.1 in
     (z.1.0 ∙ z.1.1 ∙ d.2, d.3)
-added e new n a name owner columns (Err Memory) h o d = tt
+IsDone-IsAdded e new n a name owner columns (Err Memory) h o d = tt
 
 -- ---- a table by its name
 

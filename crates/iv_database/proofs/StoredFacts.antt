@@ -16,13 +16,13 @@ use Rattle.iv_machine.specs.State.{Session, actor, is_open}
 use Rattle.iv_machine.specs.Act.{begin, create_role, create_table, create_view, no_session}
 use Rattle.iv_machine.specs.Changing.{view_held, with_held}
 use Rattle.iv_machine.specs.Refusing.{administrator, bad_text, first, frame_refusal, free_relation, known_role, test, tests_by}
-use Rattle.iv_machine.proofs.SubscriptionPlaces.{roles_after}
-use Rattle.iv_machine.proofs.OpenSubscriptions.{or_none}
+use Rattle.iv_machine.proofs.SubscriptionPlaces.{HasRole-after_frame}
+use Rattle.iv_machine.proofs.OpenSubscriptions.{or_else-None}
 use Rattle.iv_database.specs.Database.{Database, HoldsKinds, IsDatabase, at_start, frame_of, relation_in, with_rights}
 use Rattle.iv_database.specs.Next.{database_after, with_relation_of}
-use Rattle.iv_database.proofs.TablesOfCatalog.{heads_with, rows_with}
-use Rattle.iv_database.proofs.RowKinds.{still_holds}
-use Rattle.iv_database.proofs.Tables.{numbered_push}
+use Rattle.iv_database.proofs.TablesOfCatalog.{heads_with, rows_of-with_table}
+use Rattle.iv_database.proofs.RowKinds.{HoldsKinds-push}
+use Rattle.iv_database.proofs.Tables.{AreNumbered-push}
 
 -- ---- lists
 
@@ -44,15 +44,15 @@ module _ (d : Database) (h : IsDatabase d) (name owner : Name) (held : Held) whe
   pub relation_stored : IsDatabase (with_relation_of name owner held d)
   relation_stored = record {
     roles = h.roles;
-    numbered = numbered_push 0 d.catalog x h.numbered (from_zero (length d.catalog));
+    numbered = AreNumbered-push 0 d.catalog x h.numbered (from_zero (length d.catalog));
     relations = ap (λ (rs : List Relation). rs ++ record { name = name; kinds = option_map kinds_of (table_in held) } ∷ []) h.relations ∙ sym (map-append relation_in d.catalog (x ∷ []));
     guards = longer d.known.rights.guards d.catalog g x h.guards;
     tables = heads_with d.catalog d.tables h.numbered h.tables name held;
-    zsets = λ t. subst IsZSet (sym (rows_with held (length d.catalog) d.tables t)) (h.zsets t);
-    positive = λ t. subst IsBag (sym (rows_with held (length d.catalog) d.tables t)) (h.positive t);
-    kinds = λ t. subst (HoldsKinds (schema_of (d.catalog ++ x ∷ []) t)) (sym (rows_with held (length d.catalog) d.tables t)) (still_holds d.catalog x t (rows_of d.tables t) (h.kinds t));
+    zsets = λ t. subst IsZSet (sym (rows_of-with_table held (length d.catalog) d.tables t)) (h.zsets t);
+    positive = λ t. subst IsBag (sym (rows_of-with_table held (length d.catalog) d.tables t)) (h.positive t);
+    kinds = λ t. subst (HoldsKinds (schema_of (d.catalog ++ x ∷ []) t)) (sym (rows_of-with_table held (length d.catalog) d.tables t)) (HoldsKinds-push d.catalog x t (rows_of d.tables t) (h.kinds t));
     limit = h.limit;
-    small = λ t. subst (λ (z : Weighed). length z ≤ d.cap) (sym (rows_with held (length d.catalog) d.tables t)) (h.small t);
+    small = λ t. subst (λ (z : Weighed). length z ≤ d.cap) (sym (rows_of-with_table held (length d.catalog) d.tables t)) (h.small t);
   }
 
 -- the text of a view that passes
@@ -62,8 +62,8 @@ text_bound (Err (FaultAt place why)) h = cc
 
 -- ---- other rights
 
-pub rights_stored : (d : Database) (q : Rights) → length q.guards ≡ length d.catalog → length q.roles ≡ length d.known.rights.roles → IsDatabase d → IsDatabase (with_rights q d)
-rights_stored d q guards roles h = record {
+pub IsDatabase-with_rights : (d : Database) (q : Rights) → length q.guards ≡ length d.catalog → length q.roles ≡ length d.known.rights.roles → IsDatabase d → IsDatabase (with_rights q d)
+IsDatabase-with_rights d q guards roles h = record {
   roles = subst (λ n. AllByRecursion (λ s. s.role < n) d.sessions) (sym roles) h.roles;
   numbered = h.numbered;
   relations = h.relations;
@@ -94,11 +94,11 @@ module _ (d : Database) (h : IsDatabase d) where
   }
 
   pub begin_stored : (n : ℕ) (role : Name) → frame_refusal (frame_of d) n (begin role) ≡ None → IsDatabase (database_after d n (begin role))
-  begin_stored n role passed = sessions_stored _ (roles_after (frame_of d) n (begin role) passed h.roles)
+  begin_stored n role passed = sessions_stored _ (HasRole-after_frame (frame_of d) n (begin role) passed h.roles)
 
   pub role_stored : (n : ℕ) (name : Name) → frame_refusal (frame_of d) n (create_role name) ≡ None → IsDatabase (database_after d n (create_role name))
   role_stored n name passed = record {
-    roles = roles_after (frame_of d) n (create_role name) passed h.roles;
+    roles = HasRole-after_frame (frame_of d) n (create_role name) passed h.roles;
     numbered = h.numbered;
     relations = h.relations;
     guards = h.guards;
@@ -121,11 +121,11 @@ module _ (d : Database) (h : IsDatabase d) where
     view_bound : (a : BoundQuery) × (o ≡ Ok a)
     view_bound =
         let f = frame_of d in
-        let s = or_none (test (not (is_open f n)) no_session) (first (tests_by f n (actor f n) (create_view name owner query))) passed in
-        let a = or_none (administrator (actor f n)) _ s.1 in
-        let b = or_none (known_role f owner) _ a.1 in
-        let c = or_none (free_relation f name) _ b.1 in
-        text_bound o (or_none (bad_text o) _ c.1).0
+        let s = or_else-None (test (not (is_open f n)) no_session) (first (tests_by f n (actor f n) (create_view name owner query))) passed in
+        let a = or_else-None (administrator (actor f n)) _ s.1 in
+        let b = or_else-None (known_role f owner) _ a.1 in
+        let c = or_else-None (free_relation f name) _ b.1 in
+        text_bound o (or_else-None (bad_text o) _ c.1).0
 
     pub view_is : (a : BoundQuery) × (database_after d n (create_view name owner query) ≡ with_relation_of name owner (View a) d)
     view_is = (view_bound.0, ap (λ (r : Result BoundQuery TextFault). record (database_after d n (create_view name owner query)) { catalog = with_held name (view_held r) d.catalog }) view_bound.1)
@@ -136,8 +136,8 @@ pub empty_zset : IsZSet []
 unfolding IsDistinct
 empty_zset = record { distinct = tt; weights = λ q. tt }
 
-pub start_stored : (cap : ℕ) → IsRowLimit cap → IsDatabase (at_start cap)
-start_stored cap limit = record {
+pub IsDatabase-at_start : (cap : ℕ) → IsRowLimit cap → IsDatabase (at_start cap)
+IsDatabase-at_start cap limit = record {
   roles = tt;
   numbered = tt;
   relations = refl;

@@ -11,9 +11,9 @@ use Rattle.iv_database.proofs.Tables.{IsATable}
 farther : (m n : ℕ) → (m == n) ≡ false → n ≤ m → suc n ≤ m
 farther m n h l = grind (arith, nat_tests)
 
-pub numbered_there : (n : ℕ) (es : List CatalogEntry) (k : ℕ) → AreNumbered n es → n ≤ k → k < n + length es → is_some (catalogs.numbered es k) ≡ true
-numbered_there n [] k u l h = absurd (omega arith)
-numbered_there n (e ∷ es) k u l h = by (k == e.rel) refl (λ f. numbered_there (suc n) es k u.1 (farther k n (subst (λ m. (k == m) ≡ false) u.0 f) l) (omega arith))
+pub numbered-there : (n : ℕ) (es : List CatalogEntry) (k : ℕ) → AreNumbered n es → n ≤ k → k < n + length es → is_some (catalogs.numbered es k) ≡ true
+numbered-there n [] k u l h = absurd (omega arith)
+numbered-there n (e ∷ es) k u l h = by (k == e.rel) refl (λ f. numbered-there (suc n) es k u.1 (farther k n (subst (λ m. (k == m) ≡ false) u.0 f) l) (omega arith))
   where
     by : (b : Bool) → (k == e.rel) ≡ b → ((k == e.rel) ≡ false → is_some (catalogs.numbered es k) ≡ true) → is_some (cond b (Some e) (catalogs.numbered es k)) ≡ true
     by true f go = refl
@@ -27,5 +27,5 @@ no_view (Some x) s h = by x.held h
     by (catalogs.Table columns) k = refl
     by (catalogs.View a) k = cc
 
-pub table_if_no_view : (catalog : List CatalogEntry) (rel : ℕ) → AreNumbered 0 catalog → rel < length catalog → is_some (view_of catalog rel) ≡ false → IsATable catalog rel
-table_if_no_view catalog rel u l h = no_view (catalogs.numbered catalog rel) (numbered_there 0 catalog rel u (omega arith) (omega arith)) h
+pub IsATable-no_view : (catalog : List CatalogEntry) (rel : ℕ) → AreNumbered 0 catalog → rel < length catalog → is_some (view_of catalog rel) ≡ false → IsATable catalog rel
+IsATable-no_view catalog rel u l h = no_view (catalogs.numbered catalog rel) (numbered-there 0 catalog rel u (omega arith) (omega arith)) h

@@ -14,7 +14,7 @@ use Rattle.iv_machine.specs.Numbered.{AreNumbered}
 use Rattle.iv_database.specs.Database.{HoldsKinds, IsDatabase, Database, kinds_at}
 use Rattle.iv_database.specs.Next.{with_table}
 use Rattle.iv_database.specs.Stands.{HasTable}
-use Rattle.iv_database.proofs.Tables.{none_later}
+use Rattle.iv_database.proofs.Tables.{numbered-None}
 
 -- ---- one more in a list
 
@@ -47,9 +47,9 @@ rows_more (y ∷ tables) x t h = by (t == y.rel.0) (rows_more tables x t h)
 abbrev new_table : List Column → ℕ → Table
 new_table columns rel = record { rel = record { 0 = rel }; schema = columns; rows = [] }
 
-pub rows_with : (held : Held) (rel : ℕ) (tables : List Table) (t : ℕ) → rows_of (with_table held rel tables) t ≡ rows_of tables t
-rows_with (catalogs.Table columns) rel tables t = rows_more tables (new_table columns rel) t refl
-rows_with (catalogs.View a) rel tables t = refl
+pub rows_of-with_table : (held : Held) (rel : ℕ) (tables : List Table) (t : ℕ) → rows_of (with_table held rel tables) t ≡ rows_of tables t
+rows_of-with_table (catalogs.Table columns) rel tables t = rows_more tables (new_table columns rel) t refl
+rows_of-with_table (catalogs.View a) rel tables t = refl
 
 -- ---- kinds
 
@@ -68,7 +68,7 @@ module _ (catalog : List CatalogEntry) (tables : List Table) (u : AreNumbered 0 
   entry held = record { name = name; rel = length catalog; held = held }
 
   fresh : (t : ℕ) → (t == length catalog) ≡ true → numbered catalog t ≡ None
-  fresh t k = none_later 0 catalog t u (far t (length catalog) k)
+  fresh t k = numbered-None 0 catalog t u (far t (length catalog) k)
     where
       far : (m n : ℕ) → (m == n) ≡ true → 0 + n ≤ m
       far m n k = grind (arith, nat_tests)
@@ -108,7 +108,7 @@ module _ (e : Database) (h : IsDatabase e) (t : ℕ) where
   has_table s = as_known ∙ s
 
   no_columns : length e.catalog ≤ t → schema_of e.catalog t ≡ None
-  no_columns l = ap (λ o. if_some o None (λ x. table_in x.held)) (none_later 0 e.catalog t h.numbered (omega (arith, l)))
+  no_columns l = ap (λ o. if_some o None (λ x. table_in x.held)) (numbered-None 0 e.catalog t h.numbered (omega (arith, l)))
 
   pub table_below : HasTable e.tables t → t < length e.catalog
   table_below has = by (nat_lt t (length e.catalog)) refl

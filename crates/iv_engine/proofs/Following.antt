@@ -16,7 +16,7 @@ use Rattle.iv_machine.specs.State.{State, Subscription, actor, is_within, missin
 use Rattle.iv_steps.specs.Steps.{Fact}
 use Rattle.iv_database.specs.Database.{HoldsKinds, relation_in}
 use Rattle.iv_database.specs.Stands.{Stands}
-use Rattle.iv_database.proofs.RowKinds.{to_list}
+use Rattle.iv_database.proofs.RowKinds.{HasKinds-Counts}
 use Rattle.iv_store.specs.Answering.{moved_lines, seen}
 use Rattle.iv_store.specs.Aside.{nobody_in, with_those_of}
 use Rattle.iv_store.specs.Engine.{IsBehind}
@@ -69,7 +69,7 @@ module _ (e d : Store) (given : Given) (tables : List ℕ) (h : IsSoundStore e) 
     stands = s;
     moves = λ k q. moved (weight_of (given k) q) (weight_of (rows_of e.tables k) q) (copies q (T k)) (copies q (U k)) (s k q)
         (sym (weight_of-append (given k) (rows_of e.tables k) q) ∙ sym (w.sums k q) ∙ t k q);
-    kinds = λ k. to_list (schema_of e.catalog k) (rows_of d.tables k) (U k)
+    kinds = λ k. HasKinds-Counts (schema_of e.catalog k) (rows_of d.tables k) (U k)
         (subst (λ (es : List CatalogEntry). HoldsKinds (schema_of es k) (rows_of d.tables k)) w.catalog (g.stored.database.kinds k)) (t k);
   }
 

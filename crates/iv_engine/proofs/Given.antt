@@ -10,7 +10,7 @@ use Rattle.iv_machine.specs.Refusing.{refusal}
 use Rattle.iv_machine.specs.State.{State}
 use Rattle.iv_machine.specs.Stored.{HasTexts}
 use Rattle.iv_machine.specs.Well.{is_well_act}
-use Rattle.iv_machine.proofs.SoundRuns.{IsSoundWhole, step_stays}
+use Rattle.iv_machine.proofs.SoundRuns.{IsSoundWhole, IsSoundWhole-step}
 use Rattle.iv_steps.specs.Steps.{Fact, all_carried, carried, is_shared, passed, shared}
 use Rattle.iv_steps.proofs.FactSteps.{some_then}
 use Rattle.iv_steps.proofs.StepOutcomes.{nobody_whole, steps_are_told, whole_sound}
@@ -28,7 +28,7 @@ passed_is act s t h = by (is_some (refusal s 1 act)) h
     by false k = cc
 
 act_stays : (act : Act) (s t : State) → is_well_act act ≡ true → HasTexts act → IsSoundWhole s → passed act s ≡ Some t → IsSoundWhole t
-act_stays act s t w x k h = subst IsSoundWhole (passed_is act s t h) (step_stays s (record { session = 1; act = act }) (record { well = w; texts = x }) k)
+act_stays act s t w x k h = subst IsSoundWhole (passed_is act s t h) (IsSoundWhole-step s (record { session = 1; act = act }) (record { well = w; texts = x }) k)
 
 fact_stays : (f : Fact) (s t : State) → IsGivenFact f → IsSoundWhole s → carried f s ≡ Some t → IsSoundWhole t
 fact_stays f s t g k h = by (is_shared f.act) h

@@ -8,7 +8,7 @@ use Rattle.iv_machine.specs.Machine.{difference, ending, first_cause, line_for, 
 use Rattle.iv_machine.specs.Reached.{AreUnique}
 use Rattle.iv_machine.specs.State.{Subscription, actor, is_within, missing_for, plan_at, subscription_of, view_shown}
 use Rattle.iv_machine.specs.declared.Cause.{Cause}
-use Rattle.iv_machine.proofs.UniqueNumbers.{given_kept, unique_kept}
+use Rattle.iv_machine.proofs.UniqueNumbers.{AreGiven-filter, AreUnique-filter}
 use Rattle.iv_store.specs.Store.{IsOpen, IsRoleCircuit, IsSoundStore, IsStored, IsWithin, Store, at, frame_of, is_read, may_read, place_of, shown_rows}
 use Rattle.iv_store.specs.Turned.{stays_open, turned_by, turned_line}
 use Rattle.iv_database.specs.Stands.{Stands}
@@ -38,7 +38,7 @@ if_found (Some i) P go = go i refl
 module _ (c : Store) (stored : IsStored c) where
   kept_stored : (p : Subscription → Bool) (cs : List RoleCircuit) → IsStored (record c { subscriptions = filter p c.subscriptions; circuits = cs })
   kept_stored p cs = record {
-    numbers = record { unique = unique_kept p c.subscriptions stored.numbers.unique; given = given_kept c.last p c.subscriptions stored.numbers.given };
+    numbers = record { unique = AreUnique-filter p c.subscriptions stored.numbers.unique; given = AreGiven-filter c.last p c.subscriptions stored.numbers.given };
     database = stored.database;
     shows = let new : Store = record c { subscriptions = filter p c.subscriptions; circuits = cs } in
         all_kept (IsOpen new) p c.subscriptions (all_map (IsOpen c) (IsOpen new) c.subscriptions (λ s o. record { session = o.session; known = o.known }) stored.shows);

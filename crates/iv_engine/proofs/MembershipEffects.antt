@@ -10,7 +10,7 @@ use Rattle.iv_roles.specs.Roles.{is_admin}
 use Rattle.iv_access.specs.Privileges.{acts_as, role_of}
 use Rattle.iv_access.specs.Rights.{Name, Rights}
 use Rattle.iv_roles.specs.declared.role.RoleId.{RoleId}
-use Rattle.iv_roles.proofs.Chains.{come_apart, gone_apart}
+use Rattle.iv_roles.proofs.Chains.{reaches-with_membership, reaches-without_membership}
 use Rattle.iv_circuit.specs.Nodes.{scans_of}
 use Rattle.iv_machine.specs.Act as machine
 use Rattle.iv_machine.specs.Act.{Act, Refusal, grant_role, revoke_role}
@@ -138,7 +138,7 @@ module _ (e : Store) (n : ℕ) (role to : Name) (h : IsSoundStore e) (group : Op
   joined_members = with_membership (member_of number member) r.members
 
   few_join : StaysUnless r.members joined_members number
-  few_join = λ x same other. come_apart r.members number member x same other
+  few_join = λ x same other. reaches-with_membership r.members number member x same other
 
   known_by : (act : Act) (more : List (Option Refusal)) → frame_refusal (frame_of e) n act ≡ or_else (test (not (is_open (frame_of e) n)) machine.no_session) (first (test (not (is_admin (actor (frame_of e) n))) machine.not_administrator ∷ test (not (is_some (role_of r role))) machine.unknown_role ∷ more))
       → frame_refusal (frame_of e) n act ≡ None → is_some (role_of r role) ≡ true
@@ -173,7 +173,7 @@ module _ (e : Store) (n : ℕ) (role to : Name) (h : IsSoundStore e) (group : Op
   parted_members = without_membership (member_of number member) r.members
 
   few_part : StaysUnless r.members parted_members number
-  few_part = λ x same other. gone_apart r.members number member x same other
+  few_part = λ x same other. reaches-without_membership r.members number member x same other
 
   pub parted_waiting : frame_refusal (frame_of e) n (revoke_role role to) ≡ None → AreWaiting (kept_after e n (revoke_role role to)) (differing (reaching e group) (reaching (kept_after e n (revoke_role role to)) group))
   parted_waiting passed =

@@ -10,7 +10,7 @@ use Rattle.iv_access.specs.Policies.{by_policies, is_exempt, is_pass, may_see, p
 use Rattle.iv_access.specs.Rights.{Policy, Rights}
 use Rattle.iv_access.specs.declared.policy.Check.TheVariants.{Select}
 use Rattle.iv_access.specs.declared.policy.Verdict.TheVariants.{Pass}
-use Rattle.iv_access.proofs.Further.{changed_there, further, narrow, same_elsewhere, same_verdict}
+use Rattle.iv_access.proofs.Further.{slice_get-changed_at, further, narrow, slice_get-changed_elsewhere, same_verdict}
 use Rattle.iv_database.specs.Database.{Database}
 use Rattle.iv_database.specs.Owned.{IsGuarded}
 use Rattle.iv_machine.specs.Act.{PolicyText, create_policy}
@@ -31,12 +31,12 @@ module _ (r : Rights) (p : Policy) (t role : ℕ) (row : Cells) (restrictive : p
   own : may_see (with_policy t p r) role t row ≡ true → may_see r role t row ≡ true
   own h = narrow r p role Select row (slice_get r.guards t) restrictive
       (sym (ap is_pass (same_verdict r (changed_at t (further p) r.guards) role Select row (slice_get (changed_at t (further p) r.guards) t)
-      ∙ ap (λ o. cond (is_exempt r role o) Pass (by_policies r role Select row (policies_of o))) (changed_there t (further p) r.guards))) ∙ h)
+      ∙ ap (λ o. cond (is_exempt r role o) Pass (by_policies r role Select row (policies_of o))) (slice_get-changed_at t (further p) r.guards))) ∙ h)
 
   other : (k : ℕ) → k ≢ t → may_see (with_policy t p r) role k row ≡ true → may_see r role k row ≡ true
   other k n h =
       sym (ap is_pass (same_verdict r (changed_at t (further p) r.guards) role Select row (slice_get (changed_at t (further p) r.guards) k)
-      ∙ ap (λ o. cond (is_exempt r role o) Pass (by_policies r role Select row (policies_of o))) (same_elsewhere t k (further p) r.guards n))) ∙ h
+      ∙ ap (λ o. cond (is_exempt r role o) Pass (by_policies r role Select row (policies_of o))) (slice_get-changed_elsewhere t k (further p) r.guards n))) ∙ h
 
   sees_less : (k : ℕ) → may_see (with_policy t p r) role k row ≡ true → may_see r role k row ≡ true
   sees_less k h = part (k == t) refl

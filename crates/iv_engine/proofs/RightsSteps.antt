@@ -20,7 +20,7 @@ use Rattle.iv_store.specs.Answering.{IsAccepted, seen, sent}
 use Rattle.iv_store.specs.Counting.{TurnsRounds}
 use Rattle.iv_readers.specs.Each.{Each}
 use Rattle.iv_store.specs.Found.{beside_of, total_at}
-use Rattle.iv_database.proofs.StoredFacts.{rights_stored}
+use Rattle.iv_database.proofs.StoredFacts.{IsDatabase-with_rights}
 use Rattle.iv_store.specs.Store.{database_of, IsOpen, IsRoleCircuit, IsSoundStore, IsStored, Store, at, frame_of, is_read, may_read, place_of, role_reads, shown_rows, with_rights}
 use Rattle.iv_readers.specs.Readers.{RoleCircuit}
 use Rattle.iv_store.specs.Rounds.{rounds_of}
@@ -104,7 +104,7 @@ module _ (e : Store) (ms : List Membership) (us : List Guard) (gs : List Grant) 
   pub righted_stored : length us ≡ length e.catalog → IsStored e → IsStored c
   righted_stored guards h = record {
     numbers = record { unique = h.numbers.unique; given = h.numbers.given };
-    database = rights_stored (database_of e) q guards refl h.database;
+    database = IsDatabase-with_rights (database_of e) q guards refl h.database;
     shows = all_map (IsOpen e) (IsOpen c) e.subscriptions (λ s o. record { session = o.session; known = o.known }) h.shows;
   }
 

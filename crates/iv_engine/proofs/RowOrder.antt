@@ -13,7 +13,7 @@ use Rattle.iv_access.specs.Policies.{allowed, may_see}
 use Rattle.iv_machine.specs.Machine.{ending, first_cause}
 use Rattle.iv_machine.specs.Sound.{HasKinds, IsSoundState}
 use Rattle.iv_machine.specs.State.{Frame, State, Subscription, actor, missing_for, plan_at}
-use Rattle.iv_database.proofs.RowKinds.{all_pass, one_passes, to_list}
+use Rattle.iv_database.proofs.RowKinds.{AllPass-always, holds-AllPass, HasKinds-Counts}
 use Rattle.iv_store.specs.Engine.{Engine, IsBehind}
 use Rattle.iv_store.proofs.VisibleRows.{copies_filter}
 
@@ -38,8 +38,8 @@ module _ (f : Frame) (S T : Lists) (same : SameTables S T) where
   served_same (e ∷ es) h = (sym (ends_same e) ∙ h.0, served_same es h.1)
 
   kinds_same : (o : Option (List Column)) (t : ℕ) → HasKinds o (S t) → HasKinds o (T t)
-  kinds_same None t h = to_list None [] (T t) refl (λ q. ap pos (sym (ap (copies q) h) ∙ same t q))
-  kinds_same (Some columns) t h = all_pass (accepts (kinds_of columns)) (T t) (λ q n. one_passes (accepts (kinds_of columns)) (S t) q h (λ e. n (sym (same t q) ∙ e)))
+  kinds_same None t h = HasKinds-Counts None [] (T t) refl (λ q. ap pos (sym (ap (copies q) h) ∙ same t q))
+  kinds_same (Some columns) t h = AllPass-always (accepts (kinds_of columns)) (T t) (λ q n. holds-AllPass (accepts (kinds_of columns)) (S t) q h (λ e. n (sym (same t q) ∙ e)))
 
   sound_in : IsSoundState (state_of f S) → IsSoundState (state_of f T)
   sound_in k = record {

@@ -7,8 +7,8 @@ use Rattle.std.specs.Global.{Vec}
 use Rattle.std.specs.Prelude.{◌==◌, ◌≤ℤ◌, OnOk, Result, Ok, Err}
 use Rattle.std.specs.List.{list_any}
 use Rattle.iv_zset.specs.Weights.{AllInRange, InRange, IsZSet, SameZ, Weighed, weight_of}
-use Rattle.iv_zset.proofs.Places.{all_in_range, weight_of-append}
-use Rattle.iv_zset.proofs.Support.{rows_same, rows_stored}
+use Rattle.iv_zset.proofs.Places.{InRange-weight_of, weight_of-append}
+use Rattle.iv_zset.proofs.Support.{rows_in-SameZ, rows_in-IsZSet}
 use Rattle.iv_algebra.specs.Contents.{rows_of}
 use Rattle.iv_algebra.specs.Plans.{Lists}
 use Rattle.iv_circuit.specs.Changing.{Given}
@@ -83,7 +83,7 @@ module _ (before d : Store) (given : Given) (tables : List ℕ) (w : AreWritten 
   module _ (n : Store) (more : Given) (m : AreGivenMore given changes more) (cap : n.cap ≡ d.cap) (rights : n.known.rights ≡ d.known.rights) (catalog : n.catalog ≡ d.catalog)
       (rows : (t : ℕ) → SameZ (rows_of n.tables t) (change_at changes t ++ rows_of d.tables t)) where
     none_more : (t : ℕ) → list_any (λ s. t == s) tables ≡ false → list_any (λ s. t == s) (map (λ c. c.rel) changes) ≡ false → more t ≡ []
-    none_more t a b = empty (more t) (sym (rows_stored (more t) (m.zsets t)) ∙ rows_same (more t) []
+    none_more t a b = empty (more t) (sym (rows_in-IsZSet (more t) (m.zsets t)) ∙ rows_in-SameZ (more t) []
         (λ q. m.same t q ∙ (λ i. weight_of (no_change t changes b i ++ w.others t a i) q)))
 
     pub more_written : AreWritten before more (tables ++ map (λ c. c.rel) changes) n
@@ -112,7 +112,7 @@ module _ (before d : Store) (given : Given) (tables : List ℕ) (w : AreWritten 
         subst InRange (sym (weight_of-append (change_at changes t) (given t) q))
         (between c (weight_of (given t) q) r (weight_of (rows_of before.tables t) q) _ (sym (weight_of-append (change_at changes t) (rows_of d.tables t) q) ∙ (p.leads T stands).lead t q)
         (w.sums t q ∙ weight_of-append (given t) (rows_of before.tables t) q)
-        (subst InRange (weight_of-append (change_at changes t) (rows_of d.tables t) q) ((p.keep t).in_range q)) (stored.positive t q) (all_in_range (rows_of before.tables t) (stored.zsets t) q))
+        (subst InRange (weight_of-append (change_at changes t) (rows_of d.tables t) q) ((p.keep t).in_range q)) (stored.positive t q) (InRange-weight_of (rows_of before.tables t) (stored.zsets t) q))
 
 -- ---- the tables of changes
 

@@ -7,7 +7,7 @@ use Rattle.std.specs.List.{AllByRecursion, list_any}
 use Rattle.iv_rows.specs.Order.{cell_cmp, row_eq}
 use Rattle.iv_rows.specs.declared.schema.RelId.{RelId}
 use Rattle.iv_zset.specs.Weights.{SameZ, weight_of, Weighed}
-use Rattle.iv_zset.proofs.Rows.{row_tells}
+use Rattle.iv_zset.proofs.Rows.{Tells-row_eq}
 use Rattle.iv_algebra.specs.Contents.{rows_of}
 use Rattle.iv_algebra.specs.declared.tables.Table.{Table}
 use Rattle.iv_algebra.specs.Evaluation.{holds, term_value}
@@ -21,8 +21,8 @@ use Rattle.iv_access.specs.Access.{Access}
 use Rattle.iv_access.specs.Rights.{Guard, Name, Policy, Rights}
 use Rattle.iv_access.specs.declared.policy.Check.TheVariants.{Select}
 use Rattle.iv_access.specs.declared.policy.Verdict.TheVariants.{Pass}
-use Rattle.iv_access.proofs.Further.{changed_there, same_elsewhere, same_verdict}
-use Rattle.iv_access.proofs.Policies.{filter_is}
+use Rattle.iv_access.proofs.Further.{slice_get-changed_at, slice_get-changed_elsewhere, same_verdict}
+use Rattle.iv_access.proofs.Policies.{is_pass-filter}
 use Rattle.iv_circuit.specs.Circuits.{given_by, HiddenRows}
 use Rattle.iv_database.specs.Database.{Database}
 use Rattle.iv_database.specs.Owned.{IsGuarded}
@@ -133,15 +133,15 @@ module _ (r : Rights) (role : ℕ) (row : Cells) (name : Name) (c : Condition) w
 
   sees_all : (exempt : Bool) (ps : List Policy) → AllByRecursion (IsRestriction name c) ps → sees exempt ps ≡ true → sees exempt (without ps) ≡ true
   sees_all exempt ps each h =
-      sym (filter_is exempt r role Select row (without ps))
+      sym (is_pass-filter exempt r role Select row (without ps))
       ∙ all_kept exempt (list_any permitted ps) (list_any permitted (without ps)) (list_any forbidden ps) (list_any forbidden (without ps))
-      (same_permits ps each) (forbids_less ps) (filter_is exempt r role Select row ps ∙ h)
+      (same_permits ps each) (forbids_less ps) (is_pass-filter exempt r role Select row ps ∙ h)
 
   sees_same : (exempt : Bool) (ps : List Policy) → AllByRecursion (IsRestriction name c) ps → holds c (role_name r role) row ≡ true → sees exempt (without ps) ≡ sees exempt ps
   sees_same exempt ps each met =
-      sym (filter_is exempt r role Select row (without ps))
+      sym (is_pass-filter exempt r role Select row (without ps))
       ∙ (λ i. exempt || (same_permits ps each i && not (same_forbids ps each met i)))
-      ∙ filter_is exempt r role Select row ps
+      ∙ is_pass-filter exempt r role Select row ps
 
 -- ---- a table without those policies
 
@@ -161,12 +161,12 @@ module _ (r : Rights) (t role : ℕ) (row : Cells) (name : Name) (c : Condition)
   after_there : may_see (without_policy t name r) role t row ≡ by_guard (option_map (dropped name) (slice_get r.guards t))
   after_there =
       ap is_pass (same_verdict r (changed_at t (dropped name) r.guards) role Select row (slice_get (changed_at t (dropped name) r.guards) t))
-      ∙ ap by_guard (changed_there t (dropped name) r.guards)
+      ∙ ap by_guard (slice_get-changed_at t (dropped name) r.guards)
 
   after_elsewhere : (k : ℕ) → k ≢ t → may_see (without_policy t name r) role k row ≡ may_see r role k row
   after_elsewhere k apart =
       ap is_pass (same_verdict r (changed_at t (dropped name) r.guards) role Select row (slice_get (changed_at t (dropped name) r.guards) k))
-      ∙ ap by_guard (same_elsewhere t k (dropped name) r.guards apart)
+      ∙ ap by_guard (slice_get-changed_elsewhere t k (dropped name) r.guards apart)
 
   guard_all : (o : Option Guard) → AllByRecursion (IsRestriction name c) (policies_of o) → by_guard o ≡ true → by_guard (option_map (dropped name) o) ≡ true
   guard_all None a h = h
@@ -218,7 +218,7 @@ filter_weighs p (e ∷ es) q =
     ⊎_elim
     (λ y. own (p e.0) (p q) (row_eq q e.0) (filter (λ e. p e.0) es) (ap p (sym y.1)) y.0 (filter_weighs p es q))
     (λ n. other (p e.0) (row_eq q e.0) (filter (λ e. p e.0) es) n.0 (filter_weighs p es q))
-    (row_tells q e.0)
+    (Tells-row_eq q e.0)
   where
     own : (b c t : Bool) (rest : Weighed) → b ≡ c → row_eq q e.0 ≡ true → weight_of rest q ≡ cond c (weight_of es q) (pos 0) → weight_of (cond b (e ∷ rest) rest) q ≡ cond c (cond (row_eq q e.0) e.1 (pos 0) +ℤ weight_of es q) (pos 0)
     own true true t rest h y ih = ap (λ w. cond (row_eq q e.0) e.1 (pos 0) +ℤ w) ih

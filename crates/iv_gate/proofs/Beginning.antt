@@ -15,7 +15,7 @@ use Rattle.iv_machine.specs.Refusing.{refusal}
 use Rattle.iv_machine.specs.Sound.{IsSoundState, MayRead}
 use Rattle.iv_machine.specs.State.{Session, State, Subscription, actor, is_within_for, missing_for, shown, subscription_of, view_for, view_shown}
 use Rattle.iv_machine.proofs.SubscriptionPlaces.{find_kept}
-use Rattle.iv_machine.proofs.Sound.{may_read, sound_whole}
+use Rattle.iv_machine.proofs.Sound.{MayRead-IsWhole, IsWhole-IsSoundState}
 use Rattle.iv_message.specs.Told.{granted}
 use Rattle.iv_clients.specs.Clients.{Sub, own_line, own_lines}
 use Rattle.iv_clients.specs.Feeds.{Feed}
@@ -63,7 +63,7 @@ module _ (s : State) (n : ℕ) (role : Name) (b : IsSoundState s) where
   changed = after s n (begin role)
 
   readers : AllByRecursion (MayRead s.frame) s.frame.subscriptions
-  readers = may_read s (sound_whole s b)
+  readers = MayRead-IsWhole s (IsWhole-IsSoundState s b)
 
   actor_kept : (e : Subscription) → MayRead s.frame e → actor (after s n (begin role)).frame e.session ≡ actor s.frame e.session
   actor_kept e m = ap (λ o. unwrap_or (option_map (λ (x : Session). x.role) o) (length s.frame.rights.roles)) (find_kept (λ (x : Session). e.session == x.number) s.frame.sessions _ m.session)

@@ -8,7 +8,7 @@ use Rattle.iv_rows.specs.Names.{is_name}
 use Rattle.iv_rows.specs.Options.{if_some}
 use Rattle.iv_roles.specs.Memberships.{Membership, itself, is_direct, member_of, membership_eq, reaches, through, with_membership}
 use Rattle.iv_roles.specs.Roles.{is_admin}
-use Rattle.iv_roles.proofs.Chains.{follows, reaches_on}
+use Rattle.iv_roles.proofs.Chains.{Follows-reaches, reaches-trans}
 use Rattle.iv_bind.specs.Catalogs.{CatalogEntry, named}
 use Rattle.iv_access.specs.Access.{grantee_of, role_number}
 use Rattle.iv_access.specs.Changing.{grantee_eq, with_grants}
@@ -18,7 +18,7 @@ use Rattle.iv_access.specs.Given.{grant_to, is_among, is_named_by}
 use Rattle.iv_access.specs.Laws.{GrantsGive}
 use Rattle.iv_access.specs.Privileges.{acts_as, has, is_for, privilege_eq, role_of}
 use Rattle.iv_access.specs.Rights.{Grantee, Name, Rights}
-use Rattle.iv_access.proofs.GrantSets.{given, grant_itself, members_hold}
+use Rattle.iv_access.proofs.GrantSets.{given, grant_eq-itself, has-reaches}
 use Rattle.iv_machine.specs.Act.{Act, create_table, create_view, grant, grant_role, Command, unknown_relation, unknown_role}
 use Rattle.iv_machine.specs.Changing.{after}
 use Rattle.iv_machine.specs.Machine.{settled, step}
@@ -111,7 +111,7 @@ each_part a b c h = let x = and_both a (b && c) h in let y = and_both b c x.1 in
 
 named_itself : (rel : ℕ) (p : Privilege) (ps : List Privilege) (to : Grantee) → is_named_by rel (p ∷ ps) to (grant_to to p rel) ≡ true
 named_itself rel p ps to =
-    let x = each_part (rel == rel) (privilege_eq p p) (grantee_eq to to) (grant_itself (grant_to to p rel)) in
+    let x = each_part (rel == rel) (privilege_eq p p) (grantee_eq to to) (grant_eq-itself (grant_to to p rel)) in
     λ i. x.0 i && ((x.1 i || list_any (privilege_eq p) ps) && x.2 i)
 
 pub grant_gives : GrantsGive → (r : Rights) (rel role : ℕ) (p : Privilege) (ps : List Privilege) (to : Grantee) → is_for (with_grants rel (p ∷ ps) to r) role to ≡ true
@@ -195,9 +195,9 @@ module _ (s : State) (n : ℕ) (role : Name) (place : ℕ) where
       sym (ap (λ o. if_some o false (λ r. if_some (role_of f.rights to) false (acts_as f.rights r))) known ∙ ap (λ o. if_some o false (acts_as f.rights place)) t.1) ∙ member in
       let new = with_membership (member_of (role_number s.frame.rights group) (role_number s.frame.rights to)) ms in
       let step_up : reaches f.rights.members t.0 g.0 ≡ true =
-      (follows f.rights.members t.0 g.0).1 (through f.rights.members t.0 g.0 g.0
+      (Follows-reaches f.rights.members t.0 g.0).1 (through f.rights.members t.0 g.0 g.0
       (subst (λ m. is_direct f.rights.members m ≡ true) (λ i. member_of (gn i) (tn i)) (direct_now ms (member_of (role_number s.frame.rights group) (role_number s.frame.rights to)))) (itself f.rights.members g.0)) in
-      let all : reaches f.rights.members place g.0 ≡ true = reaches_on f.rights.members place t.0 g.0 up step_up in
+      let all : reaches f.rights.members place g.0 ≡ true = reaches-trans f.rights.members place t.0 g.0 up step_up in
       has_some_is f role rel place known ∙ at_least f g.0 rel all (not_admin group g.0 admin (and_both (is_group group) (is_name to) w).0 g.1) (sym (has_some_is f group rel g.0 g.1) ∙ h)
     where
       at_least : (f : Frame) (other : ℕ) (x : Name) → reaches f.rights.members place other ≡ true → is_admin other ≡ false → has_at f other x ≡ true → has_at f place x ≡ true
@@ -206,7 +206,7 @@ module _ (s : State) (n : ℕ) (role : Name) (place : ℕ) where
           by : (o : Option CatalogEntry) → if_some o false (λ (e : CatalogEntry). list_any (λ p. has f.rights other p e.rel) (Select ∷ Insert ∷ Update ∷ Delete ∷ [])) ≡ true
               → if_some o false (λ (e : CatalogEntry). list_any (λ p. has f.rights place p e.rel) (Select ∷ Insert ∷ Update ∷ Delete ∷ [])) ≡ true
           by None q = absurd (false≢true q)
-          by (Some e) q = any_weaker (λ p. has f.rights other p e.rel) (λ p. has f.rights place p e.rel) (λ p y. members_hold f.rights place other p e.rel up common y) (Select ∷ Insert ∷ Update ∷ Delete ∷ []) q
+          by (Some e) q = any_weaker (λ p. has f.rights other p e.rel) (λ p. has f.rights place p e.rel) (λ p y. has-reaches f.rights place other p e.rel up common y) (Select ∷ Insert ∷ Update ∷ Delete ∷ []) q
 
   -- ---- each act
 

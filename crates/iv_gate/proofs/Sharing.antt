@@ -14,8 +14,8 @@ use Rattle.iv_machine.specs.Refusing.{has_subscription, or_else, refusal, test}
 use Rattle.iv_machine.specs.State.{Frame, Session, State, Subscription, is_open, session_of, subscription_of}
 use Rattle.iv_machine.specs.declared.Cause.{Cause}
 use Rattle.iv_machine.proofs.SubscriptionPlaces.{all_inserted, find_more}
-use Rattle.iv_machine.proofs.UniqueNumbers.{after_numbers}
-use Rattle.iv_machine.proofs.Readers.{all_found}
+use Rattle.iv_machine.proofs.UniqueNumbers.{AreNumbersUnique-after_frame}
+use Rattle.iv_machine.proofs.Readers.{subscription_of-each}
 use Rattle.iv_message.specs.Told.{Told, replied, opened}
 use Rattle.iv_clients.specs.Clients.{Client, Slots, at_all, at_client, client_at, following, has_role, staying, telling, told_one}
 use Rattle.iv_clients.specs.Feeds.{Feed, Seat, ends_in, feed_of, feeds_left, is_of_role, seat_of, without_feed, without_seat}
@@ -73,11 +73,11 @@ fed_settled : (s : State) (n : ℕ) (act : Act) (feeds : List Feed) → AreNumbe
     → AllByRecursion (IsFed (feeds_left (flat_map (line_for s (settled act (after s n act)) (ending_by act (after s n act))) (after_subscriptions s.frame n act)) feeds))
     (settled act (after s n act)).frame.subscriptions
 fed_settled s n act feeds u a =
-    let es = after_subscriptions s.frame n act in let v = (after_numbers s.frame n act u).unique in let ends = ending_by act (after s n act) in
+    let es = after_subscriptions s.frame n act in let v = (AreNumbersUnique-after_frame s.frame n act u).unique in let ends = ending_by act (after s n act) in
     let ls = flat_map (line_for s (settled act (after s n act)) ends) es in
     filter_all (IsFed (feeds_left ls feeds)) (λ e. is_some (ends e)) es
     (both {P = λ e. subscription_of es e.number ≡ Some e} {Q = IsFed feeds} {R = λ e. is_some (ends e) ≡ false → IsFed (feeds_left ls feeds) e}
-    (λ e h b stays. fed_left s (settled act (after s n act)) ends feeds es e v h b stays) es (all_found es v) a)
+    (λ e h b stays. fed_left s (settled act (after s n act)) ends feeds es e v h b stays) es (subscription_of-each es v) a)
 
 fed_by : (s : State) (k : Command) (feeds : List Feed) (o : Option Refusal) → AreNumbersUnique s.frame → (o ≡ None → AllByRecursion (IsFed feeds) (after_subscriptions s.frame k.session k.act))
     → ((r : Refusal) → o ≡ Some r → AllByRecursion (IsFed feeds) s.frame.subscriptions) → AllByRecursion (IsFed (feeds_left (outcome s k o).lines feeds)) (outcome s k o).state.frame.subscriptions

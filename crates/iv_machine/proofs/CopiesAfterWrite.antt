@@ -14,7 +14,7 @@ use Rattle.iv_machine.specs.State.{rel_of}
 use Rattle.iv_machine.specs.Refusing.{test, is_present, entries_present}
 use Rattle.iv_machine.specs.Changing.{times, without, changed_by, after_entry, written}
 use Rattle.iv_machine.specs.Added.{adds, added}
-use Rattle.iv_machine.proofs.OpenSubscriptions.{or_none, passed}
+use Rattle.iv_machine.proofs.OpenSubscriptions.{or_else-None, test_not-None}
 
 pub copies-append : (q : List Cell) (xs ys : List (List Cell)) → copies q (xs ++ ys) ≡ copies q xs + copies q ys
 copies-append q [] ys = omega arith
@@ -117,8 +117,8 @@ pub copies-written : (catalog : List catalogs.CatalogEntry) (n : ℕ) (es : List
 copies-written catalog n [] T t q h = zero_more (pos (copies q (T t)))
 copies-written catalog n (e ∷ es) T t q h =
     let r = rel_of catalog e.rel in
-    let o = or_none (test (not (is_present e.op e.copies (T r))) (no_such_row n)) (entries_present catalog (n + 1) es (after_entry catalog e T)) h in
-    let present = passed (is_present e.op e.copies (T r)) (no_such_row n) o.0 in
+    let o = or_else-None (test (not (is_present e.op e.copies (T r))) (no_such_row n)) (entries_present catalog (n + 1) es (after_entry catalog e T)) h in
+    let present = test_not-None (is_present e.op e.copies (T r)) (no_such_row n) o.0 in
     copies-written catalog (n + 1) es (after_entry catalog e T) t q o.1
     ∙ ap (λ z. z +ℤ added catalog es t q) (one_entry (r == t) q e (T t) (λ k. subst (λ u. is_present e.op e.copies (T u) ≡ true) (same_number r t k) present))
     ∙ plus_assoc (pos (copies q (T t))) (cond (r == t) (adds e.op e.copies q) (pos 0)) (added catalog es t q)

@@ -28,12 +28,12 @@ AreRising (r ∷ rows) = IsBelow r rows × AreRising rows
 abbrev pub NoZero : Weighed → Type 0
 NoZero rows = AllByRecursion (λ e. e.1 ≢ pos 0) rows
 
-pub below_all : (r s : List Cell) (rows : List (List Cell)) → row_cmp r s ≡ Less → IsBelow s rows → IsBelow r rows
-below_all r s [] h b = tt
-below_all r s (x ∷ rows) h b = (row_cmp_total.trans r s x h b.0, below_all r s rows h b.1)
+pub IsBelow-Less : (r s : List Cell) (rows : List (List Cell)) → row_cmp r s ≡ Less → IsBelow s rows → IsBelow r rows
+IsBelow-Less r s [] h b = tt
+IsBelow-Less r s (x ∷ rows) h b = (row_cmp_total.trans r s x h b.0, IsBelow-Less r s rows h b.1)
 
-pub turned : (r s : List Cell) → row_cmp r s ≡ Greater → row_cmp s r ≡ Less
-turned r s h = row_cmp_total.antisymm s r ∙ ap ordering_reverse h
+pub row_cmp-Greater : (r s : List Cell) → row_cmp r s ≡ Greater → row_cmp s r ≡ Less
+row_cmp-Greater r s h = row_cmp_total.antisymm s r ∙ ap ordering_reverse h
 
 -- ---- rising_rows rise
 
@@ -47,9 +47,9 @@ below_insert x r [] h b = (h, tt)
 below_insert x r (s ∷ rows) h b = below_place x r s rows (insert_row r rows) (row_cmp r s) h b.0 b.1 (below_insert x r rows h b.1)
 
 rising_place : (r s : List Cell) (rows placed : List (List Cell)) (o : Ordering) → row_cmp r s ≡ o → AreRising (s ∷ rows) → (row_cmp s r ≡ Less → IsBelow s placed) → AreRising placed → AreRising (place_row o r s rows placed)
-rising_place r s rows placed Less h u b p = ((h, below_all r s rows h u.0), u)
+rising_place r s rows placed Less h u b p = ((h, IsBelow-Less r s rows h u.0), u)
 rising_place r s rows placed Equal h u b p = u
-rising_place r s rows placed Greater h u b p = (b (turned r s h), p)
+rising_place r s rows placed Greater h u b p = (b (row_cmp-Greater r s h), p)
 
 rising_insert : (r : List Cell) (rows : List (List Cell)) → AreRising rows → AreRising (insert_row r rows)
 rising_insert r [] u = (tt, tt)
@@ -92,23 +92,23 @@ zero_left z = omega (arith, ints)
 pub zero_right : (z : ℤ) → z +ℤ pos 0 ≡ z
 zero_right z = omega (arith, ints)
 
-pub less_apart : (o : Ordering) → o ≡ Less → is_eq o ≡ false
-less_apart Less h = refl
-less_apart Equal h = cc
-less_apart Greater h = cc
+pub is_eq-Less : (o : Ordering) → o ≡ Less → is_eq o ≡ false
+is_eq-Less Less h = refl
+is_eq-Less Equal h = cc
+is_eq-Less Greater h = cc
 
 pub below_none : (r : List Cell) (rows : List (List Cell)) → IsBelow r rows → list_any (row_eq r) rows ≡ false
 below_none r [] b = refl
-below_none r (s ∷ rows) b = ap (λ x. x || list_any (row_eq r) rows) (less_apart (row_cmp r s) b.0) ∙ below_none r rows b.1
+below_none r (s ∷ rows) b = ap (λ x. x || list_any (row_eq r) rows) (is_eq-Less (row_cmp r s) b.0) ∙ below_none r rows b.1
 
 -- the weight of a row, where the rows are different
-pub once : (b t : Bool) (w v i : ℤ) → (b ≡ true → v ≡ w) → (b ≡ true → t ≡ false) → i ≡ cond t w (pos 0) → cond b v (pos 0) +ℤ i ≡ cond (b || t) w (pos 0)
-once true t w v i h k e = ap (λ x. v +ℤ x) (e ∙ ap (λ c. cond c w (pos 0)) (k refl)) ∙ zero_right v ∙ h refl
-once false t w v i h k e = zero_left i ∙ e
+pub cond-or : (b t : Bool) (w v i : ℤ) → (b ≡ true → v ≡ w) → (b ≡ true → t ≡ false) → i ≡ cond t w (pos 0) → cond b v (pos 0) +ℤ i ≡ cond (b || t) w (pos 0)
+cond-or true t w v i h k e = ap (λ x. v +ℤ x) (e ∙ ap (λ c. cond c w (pos 0)) (k refl)) ∙ zero_right v ∙ h refl
+cond-or false t w v i h k e = zero_left i ∙ e
 
 all_weigh : (q : List Cell) (a b ks : List (List Cell)) → AreRising ks → weight_of (map (weighted a b) ks) q ≡ cond (list_any (row_eq q) ks) (weight a b q) (pos 0)
 all_weigh q a b [] u = refl
-all_weigh q a b (k ∷ ks) u = once (row_eq q k) (list_any (row_eq q) ks) (weight a b q) (weight a b k) (weight_of (map (weighted a b) ks) q)
+all_weigh q a b (k ∷ ks) u = cond-or (row_eq q k) (list_any (row_eq q) ks) (weight a b q) (weight a b k) (weight_of (map (weighted a b) ks) q)
     (λ h. ap (weight a b) (sym ((row_eq_decides q k).0 h)))
     (λ h. ap (λ x. list_any (row_eq x) ks) ((row_eq_decides q k).0 h) ∙ below_none k ks u.0)
     (all_weigh q a b ks u.1)
@@ -144,8 +144,8 @@ weighs_by : (t : Bool) (w : ℤ) → (t ≡ false → w ≡ pos 0) → cond t w 
 weighs_by true w h = refl
 weighs_by false w h = sym (h refl)
 
-pub difference_weighs : (a b : List (List Cell)) (q : List Cell) → weight_of (difference a b) q ≡ weight a b q
-difference_weighs a b q = changes_weigh q (map (weighted a b) (rising_rows (a ++ b)))
+pub weight_of-difference : (a b : List (List Cell)) (q : List Cell) → weight_of (difference a b) q ≡ weight a b q
+weight_of-difference a b q = changes_weigh q (map (weighted a b) (rising_rows (a ++ b)))
     ∙ all_weigh q a b (rising_rows (a ++ b)) (rising_rise (a ++ b))
     ∙ ap (λ t. cond t (weight a b q) (pos 0)) (any_rising q (a ++ b))
     ∙ weighs_by (list_any (row_eq q) (a ++ b)) (weight a b q) (λ h. let n = none_both q a b h in ap (λ (k : ℕ × ℕ). pos k.1 -ℤ pos k.0) (λ i. (n.0 i, n.1 i)))
@@ -175,5 +175,5 @@ keys_weighted : (a b ks : List (List Cell)) → keys_of (map (weighted a b) ks) 
 keys_weighted a b [] = refl
 keys_weighted a b (k ∷ ks) = ap (λ xs. k ∷ xs) (keys_weighted a b ks)
 
-pub difference_rises : (a b : List (List Cell)) → AreRising (keys_of (difference a b)) × NoZero (difference a b)
-difference_rises a b = rising_changes (map (weighted a b) (rising_rows (a ++ b))) (subst AreRising (sym (keys_weighted a b (rising_rows (a ++ b)))) (rising_rise (a ++ b)))
+pub AreRising-difference : (a b : List (List Cell)) → AreRising (keys_of (difference a b)) × NoZero (difference a b)
+AreRising-difference a b = rising_changes (map (weighted a b) (rising_rows (a ++ b))) (subst AreRising (sym (keys_weighted a b (rising_rows (a ++ b)))) (rising_rise (a ++ b)))

@@ -16,11 +16,11 @@ use Rattle.iv_machine.specs.State.{Frame, Session, is_open, actor, next_rel, sta
 use Rattle.iv_machine.specs.Refusing.{test, administrator, known_role, free_role, free_relation, or_else, first, frame_refusal, tests_by}
 use Rattle.iv_machine.specs.Changing.{with_held, view_held, after_frame}
 use Rattle.iv_machine.specs.Sound.{AreNamesDistinct}
-use Rattle.iv_machine.proofs.OpenSubscriptions.{or_none}
+use Rattle.iv_machine.proofs.OpenSubscriptions.{or_else-None}
 
-pub test_passes : (b : Bool) (r : Refusal) → test b r ≡ None → b ≡ false
-test_passes true r h = cc
-test_passes false r h = refl
+pub test-None : (b : Bool) (r : Refusal) → test b r ≡ None → b ≡ false
+test-None true r h = cc
+test-None false r h = refl
 
 -- ---- a test that decides equality is an equivalence
 
@@ -111,7 +111,7 @@ module _ {X : Type 0} (p : X → Bool) where
 
 new_relation : (f : Frame) (name : Name) (held : Held) → free_relation f name ≡ None → IsDistinct bytes_eq (map (λ e. e.name) f.catalog) → IsDistinct bytes_eq (map (λ e. e.name) (with_held name (Some held) f.catalog))
 new_relation f name held h d = distinct_push bytes_eq bytes_equiv (λ (x : catalogs.CatalogEntry). x.name) f.catalog (record { name = name; rel = next_rel f.catalog; held = held }) d
-    (test_passes (is_some (find (λ x. bytes_eq name x.name) f.catalog)) name_taken h)
+    (test-None (is_some (find (λ x. bytes_eq name x.name) f.catalog)) name_taken h)
 
 new_view : (f : Frame) (name : Name) (r : Result BoundQuery TextFault) → free_relation f name ≡ None → IsDistinct bytes_eq (map (λ e. e.name) f.catalog) → IsDistinct bytes_eq (map (λ e. e.name) (with_held name (view_held r) f.catalog))
 new_view f name (Ok answer) h d = new_relation f name (View answer) h d
@@ -119,37 +119,37 @@ new_view f name (Err fault) h d = d
 
 -- the name of a new relation is free
 free_name : (f : Frame) (role : ℕ) (owner name : Name) (later : Option Refusal) → or_else (administrator role) (or_else (known_role f owner) (or_else (free_relation f name) later)) ≡ None → free_relation f name ≡ None
-free_name f role owner name later h = (or_none (free_relation f name) later (or_none (known_role f owner) _ (or_none (administrator role) _ h).1).1).0
+free_name f role owner name later h = (or_else-None (free_relation f name) later (or_else-None (known_role f owner) _ (or_else-None (administrator role) _ h).1).1).0
 
-pub names_after : (f : Frame) (n : ℕ) (act : Act) → frame_refusal f n act ≡ None → AreNamesDistinct f → AreNamesDistinct (after_frame f n act)
-names_after f n (begin role) h d = record {
+pub AreNamesDistinct-after_frame : (f : Frame) (n : ℕ) (act : Act) → frame_refusal f n act ≡ None → AreNamesDistinct f → AreNamesDistinct (after_frame f n act)
+AreNamesDistinct-after_frame f n (begin role) h d = record {
   roles = d.roles;
   relations = d.relations;
   sessions = distinct_push (λ (m k : ℕ). m == k) number_equiv (λ (e : Session). e.number) f.sessions (record { number = n; role = role_number f.rights role }) d.sessions
-      (test_passes (is_open f n) session_in_use (or_none (test (is_open f n) session_in_use) _ h).0);
+      (test-None (is_open f n) session_in_use (or_else-None (test (is_open f n) session_in_use) _ h).0);
 }
-names_after f n finish h d = record {
+AreNamesDistinct-after_frame f n finish h d = record {
   roles = d.roles;
   relations = d.relations;
   sessions = distinct_kept (λ (m k : ℕ). m == k) (λ (e : Session). e.number) (λ (e : Session). not (n == e.number)) f.sessions d.sessions;
 }
-names_after f n (create_role name) h d =
-    let a = or_none (test (not (is_open f n)) no_session) (first (tests_by f n (actor f n) (create_role name))) h in
-    let b = or_none (administrator (actor f n)) _ a.1 in
-    let free = (or_none (free_role f name) _ b.1).0 in
+AreNamesDistinct-after_frame f n (create_role name) h d =
+    let a = or_else-None (test (not (is_open f n)) no_session) (first (tests_by f n (actor f n) (create_role name))) h in
+    let b = or_else-None (administrator (actor f n)) _ a.1 in
+    let free = (or_else-None (free_role f name) _ b.1).0 in
     record {
-      roles = IsDistinct-push bytes_equiv f.rights.roles name d.roles (sym (placed_is (bytes_eq name) f.rights.roles) ∙ test_passes (is_some (position (bytes_eq name) f.rights.roles)) name_taken free);
+      roles = IsDistinct-push bytes_equiv f.rights.roles name d.roles (sym (placed_is (bytes_eq name) f.rights.roles) ∙ test-None (is_some (position (bytes_eq name) f.rights.roles)) name_taken free);
       relations = d.relations;
       sessions = d.sessions;
     }
-names_after f n (create_table name owner columns) h d =
-    let a = or_none (test (not (is_open f n)) no_session) (first (tests_by f n (actor f n) (create_table name owner columns))) h in
+AreNamesDistinct-after_frame f n (create_table name owner columns) h d =
+    let a = or_else-None (test (not (is_open f n)) no_session) (first (tests_by f n (actor f n) (create_table name owner columns))) h in
     record { roles = d.roles; relations = new_relation f name (Table columns) (free_name f (actor f n) owner name _ a.1) d.relations; sessions = d.sessions }
-names_after f n (create_view name owner query) h d =
-    let a = or_none (test (not (is_open f n)) no_session) (first (tests_by f n (actor f n) (create_view name owner query))) h in
+AreNamesDistinct-after_frame f n (create_view name owner query) h d =
+    let a = or_else-None (test (not (is_open f n)) no_session) (first (tests_by f n (actor f n) (create_view name owner query))) h in
     record { roles = d.roles; relations = new_view f name (bound_query f.catalog query) (free_name f (actor f n) owner name _ a.1) d.relations; sessions = d.sessions }
-names_after f n _ h d = record { roles = d.roles; relations = d.relations; sessions = d.sessions }
+AreNamesDistinct-after_frame f n _ h d = record { roles = d.roles; relations = d.relations; sessions = d.sessions }
 
-pub names_at_start : (cap : ℕ) → AreNamesDistinct (start_frame cap)
+pub AreNamesDistinct-start : (cap : ℕ) → AreNamesDistinct (start_frame cap)
 unfolding IsDistinct
-names_at_start cap = record { roles = (tt, tt); relations = tt; sessions = tt }
+AreNamesDistinct-start cap = record { roles = (tt, tt); relations = tt; sessions = tt }

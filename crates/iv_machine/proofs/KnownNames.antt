@@ -20,10 +20,10 @@ use Rattle.iv_machine.specs.Changing.{after_rights, policy_for}
 use Rattle.iv_machine.specs.Numbered.{IsNumbered}
 use Rattle.iv_machine.specs.Refusing.{administrator, first, frame_refusal, known_grantee, known_relation, known_role, owner_alone}
 use Rattle.iv_machine.specs.Stored.{AreKnown, IsBelow}
-use Rattle.iv_machine.proofs.RelationNumbers.{as_many}
-use Rattle.iv_machine.proofs.SubscriptionPlaces.{known_below, some_of}
-use Rattle.iv_machine.proofs.OpenSubscriptions.{or_none, passed}
-use Rattle.iv_machine.proofs.StoredRights.{asked_by, found_at, policy_tested}
+use Rattle.iv_machine.proofs.RelationNumbers.{length-changed_at}
+use Rattle.iv_machine.proofs.SubscriptionPlaces.{lt-role_number, some_of}
+use Rattle.iv_machine.proofs.OpenSubscriptions.{or_else-None, test_not-None}
+use Rattle.iv_machine.proofs.StoredRights.{tests_by-None, IsAt-find, IsTested-create_policy}
 
 -- ---- lists
 
@@ -123,12 +123,12 @@ related f owner h k =
 
 known_to : (f : Frame) (to : Option Name) → known_grantee f to ≡ None → IsBelow (length f.rights.roles) (grantee_of f.rights to)
 known_to f None h = tt
-known_to f (Some name) h = known_below f name h
+known_to f (Some name) h = lt-role_number f name h
 
 all_known_to : (f : Frame) (to : List (Option Name)) → first (map (known_grantee f) to) ≡ None → All (IsBelow (length f.rights.roles)) (map (grantee_of f.rights) to)
 all_known_to f [] h = All-nil (IsBelow (length f.rights.roles))
 all_known_to f (o ∷ to) h =
-    let a = or_none (known_grantee f o) _ h in
+    let a = or_else-None (known_grantee f o) _ h in
     All-cons (IsBelow (length f.rights.roles)) (grantee_of f.rights o) (map (grantee_of f.rights) to) (known_to f o a.0) (all_known_to f to a.1)
 
 known_rel : (f : Frame) (rel : Name) → IsNumbered f → is_some (named f.catalog rel) ≡ true → rel_of f.catalog rel < length f.rights.guards
@@ -136,7 +136,7 @@ known_rel f rel m h = some_of (named f.catalog rel) h (rel_of f.catalog rel < le
   where
     by : (e : catalogs.CatalogEntry) → named f.catalog rel ≡ Some e → rel_of f.catalog rel < length f.rights.guards
     by e found =
-        let at = found_at 0 f.catalog (λ (z : catalogs.CatalogEntry). bytes_eq rel z.name) e m.relations found in
+        let at = IsAt-find 0 f.catalog (λ (z : catalogs.CatalogEntry). bytes_eq rel z.name) e m.relations found in
         let number : rel_of f.catalog rel ≡ e.rel = ap (λ o. if_some o (next_rel f.catalog) (λ z. z.rel)) found in
         let within = place_within f.catalog at.place e at.there in
         let place = at.rel in
@@ -155,61 +155,61 @@ changed_guards f k change owned permitted e h = record {
   grants = subst (λ n. All (Grants (length f.rights.roles) n) f.rights.grants) (sym e) h.grants;
 }
 
-pub known_after : (f : Frame) (n : ℕ) (act : Act) → frame_refusal f n act ≡ None → IsNumbered f → AreKnown f.rights → AreKnown (after_rights f act)
-known_after f n (create_role name) r m k = with_one f name k
-known_after f n (create_table name owner columns) r m k =
-    let a = or_none (administrator (actor f n)) _ (asked_by f n (create_table name owner columns) r) in
-    related f (role_number f.rights owner) (known_below f owner (or_none (known_role f owner) _ a.1).0) k
-known_after f n (create_view name owner query) r m k =
-    let a = or_none (administrator (actor f n)) _ (asked_by f n (create_view name owner query) r) in
-    related f (role_number f.rights owner) (known_below f owner (or_none (known_role f owner) _ a.1).0) k
-known_after f n (grant rel ps to) r m k =
-    let a = or_none (known_relation f rel) _ (asked_by f n (grant rel ps to) r) in
-    let b = or_none (owner_alone f (actor f n) rel) _ a.1 in
-    let d = or_none (known_grantee f to) None b.1 in
+pub AreKnown-after_rights : (f : Frame) (n : ℕ) (act : Act) → frame_refusal f n act ≡ None → IsNumbered f → AreKnown f.rights → AreKnown (after_rights f act)
+AreKnown-after_rights f n (create_role name) r m k = with_one f name k
+AreKnown-after_rights f n (create_table name owner columns) r m k =
+    let a = or_else-None (administrator (actor f n)) _ (tests_by-None f n (create_table name owner columns) r) in
+    related f (role_number f.rights owner) (lt-role_number f owner (or_else-None (known_role f owner) _ a.1).0) k
+AreKnown-after_rights f n (create_view name owner query) r m k =
+    let a = or_else-None (administrator (actor f n)) _ (tests_by-None f n (create_view name owner query) r) in
+    related f (role_number f.rights owner) (lt-role_number f owner (or_else-None (known_role f owner) _ a.1).0) k
+AreKnown-after_rights f n (grant rel ps to) r m k =
+    let a = or_else-None (known_relation f rel) _ (tests_by-None f n (grant rel ps to) r) in
+    let b = or_else-None (owner_alone f (actor f n) rel) _ a.1 in
+    let d = or_else-None (known_grantee f to) None b.1 in
     record {
       members = k.members;
       owners = k.owners;
       policies = k.policies;
       grants = all_granted (Grants (length f.rights.roles) (length f.rights.guards)) (rel_of f.catalog rel) ps (grantee_of f.rights to) f.rights.grants
-          (λ p. (known_to f to d.0, known_rel f rel m (passed (is_some (named f.catalog rel)) unknown_relation a.0))) k.grants;
+          (λ p. (known_to f to d.0, known_rel f rel m (test_not-None (is_some (named f.catalog rel)) unknown_relation a.0))) k.grants;
     }
-known_after f n (revoke rel ps to) r m k = record {
+AreKnown-after_rights f n (revoke rel ps to) r m k = record {
   members = k.members;
   owners = k.owners;
   policies = k.policies;
   grants = all_revoked (Grants (length f.rights.roles) (length f.rights.guards)) (rel_of f.catalog rel) ps (grantee_of f.rights to) f.rights.grants k.grants;
 }
-known_after f n (grant_role role to) r m k =
-    let a = or_none (administrator (actor f n)) _ (asked_by f n (grant_role role to) r) in
-    let b = or_none (known_role f role) _ a.1 in
-    let d = or_none (known_role f to) _ b.1 in
+AreKnown-after_rights f n (grant_role role to) r m k =
+    let a = or_else-None (administrator (actor f n)) _ (tests_by-None f n (grant_role role to) r) in
+    let b = or_else-None (known_role f role) _ a.1 in
+    let d = or_else-None (known_role f to) _ b.1 in
     record {
-      members = one_joined (Members (length f.rights.roles)) (member_of (role_number f.rights role) (role_number f.rights to)) f.rights.members (known_below f role b.0, known_below f to d.0) k.members;
+      members = one_joined (Members (length f.rights.roles)) (member_of (role_number f.rights role) (role_number f.rights to)) f.rights.members (lt-role_number f role b.0, lt-role_number f to d.0) k.members;
       owners = k.owners;
       policies = k.policies;
       grants = k.grants;
     }
-known_after f n (revoke_role role to) r m k = record {
+AreKnown-after_rights f n (revoke_role role to) r m k = record {
   members = All-filter (λ x. not (membership_eq (member_of (role_number f.rights role) (role_number f.rights to)) x)) (Members (length f.rights.roles)) f.rights.members k.members;
   owners = k.owners;
   policies = k.policies;
   grants = k.grants;
 }
-known_after f n (row_security rel enable force) r m k =
-    changed_guards f (rel_of f.catalog rel) (λ g. record g { enabled = enable; forced = force }) (λ g h. h) (λ g h. h) (as_many (rel_of f.catalog rel) _ f.rights.guards) k
-known_after f n (create_policy p) r m k =
-    let t = policy_tested f n p (asked_by f n (create_policy p) r) in
+AreKnown-after_rights f n (row_security rel enable force) r m k =
+    changed_guards f (rel_of f.catalog rel) (λ g. record g { enabled = enable; forced = force }) (λ g h. h) (λ g h. h) (length-changed_at (rel_of f.catalog rel) _ f.rights.guards) k
+AreKnown-after_rights f n (create_policy p) r m k =
+    let t = IsTested-create_policy f n p (tests_by-None f n (create_policy p) r) in
     changed_guards f (rel_of f.catalog p.rel) (λ g. record g { policies = insert_policy (policy_for f p) g.policies }) (λ g h. h)
     (λ g h. policy_inserted (λ (q : Policy). All (IsBelow (length f.rights.roles)) q.to) (policy_for f p) g.policies (all_known_to f p.to t.roles) h)
-    (as_many (rel_of f.catalog p.rel) _ f.rights.guards) k
-known_after f n (drop_policy rel name) r m k =
+    (length-changed_at (rel_of f.catalog p.rel) _ f.rights.guards) k
+AreKnown-after_rights f n (drop_policy rel name) r m k =
     changed_guards f (rel_of f.catalog rel) (λ g. record g { policies = remove_policy name g.policies }) (λ g h. h)
-    (λ g h. All-filter (λ q. not (is_named name q)) (λ (q : Policy). All (IsBelow (length f.rights.roles)) q.to) g.policies h) (as_many (rel_of f.catalog rel) _ f.rights.guards) k
-known_after f n _ r m k = k
+    (λ g h. All-filter (λ q. not (is_named name q)) (λ (q : Policy). All (IsBelow (length f.rights.roles)) q.to) g.policies h) (length-changed_at (rel_of f.catalog rel) _ f.rights.guards) k
+AreKnown-after_rights f n _ r m k = k
 
-pub known_at_start : (cap : ℕ) → AreKnown (start cap).frame.rights
-known_at_start cap = record {
+pub AreKnown-start : (cap : ℕ) → AreKnown (start cap).frame.rights
+AreKnown-start cap = record {
   members = All-nil (Members 1);
   owners = All-nil (Owners 1);
   policies = All-nil (Policies 1);

@@ -12,7 +12,7 @@ use Rattle.iv_machine.specs.Refusing.{test, or_else, first, administrator, known
 use Rattle.iv_machine.specs.Changing.{with_held, view_held, after_frame}
 use Rattle.iv_machine.specs.Machine.{outcome, step, run}
 use Rattle.iv_machine.specs.Numbered.{AreNumbered, IsNumbered}
-use Rattle.iv_machine.proofs.OpenSubscriptions.{none_refuses, or_none}
+use Rattle.iv_machine.proofs.OpenSubscriptions.{refusal-None, or_else-None}
 
 one_more : (n : ℕ) (es : List catalogs.CatalogEntry) (e : catalogs.CatalogEntry) → AreNumbered n es → e.rel ≡ n + length es → AreNumbered n (es ++ e ∷ [])
 one_more n [] e h k = let r : n + 0 ≡ n = omega arith in (k ∙ r, tt)
@@ -34,29 +34,29 @@ viewed : (f : Frame) (name : Name) (owner : ℕ) (r : Result BoundQuery TextFaul
 viewed f name owner (Ok answer) b h = related f name owner (View answer) h
 viewed f name owner (Err (FaultAt place why)) b h = cc
 
-pub as_many : (n : ℕ) (change : Guard → Guard) (gs : List Guard) → length (changed_at n change gs) ≡ length gs
-as_many n change [] = refl
-as_many zero change (g ∷ gs) = refl
-as_many (suc n) change (g ∷ gs) = ap suc (as_many n change gs)
+pub length-changed_at : (n : ℕ) (change : Guard → Guard) (gs : List Guard) → length (changed_at n change gs) ≡ length gs
+length-changed_at n change [] = refl
+length-changed_at zero change (g ∷ gs) = refl
+length-changed_at (suc n) change (g ∷ gs) = ap suc (length-changed_at n change gs)
 
 fourth : (a b c d e : Option Refusal) → or_else a (or_else b (or_else c (or_else d e))) ≡ None → d ≡ None
-fourth a b c d e h = (or_none d e (or_none c _ (or_none b _ (or_none a _ h).1).1).1).0
+fourth a b c d e h = (or_else-None d e (or_else-None c _ (or_else-None b _ (or_else-None a _ h).1).1).1).0
 
-pub after_numbered : (f : Frame) (n : ℕ) (act : Act) → frame_refusal f n act ≡ None → IsNumbered f → IsNumbered (after_frame f n act)
-after_numbered f n (create_table name owner columns) r h = let a = related f name (role_number f.rights owner) (Table columns) h in record { relations = a.0; guards = a.1 }
-after_numbered f n (create_view name owner query) r h =
-    let later = (or_none (test (not (is_open f n)) no_session) (first (tests_by f n (actor f n) (create_view name owner query))) r).1 in
+pub IsNumbered-after_frame : (f : Frame) (n : ℕ) (act : Act) → frame_refusal f n act ≡ None → IsNumbered f → IsNumbered (after_frame f n act)
+IsNumbered-after_frame f n (create_table name owner columns) r h = let a = related f name (role_number f.rights owner) (Table columns) h in record { relations = a.0; guards = a.1 }
+IsNumbered-after_frame f n (create_view name owner query) r h =
+    let later = (or_else-None (test (not (is_open f n)) no_session) (first (tests_by f n (actor f n) (create_view name owner query))) r).1 in
     let g = fourth (administrator (actor f n)) (known_role f owner) (free_relation f name) (bad_text (bound_query f.catalog query)) (first (full 64 (views f) ∷ [])) later in
     let a = viewed f name (role_number f.rights owner) (bound_query f.catalog query) g h in
     record { relations = a.0; guards = a.1 }
-after_numbered f n (row_security rel enable force) r h = record { relations = h.relations; guards = as_many (rel_of f.catalog rel) _ f.rights.guards ∙ h.guards }
-after_numbered f n (create_policy p) r h = record { relations = h.relations; guards = as_many (rel_of f.catalog p.rel) _ f.rights.guards ∙ h.guards }
-after_numbered f n (drop_policy rel name) r h = record { relations = h.relations; guards = as_many (rel_of f.catalog rel) _ f.rights.guards ∙ h.guards }
-after_numbered f n _ r h = record { relations = h.relations; guards = h.guards }
+IsNumbered-after_frame f n (row_security rel enable force) r h = record { relations = h.relations; guards = length-changed_at (rel_of f.catalog rel) _ f.rights.guards ∙ h.guards }
+IsNumbered-after_frame f n (create_policy p) r h = record { relations = h.relations; guards = length-changed_at (rel_of f.catalog p.rel) _ f.rights.guards ∙ h.guards }
+IsNumbered-after_frame f n (drop_policy rel name) r h = record { relations = h.relations; guards = length-changed_at (rel_of f.catalog rel) _ f.rights.guards ∙ h.guards }
+IsNumbered-after_frame f n _ r h = record { relations = h.relations; guards = h.guards }
 
 outcome_numbered : (s : State) (c : Command) (o : Option Refusal) → refusal s c.session c.act ≡ o → IsNumbered s.frame → IsNumbered (outcome s c o).state.frame
 outcome_numbered s c None r h =
-    let a = after_numbered s.frame c.session c.act (none_refuses s c.session c.act r).0 h in
+    let a = IsNumbered-after_frame s.frame c.session c.act (refusal-None s c.session c.act r).0 h in
     record { relations = a.relations; guards = a.guards }
 outcome_numbered s c (Some x) r h = h
 
@@ -64,5 +64,5 @@ pub run_numbered : (s : State) (cs : List Command) → IsNumbered s.frame → Is
 run_numbered s [] h = h
 run_numbered s (c ∷ cs) h = run_numbered (step s c).state cs (outcome_numbered s c (refusal s c.session c.act) refl h)
 
-pub start_numbered : (cap : ℕ) → IsNumbered (start cap).frame
-start_numbered cap = record { relations = tt; guards = refl }
+pub IsNumbered-start : (cap : ℕ) → IsNumbered (start cap).frame
+IsNumbered-start cap = record { relations = tt; guards = refl }

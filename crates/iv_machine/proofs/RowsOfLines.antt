@@ -23,8 +23,8 @@ use Rattle.iv_machine.specs.Changing.{after_entry, after}
 use Rattle.iv_machine.specs.Machine.{weight, weighted, is_change, rising_rows, difference, lines_told, line_for, changes, ending_by, reply_to, settled, outcome, step}
 use Rattle.iv_machine.specs.Reached.{AreUnique, AreNumbersUnique}
 use Rattle.iv_machine.specs.Readers.{IsAllowed, IsKnownRow, AreKnownRows, ShowsKnownRows, looks_at_rows}
-use Rattle.iv_machine.proofs.UniqueNumbers.{has_number, both_false, neither, none_kept, after_numbers}
-use Rattle.iv_machine.proofs.RunSums.{shows_nothing}
+use Rattle.iv_machine.proofs.UniqueNumbers.{has_number, both_false, or-both_false, has_number-filter, AreNumbersUnique-after_frame}
+use Rattle.iv_machine.proofs.RunSums.{shown-has_number}
 
 -- ---- a row of a difference stands in one of the two lists
 
@@ -91,7 +91,7 @@ module _ (ends : Subscription → Option Cause) where
   past_gone : (e : Subscription) (es fs : List Subscription) → list_any (λ f. e.number == f.number) fs ≡ false → AllByRecursion (IsGone es) fs → AllByRecursion (IsGone (e ∷ es)) fs
   past_gone e es [] h a = tt
   past_gone e es (f ∷ fs) h a =
-      let n = neither (e.number == f.number) (list_any (λ g. e.number == g.number) fs) h in
+      let n = or-both_false (e.number == f.number) (list_any (λ g. e.number == g.number) fs) h in
       let m = n.0 in
       let d : (f.number == e.number) ≡ false = grind (arith, nat_tests) in
       ((λ x. gone_by (not (is_some (ends e))) f.number e (filter (λ y. not (is_some (ends y))) es) d (a.0 x)), past_gone e es fs n.1 a.1)
@@ -100,7 +100,7 @@ module _ (ends : Subscription → Option Cause) where
   all_gone [] u = tt
   all_gone (e ∷ es) u = (
     (λ x. ap (λ b. has_number e.number (cond (not b) (e ∷ filter (λ y. not (is_some (ends y))) es) (filter (λ y. not (is_some (ends y))) es))) x
-        ∙ none_kept e.number (λ y. not (is_some (ends y))) es u.0),
+        ∙ has_number-filter e.number (λ y. not (is_some (ends y))) es u.0),
     past_gone e es es u.0 (all_gone es u.1),
   )
 
@@ -113,7 +113,7 @@ module _ (s new : State) (ends : Subscription → Option Cause) where
   lines_show : (es : List Subscription) → AllByRecursion (λ e. is_some (ends e) ≡ true → has_number e.number new.frame.subscriptions ≡ false) es → All (ShowsKnownRows s new) (flat_map (line_for s new ends) es)
   lines_show [] h = All-nil (ShowsKnownRows s new)
   lines_show (e ∷ es) h = All-append (ShowsKnownRows s new) (line_for s new ends e) (flat_map (line_for s new ends) es)
-      (line_shows (ends e) e (difference (shown s e.number) (shown new e.number)) (known_rows s new e.number) (λ x. ap (difference (shown s e.number)) (shows_nothing new e.number (h.0 x))))
+      (line_shows (ends e) e (difference (shown s e.number) (shown new e.number)) (known_rows s new e.number) (λ x. ap (difference (shown s e.number)) (shown-has_number new e.number (h.0 x))))
       (lines_show es h.1)
 
 outcome_shows : (s : State) (c : Command) (o : Option Refusal) → AreNumbersUnique s.frame → All (ShowsKnownRows s (outcome s c o).state) (outcome s c o).lines
@@ -122,11 +122,11 @@ outcome_shows s c None r =
     let new = settled c.act changed in
     All-cons (ShowsKnownRows s new) (reply c.session (reply_to s.frame c.act)) (changes c.act s changed new) tt
     (lines_show s new (ending_by c.act changed) changed.frame.subscriptions
-    (all_gone (ending_by c.act changed) changed.frame.subscriptions (after_numbers s.frame c.session c.act r).unique))
+    (all_gone (ending_by c.act changed) changed.frame.subscriptions (AreNumbersUnique-after_frame s.frame c.session c.act r).unique))
 outcome_shows s c (Some x) r = All-cons (ShowsKnownRows s s) (reply c.session (refused x)) [] tt (All-nil (ShowsKnownRows s s))
 
-pub step_shows : (s : State) (c : Command) → AreNumbersUnique s.frame → All (ShowsKnownRows s (step s c).state) (step s c).lines
-step_shows s c r = outcome_shows s c (refusal s c.session c.act) r
+pub ShowsKnownRows-step : (s : State) (c : Command) → AreNumbersUnique s.frame → All (ShowsKnownRows s (step s c).state) (step s c).lines
+ShowsKnownRows-step s c r = outcome_shows s c (refusal s c.session c.act) r
 
 -- ---- refusals
 
@@ -158,8 +158,8 @@ by_frame None p q r go h k = let e = go k in cc
 by_frame (Some x) p q r go h k = k
 
 -- what rows do not decide is refused alike
-pub refused_alike : (f : Frame) (S T : Lists) (n : ℕ) (act : Act) (r : Refusal) → looks_at_rows r ≡ false → refusal (record { frame = f; rows = S }) n act ≡ Some r → refusal (record { frame = f; rows = T }) n act ≡ Some r
-refused_alike f S T n act r h k =
+pub refusal-other_rows : (f : Frame) (S T : Lists) (n : ℕ) (act : Act) (r : Refusal) → looks_at_rows r ≡ false → refusal (record { frame = f; rows = S }) n act ≡ Some r → refusal (record { frame = f; rows = T }) n act ≡ Some r
+refusal-other_rows f S T n act r h k =
     let s : State = record { frame = f; rows = S } in
     let t : State = record { frame = f; rows = T } in
     by_frame (frame_refusal f n act) (rows_refusal s n act) (rows_refusal t n act) r (rows_look s n act r) h k

@@ -25,8 +25,8 @@ use Rattle.iv_bind.specs.Catalogs as catalogs
 use Rattle.iv_rows.specs.Options.{if_some}
 use Rattle.iv_bind.specs.Faults as binding
 use Rattle.iv_bind.specs.Sound.{IsSoundCatalog, IsSoundView, ReadsWell}
-use Rattle.iv_bind.proofs.Joins.{same_kinds}
-use Rattle.iv_bind.proofs.Predicates.{bound_fits}
+use Rattle.iv_bind.proofs.Joins.{kinds_in-under}
+use Rattle.iv_bind.proofs.Predicates.{condition_fits-pred_bound}
 use Rattle.iv_access.specs.declared.fault.AccessFault.TheVariants as fault
 use Rattle.iv_access.specs.declared.policy.Check.{Check}
 use Rattle.iv_access.specs.declared.policy.Check.TheVariants as test
@@ -55,15 +55,15 @@ use Rattle.iv_machine.specs.Stored.{AreGuarded, Fits, FitHeld, FitsColumns, HasT
 use Rattle.iv_machine.specs.Typed.{FitsCatalog}
 use Rattle.iv_machine.specs.Parts.{has_texts, is_between}
 use Rattle.iv_machine.specs.Well.{is_grantee as is_named_grantee, is_well_act, is_well_policy}
-use Rattle.iv_machine.proofs.Distinct.{test_passes}
+use Rattle.iv_machine.proofs.Distinct.{test-None}
 use Rattle.iv_machine.proofs.SubscriptionPlaces.{some_of}
-use Rattle.iv_machine.proofs.OpenSubscriptions.{none_refuses, or_none, passed, both}
+use Rattle.iv_machine.proofs.OpenSubscriptions.{refusal-None, or_else-None, test_not-None, and-both_true}
 
 -- ---- what tests find of a policy and a membership
 
--- a request of an open session passed the tests of its role
-pub asked_by : (f : Frame) (n : ℕ) (act : Act) → tests.or_else (tests.test (not (is_open f n)) no_session) (first (tests_by f n (actor f n) act)) ≡ None → first (tests_by f n (actor f n) act) ≡ None
-asked_by f n act h = (or_none (tests.test (not (is_open f n)) no_session) (first (tests_by f n (actor f n) act)) h).1
+-- a request of an open session test_not-None the tests of its role
+pub tests_by-None : (f : Frame) (n : ℕ) (act : Act) → tests.or_else (tests.test (not (is_open f n)) no_session) (first (tests_by f n (actor f n) act)) ≡ None → first (tests_by f n (actor f n) act) ≡ None
+tests_by-None f n act h = (or_else-None (tests.test (not (is_open f n)) no_session) (first (tests_by f n (actor f n) act)) h).1
 
 pub record IsTested (f : Frame) (n : ℕ) (p : PolicyText) : Type 0 where
   pub known : is_some (named f.catalog p.rel) ≡ true
@@ -74,37 +74,37 @@ pub record IsTested (f : Frame) (n : ℕ) (p : PolicyText) : Type 0 where
   pub check : bad_policy_text (columns_at f.catalog p.rel) p.check_text ≡ None
   pub few : nat_le 32 (tests.policies f p.rel) ≡ false
 
-pub policy_tested : (f : Frame) (n : ℕ) (p : PolicyText) → first (tests_by f n (actor f n) (create_policy p)) ≡ None → IsTested f n p
-policy_tested f n p h =
+pub IsTested-create_policy : (f : Frame) (n : ℕ) (p : PolicyText) → first (tests_by f n (actor f n) (create_policy p)) ≡ None → IsTested f n p
+IsTested-create_policy f n p h =
     let columns = columns_at f.catalog p.rel in
-    let a = or_none (known_relation f p.rel) _ h in
-    let b = or_none (table_alone f p.rel) _ a.1 in
-    let d = or_none (owner_alone f (actor f n) p.rel) _ b.1 in
-    let r = or_none (first (map (known_grantee f) p.to)) _ d.1 in
-    let t = or_none (tests.test (has_policy f p.rel p.name) name_taken) _ r.1 in
-    let u = or_none (bad_policy_text columns p.using_text) _ t.1 in
-    let k = or_none (bad_policy_text columns p.check_text) _ u.1 in
-    let m = or_none (full 32 (tests.policies f p.rel)) None k.1 in
+    let a = or_else-None (known_relation f p.rel) _ h in
+    let b = or_else-None (table_alone f p.rel) _ a.1 in
+    let d = or_else-None (owner_alone f (actor f n) p.rel) _ b.1 in
+    let r = or_else-None (first (map (known_grantee f) p.to)) _ d.1 in
+    let t = or_else-None (tests.test (has_policy f p.rel p.name) name_taken) _ r.1 in
+    let u = or_else-None (bad_policy_text columns p.using_text) _ t.1 in
+    let k = or_else-None (bad_policy_text columns p.check_text) _ u.1 in
+    let m = or_else-None (full 32 (tests.policies f p.rel)) None k.1 in
     record {
-      known = passed (is_some (named f.catalog p.rel)) unknown_relation a.0;
-      table = passed (is_some (table_columns f.catalog p.rel)) not_a_table b.0;
+      known = test_not-None (is_some (named f.catalog p.rel)) unknown_relation a.0;
+      table = test_not-None (is_some (table_columns f.catalog p.rel)) not_a_table b.0;
       roles = r.0;
-      free = test_passes (has_policy f p.rel p.name) name_taken t.0;
+      free = test-None (has_policy f p.rel p.name) name_taken t.0;
       using = u.0;
       check = k.0;
-      few = test_passes (nat_le 32 (tests.policies f p.rel)) too_many m.0;
+      few = test-None (nat_le 32 (tests.policies f p.rel)) too_many m.0;
     }
 
 -- ---- rights
 
 one_known : (f : Frame) (o : Option Name) → known_grantee f o ≡ None → is_grantee f.rights o ≡ true
 one_known f None h = refl
-one_known f (Some name) h = passed (is_some (role_of f.rights name)) unknown_role h
+one_known f (Some name) h = test_not-None (is_some (role_of f.rights name)) unknown_role h
 
 all_known : (f : Frame) (to : List (Option Name)) → first (map (known_grantee f) to) ≡ None → list_all (is_grantee f.rights) to ≡ true
 all_known f [] h = refl
 all_known f (o ∷ to) h =
-    let a = or_none (known_grantee f o) _ h in
+    let a = or_else-None (known_grantee f o) _ h in
     ap (λ b. b && list_all (is_grantee f.rights) to) (one_known f o a.0) ∙ all_known f to a.1
 
 policy_free : (a b c : Bool) → a ≡ true → b ≡ false → c ≡ false → (a && (not b && not c)) ≡ true
@@ -125,29 +125,29 @@ asked_for f p = let columns = columns_at f.catalog p.rel in record {
   check = condition_of_text columns p.check_text;
 }
 
-pub rights_after : (f : Frame) (n : ℕ) (act : Act) → frame_refusal f n act ≡ None → IsReached f.rights → IsReached (after_rights f act)
-rights_after f n (create_role name) r h = role_created f.rights name h
-rights_after f n (create_table name owner columns) r h = relation_added f.rights (role_number f.rights owner) h
-rights_after f n (create_view name owner query) r h = relation_added f.rights (role_number f.rights owner) h
-rights_after f n (grant rel ps to) r h = privileges_granted f.rights (rel_of f.catalog rel) ps (grantee_of f.rights to) h
-rights_after f n (revoke rel ps to) r h = privileges_revoked f.rights (rel_of f.catalog rel) ps (grantee_of f.rights to) h
-rights_after f n (grant_role role to) r h =
-    let a = or_none (administrator (actor f n)) _ (asked_by f n (grant_role role to) r) in
-    let b = or_none (known_role f role) _ a.1 in
-    let d = or_none (known_role f to) _ b.1 in
-    let e = or_none (tests.test (acts_as f.rights (role_number f.rights role) (role_number f.rights to)) membership_loop) None d.1 in
+pub IsReached-after_rights : (f : Frame) (n : ℕ) (act : Act) → frame_refusal f n act ≡ None → IsReached f.rights → IsReached (after_rights f act)
+IsReached-after_rights f n (create_role name) r h = role_created f.rights name h
+IsReached-after_rights f n (create_table name owner columns) r h = relation_added f.rights (role_number f.rights owner) h
+IsReached-after_rights f n (create_view name owner query) r h = relation_added f.rights (role_number f.rights owner) h
+IsReached-after_rights f n (grant rel ps to) r h = privileges_granted f.rights (rel_of f.catalog rel) ps (grantee_of f.rights to) h
+IsReached-after_rights f n (revoke rel ps to) r h = privileges_revoked f.rights (rel_of f.catalog rel) ps (grantee_of f.rights to) h
+IsReached-after_rights f n (grant_role role to) r h =
+    let a = or_else-None (administrator (actor f n)) _ (tests_by-None f n (grant_role role to) r) in
+    let b = or_else-None (known_role f role) _ a.1 in
+    let d = or_else-None (known_role f to) _ b.1 in
+    let e = or_else-None (tests.test (acts_as f.rights (role_number f.rights role) (role_number f.rights to)) membership_loop) None d.1 in
     role_granted f.rights (actor f n) role to
     (member_free (is_admin (actor f n)) (is_role f.rights role) (is_role f.rights to) (acts_as f.rights (role_number f.rights role) (role_number f.rights to))
-    (passed (is_admin (actor f n)) not_administrator a.0) (passed (is_role f.rights role) unknown_role b.0) (passed (is_role f.rights to) unknown_role d.0)
-    (test_passes (acts_as f.rights (role_number f.rights role) (role_number f.rights to)) membership_loop e.0)) h
-rights_after f n (revoke_role role to) r h = role_revoked f.rights (role_number f.rights role) (role_number f.rights to) h
-rights_after f n (row_security rel enable force) r h = security_switched f.rights (rel_of f.catalog rel) enable force h
-rights_after f n (create_policy p) r h =
-    let t = policy_tested f n p (asked_by f n (create_policy p) r) in
+    (test_not-None (is_admin (actor f n)) not_administrator a.0) (test_not-None (is_role f.rights role) unknown_role b.0) (test_not-None (is_role f.rights to) unknown_role d.0)
+    (test-None (acts_as f.rights (role_number f.rights role) (role_number f.rights to)) membership_loop e.0)) h
+IsReached-after_rights f n (revoke_role role to) r h = role_revoked f.rights (role_number f.rights role) (role_number f.rights to) h
+IsReached-after_rights f n (row_security rel enable force) r h = security_switched f.rights (rel_of f.catalog rel) enable force h
+IsReached-after_rights f n (create_policy p) r h =
+    let t = IsTested-create_policy f n p (tests_by-None f n (create_policy p) r) in
     policy_created f.rights (rel_of f.catalog p.rel) (asked_for f p)
     (policy_free (list_all (is_grantee f.rights) p.to) (has_policy f p.rel p.name) (nat_le 32 (tests.policies f p.rel)) (all_known f p.to t.roles) t.free t.few) h
-rights_after f n (drop_policy rel name) r h = policy_dropped f.rights (rel_of f.catalog rel) name h
-rights_after f n _ r h = h
+IsReached-after_rights f n (drop_policy rel name) r h = policy_dropped f.rights (rel_of f.catalog rel) name h
+IsReached-after_rights f n _ r h = h
 
 -- ---- each relation and its guard
 
@@ -173,9 +173,9 @@ pub record IsAt (n : ℕ) (es : List catalogs.CatalogEntry) (e : catalogs.Catalo
   pub rel : e.rel ≡ n + place
   pub there : slice_get es place ≡ Some e
 
-pub found_at : (n : ℕ) (es : List catalogs.CatalogEntry) (p : catalogs.CatalogEntry → Bool) (e : catalogs.CatalogEntry) → AreNumbered n es → find p es ≡ Some e → IsAt n es e
-found_at n [] p e a h = cc
-found_at n (x ∷ es) p e a h = by (p x) h (found_at (suc n) es p e a.1)
+pub IsAt-find : (n : ℕ) (es : List catalogs.CatalogEntry) (p : catalogs.CatalogEntry → Bool) (e : catalogs.CatalogEntry) → AreNumbered n es → find p es ≡ Some e → IsAt n es e
+IsAt-find n [] p e a h = cc
+IsAt-find n (x ∷ es) p e a h = by (p x) h (IsAt-find (suc n) es p e a.1)
   where
     first_place : n ≡ n + 0
     first_place = omega arith
@@ -230,11 +230,11 @@ has_tests ForAll a b p e u k h test.Insert c = either_there p.using p.check (u �
 has_tests ForAll a b p e u k h test.UpdateOld c = u ∙ h
 has_tests ForAll a b p e u k h test.UpdateNew c = either_there p.using p.check (u ∙ h)
 has_tests ForAll a b p e u k h test.Delete c = u ∙ h
-has_tests Select a b p e u k h test.Select c = u ∙ (both (is_some a) _ h).0
-has_tests Insert a b p e u k h test.Insert c = first_there p.using p.check (k ∙ (both _ (is_some b) h).1)
+has_tests Select a b p e u k h test.Select c = u ∙ (and-both_true (is_some a) _ h).0
+has_tests Insert a b p e u k h test.Insert c = first_there p.using p.check (k ∙ (and-both_true _ (is_some b) h).1)
 has_tests Update a b p e u k h test.UpdateOld c = u ∙ h
 has_tests Update a b p e u k h test.UpdateNew c = either_there p.using p.check (u ∙ h)
-has_tests Delete a b p e u k h test.Delete c = u ∙ (both (is_some a) _ h).0
+has_tests Delete a b p e u k h test.Delete c = u ∙ (and-both_true (is_some a) _ h).0
 has_tests _ a b p e u k h _ c = cc
 
 -- ---- what laws say of texts
@@ -242,7 +242,7 @@ has_tests _ a b p e u k h _ c = cc
 module _ (reads_pred : (bs : List ℕ) → IsUtf8 bs → IsOutcome IsPredText HasPredFault bs (read_pred bs)) where
   tree_fits : (columns : List Column) (t : PredTree) (c : Condition) → IsWellPred OfPolicy t → bound_pred columns t ≡ Ok c → Fits columns c
   unfolding bound_pred
-  tree_fits columns t c w h = (λ i. condition_fits (Some Text) (sym (same_kinds [] columns) i) c) ∙ bound_fits OfPolicy (under [] columns) t c w h
+  tree_fits columns t c w h = (λ i. condition_fits (Some Text) (sym (kinds_in-under [] columns) i) c) ∙ condition_fits-pred_bound OfPolicy (under [] columns) t c w h
 
   pred_well : (text : List ℕ) → IsUtf8 text → (t : PredTree) → read_pred text ≡ Ok t → IsWellPred OfPolicy t
   pred_well text u t e = preds_well text (λ (x : PredTree). x) (Ok t) (subst (IsOutcome IsPredText HasPredFault text) e (reads_pred text u))
@@ -269,7 +269,7 @@ module _ (reads_pred : (bs : List ℕ) → IsUtf8 bs → IsOutcome IsPredText Ha
   policy_fits : (f : Frame) (n : ℕ) (p : PolicyText) → is_well_policy p ≡ true → HasTexts (create_policy p) → IsTested f n p → FitsColumns (columns_at f.catalog p.rel) (policy_for f p)
   policy_fits f n p w x t =
       let columns = columns_at f.catalog p.rel in
-      let h = (both (list_all is_named_grantee p.to) _ (both (is_between 1 16 (length p.to)) _ (both (is_name p.name) _ (both (is_name p.rel) _ w).1).1).1).1 in
+      let h = (and-both_true (list_all is_named_grantee p.to) _ (and-both_true (is_between 1 16 (length p.to)) _ (and-both_true (is_name p.name) _ (and-both_true (is_name p.rel) _ w).1).1).1).1 in
       record {
         using = condition_is columns p.using_text x.0;
         check = condition_is columns p.check_text x.1;
@@ -286,7 +286,7 @@ module _ (reads_pred : (bs : List ℕ) → IsUtf8 bs → IsOutcome IsPredText Ha
       at : (e : catalogs.CatalogEntry) → named f.catalog p.rel ≡ Some e → (y : catalogs.CatalogEntry) → slice_get f.catalog (rel_of f.catalog p.rel) ≡ Some y → (g : Guard)
           → FitHeld y.held g.policies → FitHeld y.held (insert_policy (policy_for f p) g.policies)
       at e found y there g h =
-          let place = found_at 0 f.catalog (λ (z : catalogs.CatalogEntry). bytes_eq p.rel z.name) e m.relations found in
+          let place = IsAt-find 0 f.catalog (λ (z : catalogs.CatalogEntry). bytes_eq p.rel z.name) e m.relations found in
           let zero_more : 0 + place.place ≡ place.place = omega arith in
           let number : rel_of f.catalog p.rel ≡ place.place = ap (λ o. if_some o (next_rel f.catalog) (λ z. z.rel)) found ∙ place.rel ∙ zero_more in
           let both_there : Some y ≡ Some e = sym there ∙ ap (slice_get f.catalog) number ∙ place.there in
@@ -304,7 +304,7 @@ module _ (reads_pred : (bs : List ℕ) → IsUtf8 bs → IsOutcome IsPredText Ha
     reads_well text u q e = queries_well text (λ (x : QueryTree). x) (Ok q) (subst (IsOutcome IsQueryText HasQueryFault text) e (reads_query text u))
 
     pub fits_given : (catalog : List catalogs.CatalogEntry) (act : Act) → is_well_act act ≡ true → HasTexts act → IsSoundCatalog catalog → FitsCatalog catalog act
-    fits_given catalog (create_table name owner columns) w x k = (both (is_name owner) _ (both (is_name name) _ w).1).1
+    fits_given catalog (create_table name owner columns) w x k = (and-both_true (is_name owner) _ (and-both_true (is_name name) _ w).1).1
     fits_given catalog (create_view name owner query) w x k = λ a h. subst (λ r. IfOk r (λ b. IsSoundView catalog b)) h (bound_sound catalog query k (reads_well query x))
     fits_given catalog _ w x k = tt
 
@@ -319,14 +319,14 @@ module _ (reads_pred : (bs : List ℕ) → IsUtf8 bs → IsOutcome IsPredText Ha
         guarded_push f.catalog f.rights.guards (record { name = name; rel = next_rel f.catalog; held = Table columns }) (record { owner = role_number f.rights owner; enabled = false; forced = false; policies = [] })
         a (All-nil (FitsColumns columns))
     guarded_after f n (create_view name owner query) r w x m a =
-        let b = or_none (administrator (actor f n)) _ (asked_by f n (create_view name owner query) r) in
-        let d = or_none (known_role f owner) _ b.1 in
-        let e = or_none (free_relation f name) _ d.1 in
-        let t = or_none (bad_text (bound_query f.catalog query)) (first (full 64 (views f) ∷ [])) e.1 in
+        let b = or_else-None (administrator (actor f n)) _ (tests_by-None f n (create_view name owner query) r) in
+        let d = or_else-None (known_role f owner) _ b.1 in
+        let e = or_else-None (free_relation f name) _ d.1 in
+        let t = or_else-None (bad_text (bound_query f.catalog query)) (first (full 64 (views f) ∷ [])) e.1 in
         guarded_view f name (role_number f.rights owner) (bound_query f.catalog query) t.0 a
     guarded_after f n (row_security rel enable force) r w x m a =
         guarded_at (rel_of f.catalog rel) (λ g. record g { enabled = enable; forced = force }) f.catalog f.rights.guards (λ e there g h. h) a
-    guarded_after f n (create_policy p) r w x m a = guarded_by f n p w x (policy_tested f n p (asked_by f n (create_policy p) r)) m a
+    guarded_after f n (create_policy p) r w x m a = guarded_by f n p w x (IsTested-create_policy f n p (tests_by-None f n (create_policy p) r)) m a
     guarded_after f n (drop_policy rel name) r w x m a =
         guarded_at (rel_of f.catalog rel) (λ g. record g { policies = remove_policy name g.policies }) f.catalog f.rights.guards (λ e there g h. filtered_fit e.held name g.policies h) a
     guarded_after f n _ r w x m a = a
@@ -334,7 +334,7 @@ module _ (reads_pred : (bs : List ℕ) → IsUtf8 bs → IsOutcome IsPredText Ha
 -- ---- rights, whatever the commands
 
 outcome_rights : (s : State) (c : Command) (o : Option Refusal) → refusal s c.session c.act ≡ o → IsReached s.frame.rights → IsReached (outcome s c o).state.frame.rights
-outcome_rights s c None h k = rights_after s.frame c.session c.act (none_refuses s c.session c.act h).0 k
+outcome_rights s c None h k = IsReached-after_rights s.frame c.session c.act (refusal-None s c.session c.act h).0 k
 outcome_rights s c (Some x) h k = k
 
 pub step_rights : (s : State) (c : Command) → IsReached s.frame.rights → IsReached (step s c).state.frame.rights
@@ -344,5 +344,5 @@ run_rights : (s : State) (cs : List Command) → IsReached s.frame.rights → Is
 run_rights s [] k = k
 run_rights s (c ∷ cs) k = run_rights (step s c).state cs (step_rights s c k)
 
-pub runs_rights : (cap : ℕ) (cs : List Command) → IsReached (run (start cap) cs).state.frame.rights
-runs_rights cap cs = run_rights (start cap) cs at_start
+pub IsReached-run : (cap : ℕ) (cs : List Command) → IsReached (run (start cap) cs).state.frame.rights
+IsReached-run cap cs = run_rights (start cap) cs at_start

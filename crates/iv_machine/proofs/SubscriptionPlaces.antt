@@ -14,7 +14,7 @@ use Rattle.iv_machine.specs.State.{Frame, Session, Subscription, is_open, actor,
 use Rattle.iv_machine.specs.Refusing.{test, known_role, known_relation, first, frame_refusal, tests_by}
 use Rattle.iv_machine.specs.Changing.{with_held, view_held, opened_by, insert_subscription, after_frame}
 use Rattle.iv_machine.specs.Numbered.{AreNumbered, IsNumbered}
-use Rattle.iv_machine.proofs.OpenSubscriptions.{or_none, passed}
+use Rattle.iv_machine.proofs.OpenSubscriptions.{or_else-None, test_not-None}
 
 -- its session is open and its relation is known
 abbrev pub IsPlaced : Frame → Subscription → Type 0
@@ -35,9 +35,9 @@ module _ {X : Type 0} (p : X → Bool) where
   find_more xs ys h = ap is_some (find_kept xs ys h) ∙ h
 
 -- another session is found as before where session n is closed
-pub other_session : (m n : ℕ) (es : List Session) → (n == m) ≡ false → find (λ e. m == e.number) (filter (λ e. not (n == e.number)) es) ≡ find (λ e. m == e.number) es
-other_session m n [] d = refl
-other_session m n (e ∷ es) d = by (n == e.number) refl (other_session m n es d)
+pub find-other_session : (m n : ℕ) (es : List Session) → (n == m) ≡ false → find (λ e. m == e.number) (filter (λ e. not (n == e.number)) es) ≡ find (λ e. m == e.number) es
+find-other_session m n [] d = refl
+find-other_session m n (e ∷ es) d = by (n == e.number) refl (find-other_session m n es d)
   where
     apart : (n == e.number) ≡ true → (m == e.number) ≡ false
     apart h = grind (arith, nat_tests)
@@ -58,9 +58,9 @@ none_below n t (e ∷ es) a l =
     ap (λ b. cond b (Some e) (find (λ x. t == x.rel) es)) d ∙ none_below (suc n) t es a.1 (omega arith)
 
 -- a relation that is found has its number
-pub found_by_number : (n : ℕ) (es : List catalogs.CatalogEntry) (p : catalogs.CatalogEntry → Bool) (x : catalogs.CatalogEntry) → AreNumbered n es → find p es ≡ Some x → find (λ e. x.rel == e.rel) es ≡ Some x
-found_by_number n [] p x a h = cc
-found_by_number n (e ∷ es) p x a h = by (p e) h (found_by_number (suc n) es p x a.1)
+pub find-by_number : (n : ℕ) (es : List catalogs.CatalogEntry) (p : catalogs.CatalogEntry → Bool) (x : catalogs.CatalogEntry) → AreNumbered n es → find p es ≡ Some x → find (λ e. x.rel == e.rel) es ≡ Some x
+find-by_number n [] p x a h = cc
+find-by_number n (e ∷ es) p x a h = by (p e) h (find-by_number (suc n) es p x a.1)
   where
     later : (b : Bool) → (x.rel == e.rel) ≡ b → find (λ y. x.rel == y.rel) es ≡ Some x → cond b (Some e) (find (λ y. x.rel == y.rel) es) ≡ Some x
     later true k f =
@@ -79,9 +79,9 @@ some_of None h P go = cc
 some_of (Some x) h P go = go x refl
 
 -- the number of a known relation is found
-pub known_number : (f : Frame) (name : Name) → IsNumbered f → is_some (named f.catalog name) ≡ true → is_some (numbered f.catalog (rel_of f.catalog name)) ≡ true
-known_number f name a h = some_of (named f.catalog name) h (is_some (numbered f.catalog (rel_of f.catalog name)) ≡ true)
-    (λ x k. ap (λ o. is_some (numbered f.catalog (if_some o (next_rel f.catalog) (λ e. e.rel)))) k ∙ ap is_some (found_by_number 0 f.catalog (λ e. bytes_eq name e.name) x a.relations k))
+pub numbered-rel_of : (f : Frame) (name : Name) → IsNumbered f → is_some (named f.catalog name) ≡ true → is_some (numbered f.catalog (rel_of f.catalog name)) ≡ true
+numbered-rel_of f name a h = some_of (named f.catalog name) h (is_some (numbered f.catalog (rel_of f.catalog name)) ≡ true)
+    (λ x k. ap (λ o. is_some (numbered f.catalog (if_some o (next_rel f.catalog) (λ e. e.rel)))) k ∙ ap is_some (find-by_number 0 f.catalog (λ e. bytes_eq name e.name) x a.relations k))
 
 -- ---- lists of subscriptions
 
@@ -114,7 +114,7 @@ placed_begun : (f : Frame) (n : ℕ) (role : Name) (e : Subscription) → IsPlac
 placed_begun f n role e h = (find_more (λ (x : Session). e.session == x.number) f.sessions (record { number = n; role = role_number f.rights role } ∷ []) h.0, h.1)
 
 placed_finished : (f : Frame) (n : ℕ) (e : Subscription) → not (n == e.session) ≡ true → IsPlaced f e → IsPlaced (after_frame f n finish) e
-placed_finished f n e d h = (ap is_some (other_session e.session n f.sessions (is_false (n == e.session) d)) ∙ h.0, h.1)
+placed_finished f n e d h = (ap is_some (find-other_session e.session n f.sessions (is_false (n == e.session) d)) ∙ h.0, h.1)
   where
     is_false : (b : Bool) → not b ≡ true → b ≡ false
     is_false true k = sym k
@@ -126,18 +126,18 @@ more_known f name (Some held) k h = find_more (λ (x : catalogs.CatalogEntry). k
 
 placed_opened : (f : Frame) (n : ℕ) (rel : Name) → IsNumbered f → frame_refusal f n (subscribe rel) ≡ None → IsPlaced (after_frame f n (subscribe rel)) (opened_by f n rel)
 placed_opened f n rel a h =
-    let s = or_none (test (not (is_open f n)) no_session) (first (tests_by f n (actor f n) (subscribe rel))) h in
-    let r = or_none (known_relation f rel) _ s.1 in
-    (passed (is_open f n) no_session s.0, known_number f rel a (passed (is_some (named f.catalog rel)) unknown_relation r.0))
+    let s = or_else-None (test (not (is_open f n)) no_session) (first (tests_by f n (actor f n) (subscribe rel))) h in
+    let r = or_else-None (known_relation f rel) _ s.1 in
+    (test_not-None (is_open f n) no_session s.0, numbered-rel_of f rel a (test_not-None (is_some (named f.catalog rel)) unknown_relation r.0))
 
-pub placed_after : (f : Frame) (n : ℕ) (act : Act) → IsNumbered f → frame_refusal f n act ≡ None → AllByRecursion (IsPlaced f) f.subscriptions → AllByRecursion (IsPlaced (after_frame f n act)) (after_frame f n act).subscriptions
-placed_after f n (begin role) a r h = all_go (IsPlaced f) (IsPlaced (after_frame f n (begin role))) (placed_begun f n role) f.subscriptions h
-placed_after f n finish a r h = all_kept (IsPlaced f) (IsPlaced (after_frame f n finish)) (λ e. not (n == e.session)) (placed_finished f n) f.subscriptions h
-placed_after f n (create_table name owner columns) a r h = all_go (IsPlaced f) (IsPlaced (after_frame f n (create_table name owner columns))) (λ e k. (k.0, more_known f name (Some (Table columns)) e.rel k.1)) f.subscriptions h
-placed_after f n (create_view name owner query) a r h = all_go (IsPlaced f) (IsPlaced (after_frame f n (create_view name owner query))) (λ e k. (k.0, more_known f name (view_held (bound_query f.catalog query)) e.rel k.1)) f.subscriptions h
-placed_after f n (subscribe rel) a r h = all_inserted (IsPlaced (after_frame f n (subscribe rel))) (opened_by f n rel) f.subscriptions (placed_opened f n rel a r) h
-placed_after f n (unsubscribe k) a r h = all_kept (IsPlaced f) (IsPlaced f) (λ e. not (k == e.number)) (λ e b p. p) f.subscriptions h
-placed_after f n _ a r h = h
+pub IsPlaced-after_frame : (f : Frame) (n : ℕ) (act : Act) → IsNumbered f → frame_refusal f n act ≡ None → AllByRecursion (IsPlaced f) f.subscriptions → AllByRecursion (IsPlaced (after_frame f n act)) (after_frame f n act).subscriptions
+IsPlaced-after_frame f n (begin role) a r h = all_go (IsPlaced f) (IsPlaced (after_frame f n (begin role))) (placed_begun f n role) f.subscriptions h
+IsPlaced-after_frame f n finish a r h = all_kept (IsPlaced f) (IsPlaced (after_frame f n finish)) (λ e. not (n == e.session)) (placed_finished f n) f.subscriptions h
+IsPlaced-after_frame f n (create_table name owner columns) a r h = all_go (IsPlaced f) (IsPlaced (after_frame f n (create_table name owner columns))) (λ e k. (k.0, more_known f name (Some (Table columns)) e.rel k.1)) f.subscriptions h
+IsPlaced-after_frame f n (create_view name owner query) a r h = all_go (IsPlaced f) (IsPlaced (after_frame f n (create_view name owner query))) (λ e k. (k.0, more_known f name (view_held (bound_query f.catalog query)) e.rel k.1)) f.subscriptions h
+IsPlaced-after_frame f n (subscribe rel) a r h = all_inserted (IsPlaced (after_frame f n (subscribe rel))) (opened_by f n rel) f.subscriptions (placed_opened f n rel a r) h
+IsPlaced-after_frame f n (unsubscribe k) a r h = all_kept (IsPlaced f) (IsPlaced f) (λ e. not (k == e.number)) (λ e b p. p) f.subscriptions h
+IsPlaced-after_frame f n _ a r h = h
 
 -- ---- the roles of sessions
 
@@ -150,19 +150,19 @@ place_below true k m e h = grind (arith, nat_tests)
 place_below false k m e h = cc
 
 -- the number of a known role is below their number
-pub known_below : (f : Frame) (name : Name) → known_role f name ≡ None → role_number f.rights name < length f.rights.roles
-known_below f name h = let roles = f.rights.roles in
-    place_below (nat_lt (position_or_len (bytes_eq name) roles) (length roles)) (position_or_len (bytes_eq name) roles) (length roles) refl (passed (is_some (position (bytes_eq name) roles)) unknown_role h)
+pub lt-role_number : (f : Frame) (name : Name) → known_role f name ≡ None → role_number f.rights name < length f.rights.roles
+lt-role_number f name h = let roles = f.rights.roles in
+    place_below (nat_lt (position_or_len (bytes_eq name) roles) (length roles)) (position_or_len (bytes_eq name) roles) (length roles) refl (test_not-None (is_some (position (bytes_eq name) roles)) unknown_role h)
 
-pub roles_after : (f : Frame) (n : ℕ) (act : Act) → frame_refusal f n act ≡ None → AllByRecursion (HasRole f) f.sessions → AllByRecursion (HasRole (after_frame f n act)) (after_frame f n act).sessions
-roles_after f n (begin role) r h =
-    let a = or_none (test (is_open f n) session_in_use) _ r in
-    let b = or_none (known_role f role) _ a.1 in
-    all_pushed f.sessions h (known_below f role b.0)
+pub HasRole-after_frame : (f : Frame) (n : ℕ) (act : Act) → frame_refusal f n act ≡ None → AllByRecursion (HasRole f) f.sessions → AllByRecursion (HasRole (after_frame f n act)) (after_frame f n act).sessions
+HasRole-after_frame f n (begin role) r h =
+    let a = or_else-None (test (is_open f n) session_in_use) _ r in
+    let b = or_else-None (known_role f role) _ a.1 in
+    all_pushed f.sessions h (lt-role_number f role b.0)
   where
     all_pushed : (es : List Session) → AllByRecursion (HasRole f) es → role_number f.rights role < length f.rights.roles → AllByRecursion (HasRole f) (es ++ record { number = n; role = role_number f.rights role } ∷ [])
     all_pushed [] h k = (k, tt)
     all_pushed (e ∷ es) h k = (h.0, all_pushed es h.1 k)
-roles_after f n finish r h = all_kept (HasRole f) (HasRole f) (λ e. not (n == e.number)) (λ e b p. p) f.sessions h
-roles_after f n (create_role name) r h = all_go (HasRole f) (HasRole (after_frame f n (create_role name))) (λ e k. let more = length-append f.rights.roles (name ∷ []) in omega (arith, more, k)) f.sessions h
-roles_after f n _ r h = h
+HasRole-after_frame f n finish r h = all_kept (HasRole f) (HasRole f) (λ e. not (n == e.number)) (λ e b p. p) f.sessions h
+HasRole-after_frame f n (create_role name) r h = all_go (HasRole f) (HasRole (after_frame f n (create_role name))) (λ e k. let more = length-append f.rights.roles (name ∷ []) in omega (arith, more, k)) f.sessions h
+HasRole-after_frame f n _ r h = h

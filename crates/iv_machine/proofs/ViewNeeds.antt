@@ -15,7 +15,7 @@ use Rattle.iv_machine.specs.Numbered.{AreNumbered, IsNumbered}
 use Rattle.iv_machine.specs.Stored.{HasNeeds}
 use Rattle.iv_machine.proofs.BoundPlans.{HoldsOfBound, text_keeps}
 use Rattle.iv_machine.proofs.KnownNames.{place_within}
-use Rattle.iv_machine.proofs.StoredRights.{found_at}
+use Rattle.iv_machine.proofs.StoredRights.{IsAt-find}
 
 abbrev AreBelow : ℕ → List ℕ → Type 0
 AreBelow m ns = All (λ n. n < m) ns
@@ -41,7 +41,7 @@ once_below m before (n ∷ ns) h a = once_below m (if stands ◌==◌ n before t
 needs_keep : (catalog : List CatalogEntry) → AreNumbered 0 catalog → All (λ e. HasNeeds (length catalog) e.held) catalog → HoldsOfBound catalog (λ plan ns. AreBelow (length catalog) ns)
 needs_keep catalog relations known = record {
   entry = λ name e h.
-      let at = found_at 0 catalog (λ (z : CatalogEntry). bytes_eq name z.name) e relations h in
+      let at = IsAt-find 0 catalog (λ (z : CatalogEntry). bytes_eq name z.name) e relations h in
       let within = place_within catalog at.place e at.there in
       let place = at.rel in
       held_needs (length catalog) e.rel e.held (omega (arith, within, place)) (all_at (λ (x : CatalogEntry). HasNeeds (length catalog) x.held) catalog at.place e known at.there);
@@ -74,7 +74,7 @@ viewed : (f : Frame) (name : Name) (r : Result BoundQuery TextFault) → ((a : B
 viewed f name (Ok answer) go h = one_more f.catalog (record { name = name; rel = next_rel f.catalog; held = View answer }) h (go answer refl)
 viewed f name (Err fault) go h = h
 
-pub needs_after : (f : Frame) (act : Act) → IsNumbered f → HaveNeeds f.catalog → HaveNeeds (after_catalog f act)
-needs_after f (create_table name owner columns) m h = one_more f.catalog (record { name = name; rel = next_rel f.catalog; held = Table columns }) h tt
-needs_after f (create_view name owner query) m h = viewed f name (bound_query f.catalog query) (text_keeps f.catalog (λ plan ns. AreBelow (length f.catalog) ns) (needs_keep f.catalog m.relations h) query) h
-needs_after f _ m h = h
+pub HaveNeeds-after_catalog : (f : Frame) (act : Act) → IsNumbered f → HaveNeeds f.catalog → HaveNeeds (after_catalog f act)
+HaveNeeds-after_catalog f (create_table name owner columns) m h = one_more f.catalog (record { name = name; rel = next_rel f.catalog; held = Table columns }) h tt
+HaveNeeds-after_catalog f (create_view name owner query) m h = viewed f name (bound_query f.catalog query) (text_keeps f.catalog (λ plan ns. AreBelow (length f.catalog) ns) (needs_keep f.catalog m.relations h) query) h
+HaveNeeds-after_catalog f _ m h = h

@@ -10,8 +10,8 @@ use Rattle.std.proofs.lemmas.List.Sums.{prefix_len-le-length, prefix_len_passes}
 use Rattle.std.proofs.lemmas.Str.{IsCharBoundary-from_take, IsUtf8-from_ascii}
 
 -- bytes that pass a test which only ASCII passes
-pub boundary : (p : ℕ → Bool) → ((b : ℕ) → p b ≡ true → b < 128) → (bs : List ℕ) → IsUtf8 bs → IsCharBoundary bs (prefix_len p bs)
-boundary p low bs utf8 = IsCharBoundary-from_take bs (prefix_len p bs) utf8 (prefix_len-le-length p bs) (IsUtf8-from_ascii (take (prefix_len p bs) bs) ascii)
+pub IsCharBoundary-prefix_len : (p : ℕ → Bool) → ((b : ℕ) → p b ≡ true → b < 128) → (bs : List ℕ) → IsUtf8 bs → IsCharBoundary bs (prefix_len p bs)
+IsCharBoundary-prefix_len p low bs utf8 = IsCharBoundary-from_take bs (prefix_len p bs) utf8 (prefix_len-le-length p bs) (IsUtf8-from_ascii (take (prefix_len p bs) bs) ascii)
   where
     ascii : (i : ℕ) → get_or (take (prefix_len p bs) bs) i 0 < 128
     ascii i =
@@ -20,5 +20,5 @@ boundary p low bs utf8 = IsCharBoundary-from_take bs (prefix_len p bs) utf8 (pre
           | inr le ↦ rw (get_or_past (take (prefix_len p bs) bs) i 0 (omega (arith, length-take (prefix_len p bs) bs))) (omega arith)
         ]
 
-pub word_byte_low : (b : ℕ) → is_word_byte b ≡ true → b < 128
-word_byte_low b e = grind (arith, nat_tests)
+pub lt-is_word_byte : (b : ℕ) → is_word_byte b ≡ true → b < 128
+lt-is_word_byte b e = grind (arith, nat_tests)

@@ -6,7 +6,7 @@ use Rattle.iv_rows.specs.Options.{if_some}
 use Rattle.iv_query.specs.Rules.{Many, many_end, many_more, ManyFault, many_first, many_later}
 use Rattle.iv_query.specs.Reading.{◌>>=◌, Read, many_at}
 use Rattle.iv_query.proofs.Loop.{is_last}
-use Rattle.iv_query.proofs.Steps.{Outcome, good, bad, bind}
+use Rattle.iv_query.proofs.Steps.{Outcome, good, bad, Outcome-bind}
 
 -- what is known of the items
 pub record Itemwise {A B : Type 0} (sign : List Tok → Option (List Tok)) (Item : A → List Tok → B → List Tok → Type 0) (ItemFault : A → List Tok → Fault → Type 0) (item : A → List Tok → Read B) : Type 0 where
@@ -29,7 +29,7 @@ module _ {A B : Type 0} {sign : List Tok → Option (List Tok)} {Item : A → Li
     where
       go : (r : Option (List Tok)) → sign ts ≡ r → ((b : B) (vs : List Tok) → length vs ≤ n → Outcome (Many sign Item join (join a b) vs) (ManyFault sign Item ItemFault join (join a b) vs) (many_at sign item join n (join a b) vs)) → Outcome (Many sign Item join a ts) (ManyFault sign Item ItemFault join a ts) (if_some r (Ok (a, ts)) (λ us. item a us >>= λ x. many_at sign item join n (join a x.0) x.1))
       go None s rest = good (many_end s)
-      go (Some us) s rest = bind (item a us) _ (known.sound a ts us s) (λ x h. let lt = known.shorter a x.0 ts us x.1 s h in more a x.0 ts us x.1 _ s h (rest x.0 x.1 (omega arith))) (λ f h. many_first s h)
+      go (Some us) s rest = Outcome-bind (item a us) _ (known.sound a ts us s) (λ x h. let lt = known.shorter a x.0 ts us x.1 s h in more a x.0 ts us x.1 _ s h (rest x.0 x.1 (omega arith))) (λ f h. many_first s h)
 
   pub many_agrees : {a t : A} {ts us : List Tok} → Many sign Item join a ts t us → (n : ℕ) → length ts ≤ n → many_at sign item join n a ts ≡ Ok (t, us)
   unfolding many_at

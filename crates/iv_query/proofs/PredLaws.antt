@@ -11,24 +11,24 @@ use Rattle.iv_query.specs.Trees.{OperandTree, OfColumn, Literal, CurrentUser, Pr
 use Rattle.iv_query.specs.Grammar.{IsOperand, column_is, name_is, number_is, text_is, true_is, false_is, user_is, stands_alone, Part, pred, conj, term, ors, ands, Reads, pred_is, ors_end, ors_more, conj_is, ands_end, ands_more, not_is, group_is, holds_is, fails_is, comparison_is, Faults, pred_first, pred_later, ors_first, ors_later, conj_first, conj_later, ands_first, ands_later, not_deep, not_in, group_deep, group_in, group_left, no_left, no_op, no_right, plain, dotted}
 use Rattle.iv_query.specs.Reading.{◌>>=◌, Read, need, operand_at, truth_of, comparison_at, many_at, conj_at, pred_at, term_at}
 use Rattle.iv_query.proofs.Loop.{is_last}
-use Rattle.iv_query.proofs.Steps.{Front, there, absent, front, FrontOp, op_there, op_absent, front_op, Outcome, good, bad, bind}
+use Rattle.iv_query.proofs.Steps.{Front, there, absent, Front-after_symbol, FrontOp, op_there, op_absent, FrontOp-after_op, Outcome, good, bad, Outcome-bind}
 use Rattle.iv_query.proofs.TextLaws.{Agreement}
-use Rattle.iv_query.proofs.PartLaws.{operand_judged, operand_agrees, operand_fault_agrees, operand_consumes}
+use Rattle.iv_query.proofs.PartLaws.{Outcome-operand_at, operand_at-IsOperand, operand_at-OperandFault, le-IsOperand}
 
 -- ---- no part gives tokens back
 
-pub consumes : {d : Dialect} {s : Part} {room : ℕ} {ts us : List Tok} {t : PredTree} → Reads d s room ts t us → length us ≤ length ts
-consumes (pred_is h k) = omega (arith, consumes h, consumes k)
-consumes (ors_end e) = omega arith
-consumes (ors_more h k) = omega (arith, consumes h, consumes k)
-consumes (conj_is h k) = omega (arith, consumes h, consumes k)
-consumes (ands_end e) = omega arith
-consumes (ands_more h k) = omega (arith, consumes h, consumes k)
-consumes (not_is h) = omega (arith, consumes h)
-consumes (group_is h) = omega (arith, consumes h)
-consumes (holds_is e) = omega arith
-consumes (fails_is e) = omega arith
-consumes (comparison_is h e k) = omega (arith, operand_consumes h, operand_consumes k)
+pub le-Reads : {d : Dialect} {s : Part} {room : ℕ} {ts us : List Tok} {t : PredTree} → Reads d s room ts t us → length us ≤ length ts
+le-Reads (pred_is h k) = omega (arith, le-Reads h, le-Reads k)
+le-Reads (ors_end e) = omega arith
+le-Reads (ors_more h k) = omega (arith, le-Reads h, le-Reads k)
+le-Reads (conj_is h k) = omega (arith, le-Reads h, le-Reads k)
+le-Reads (ands_end e) = omega arith
+le-Reads (ands_more h k) = omega (arith, le-Reads h, le-Reads k)
+le-Reads (not_is h) = omega (arith, le-Reads h)
+le-Reads (group_is h) = omega (arith, le-Reads h)
+le-Reads (holds_is e) = omega arith
+le-Reads (fails_is e) = omega arith
+le-Reads (comparison_is h e k) = omega (arith, le-IsOperand h, le-IsOperand k)
 
 -- ---- what the function gives is in the grammar
 
@@ -40,7 +40,7 @@ module _ (stop : Fault) (d : Dialect) (room : ℕ) (item : List Tok → Read Pre
   unfolding many_at after_symbol
   ands_judged sound zero left [] le = good (ands_end refl)
   ands_judged sound zero left (t ∷ ts) le = absurd (omega arith)
-  ands_judged sound (suc n) left ts le = go ts le (after_symbol symbol.And ts) (front symbol.And ts) (λ b vs below. ands_judged sound n (Both left b) vs below)
+  ands_judged sound (suc n) left ts le = go ts le (after_symbol symbol.And ts) (Front-after_symbol symbol.And ts) (λ b vs below. ands_judged sound n (Both left b) vs below)
     where
       more : (p : ℕ) (us vs : List Tok) (b : PredTree) (r : Read PredTree) → Reads d term room us b vs → Judged stop d (ands (Both left b)) room vs r → Judged stop d (ands left) room (Fixed symbol.And p ∷ us) r
       more p us vs b (Ok x) h (good k) = good (ands_more h k)
@@ -48,11 +48,11 @@ module _ (stop : Fault) (d : Dialect) (room : ℕ) (item : List Tok → Read Pre
 
       go : (ts : List Tok) → length ts ≤ suc n → (r : Option (List Tok)) → Front symbol.And ts r → ((b : PredTree) (vs : List Tok) → length vs ≤ n → Judged stop d (ands (Both left b)) room vs (many_at (after_symbol symbol.And) (λ _. item) Both n (Both left b) vs)) → Judged stop d (ands left) room ts (if_some r (Ok (left, ts)) (λ us. item us >>= λ x. many_at (after_symbol symbol.And) (λ _. item) Both n (Both left x.0) x.1))
       go ts le None (absent e) rest = good (ands_end e)
-      go _ le (Some us) (there {p = p}) rest = bind (item us) _ (sound us) (λ x h. more p us x.1 x.0 _ h (rest x.0 x.1 (omega (arith, consumes h)))) (λ f h. ands_first h)
+      go _ le (Some us) (there {p = p}) rest = Outcome-bind (item us) _ (sound us) (λ x h. more p us x.1 x.0 _ h (rest x.0 x.1 (omega (arith, le-Reads h)))) (λ f h. ands_first h)
 
   conj_judged : (sound : (ts : List Tok) → Judged stop d term room ts (item ts)) (ts : List Tok) → Judged stop d conj room ts (conj_at item ts)
   unfolding conj_at
-  conj_judged sound ts = bind (item ts) _ (sound ts) (λ x h. rest x.0 x.1 h _ (ands_judged sound (length x.1) x.0 x.1 (omega arith))) (λ f h. conj_first h)
+  conj_judged sound ts = Outcome-bind (item ts) _ (sound ts) (λ x h. rest x.0 x.1 h _ (ands_judged sound (length x.1) x.0 x.1 (omega arith))) (λ f h. conj_first h)
     where
       rest : (a : PredTree) (us : List Tok) → Reads d term room ts a us → (r : Read PredTree) → Judged stop d (ands a) room us r → Judged stop d conj room ts r
       rest a us h (Ok x) (good k) = good (conj_is h k)
@@ -62,7 +62,7 @@ module _ (stop : Fault) (d : Dialect) (room : ℕ) (item : List Tok → Read Pre
   unfolding many_at after_symbol
   ors_judged sound zero left [] le = good (ors_end refl)
   ors_judged sound zero left (t ∷ ts) le = absurd (omega arith)
-  ors_judged sound (suc n) left ts le = go ts le (after_symbol symbol.Or ts) (front symbol.Or ts) (λ b vs below. ors_judged sound n (Either left b) vs below)
+  ors_judged sound (suc n) left ts le = go ts le (after_symbol symbol.Or ts) (Front-after_symbol symbol.Or ts) (λ b vs below. ors_judged sound n (Either left b) vs below)
     where
       more : (p : ℕ) (us vs : List Tok) (b : PredTree) (r : Read PredTree) → Reads d conj room us b vs → Judged stop d (ors (Either left b)) room vs r → Judged stop d (ors left) room (Fixed symbol.Or p ∷ us) r
       more p us vs b (Ok x) h (good k) = good (ors_more h k)
@@ -70,11 +70,11 @@ module _ (stop : Fault) (d : Dialect) (room : ℕ) (item : List Tok → Read Pre
 
       go : (ts : List Tok) → length ts ≤ suc n → (r : Option (List Tok)) → Front symbol.Or ts r → ((b : PredTree) (vs : List Tok) → length vs ≤ n → Judged stop d (ors (Either left b)) room vs (many_at (after_symbol symbol.Or) (λ _. item) Either n (Either left b) vs)) → Judged stop d (ors left) room ts (if_some r (Ok (left, ts)) (λ us. item us >>= λ x. many_at (after_symbol symbol.Or) (λ _. item) Either n (Either left x.0) x.1))
       go ts le None (absent e) rest = good (ors_end e)
-      go _ le (Some us) (there {p = p}) rest = bind (item us) _ (sound us) (λ x h. more p us x.1 x.0 _ h (rest x.0 x.1 (omega (arith, consumes h)))) (λ f h. ors_first h)
+      go _ le (Some us) (there {p = p}) rest = Outcome-bind (item us) _ (sound us) (λ x h. more p us x.1 x.0 _ h (rest x.0 x.1 (omega (arith, le-Reads h)))) (λ f h. ors_first h)
 
 pred_judged : (stop : Fault) (d : Dialect) (room : ℕ) (item : List Tok → Read PredTree) (sound : (ts : List Tok) → Judged stop d term room ts (item ts)) (ts : List Tok) → Judged stop d pred room ts (pred_at item ts)
 unfolding pred_at
-pred_judged stop d room item sound ts = bind (conj_at item ts) _ (conj_judged stop d room item sound ts) (λ x h. rest x.0 x.1 h _ (ors_judged stop d room (conj_at item) (conj_judged stop d room item sound) (length x.1) x.0 x.1 (omega arith))) (λ f h. pred_first h)
+pred_judged stop d room item sound ts = Outcome-bind (conj_at item ts) _ (conj_judged stop d room item sound ts) (λ x h. rest x.0 x.1 h _ (ors_judged stop d room (conj_at item) (conj_judged stop d room item sound) (length x.1) x.0 x.1 (omega arith))) (λ f h. pred_first h)
   where
     rest : (a : PredTree) (us : List Tok) → Reads d conj room ts a us → (r : Read PredTree) → Judged stop d (ors a) room us r → Judged stop d pred room ts r
     rest a us h (Ok x) (good k) = good (pred_is h k)
@@ -92,15 +92,15 @@ alone_judged stop d room _ _ us user_is e = bad (no_op user_is refl e)
 
 comparison_judged : (stop : Fault) (d : Dialect) (room : ℕ) (ts : List Tok) → after_symbol symbol.Not ts ≡ None → after_symbol symbol.Open ts ≡ None → Judged stop d term room ts (comparison_at d stop ts)
 unfolding comparison_at
-comparison_judged stop d room ts n o = bind (operand_at d stop ts) _ (operand_judged stop d ts) (λ x h. behind x.0 x.1 h (after_op x.1) (front_op x.1)) (λ f h. no_left n o h)
+comparison_judged stop d room ts n o = Outcome-bind (operand_at d stop ts) _ (Outcome-operand_at stop d ts) (λ x h. behind x.0 x.1 h (after_op x.1) (FrontOp-after_op x.1)) (λ f h. no_left n o h)
   where
     behind : (x : OperandTree) (us : List Tok) → IsOperand d ts x us → (r : Option (Op × List Tok)) → FrontOp us r → Judged stop d term room ts (if_some r (if_some (truth_of x) (Err (unexpected stop us)) (λ b. Ok (Constant b, us))) (λ o. operand_at d stop o.1 >>= λ y. Ok (Comparison x o.0 y.0, y.1)))
     behind x us h None (op_absent e) = alone_judged stop d room x ts us h e
-    behind x _ h (Some o) (op_there e) = bind (operand_at d stop o.1) _ (operand_judged stop d o.1) (λ y k. good (comparison_is h e k)) (λ f k. no_right h e k)
+    behind x _ h (Some o) (op_there e) = Outcome-bind (operand_at d stop o.1) _ (Outcome-operand_at stop d o.1) (λ y k. good (comparison_is h e k)) (λ f k. no_right h e k)
 
 close_judged : (stop : Fault) (d : Dialect) (room p : ℕ) (ts us : List Tok) (a : PredTree) → Reads d pred room ts a us → Judged stop d term (suc room) (Fixed symbol.Open p ∷ ts) (need symbol.Close stop us >>= λ vs. Ok (a, vs))
 unfolding need
-close_judged stop d room p ts us a h = go us h (after_symbol symbol.Close us) (front symbol.Close us)
+close_judged stop d room p ts us a h = go us h (after_symbol symbol.Close us) (Front-after_symbol symbol.Close us)
   where
     go : (us : List Tok) → Reads d pred room ts a us → (r : Option (List Tok)) → Front symbol.Close us r → Judged stop d term (suc room) (Fixed symbol.Open p ∷ ts) (◌>>=◌ {A = List Tok} {B = PredTree × List Tok} (if_some r (Err (unexpected stop us)) Ok) (λ vs. Ok (a, vs)))
     go us h None (absent e) = bad (group_left h e)
@@ -108,19 +108,19 @@ close_judged stop d room p ts us a h = go us h (after_symbol symbol.Close us) (f
 
 term_judged : (stop : Fault) (d : Dialect) (room : ℕ) (ts : List Tok) → Judged stop d term room ts (term_at d stop room ts)
 unfolding term_at
-term_judged stop d zero ts = go ts (after_symbol symbol.Not ts) (after_symbol symbol.Open ts) (front symbol.Not ts) (front symbol.Open ts)
+term_judged stop d zero ts = go ts (after_symbol symbol.Not ts) (after_symbol symbol.Open ts) (Front-after_symbol symbol.Not ts) (Front-after_symbol symbol.Open ts)
   where
     go : (ts : List Tok) (n o : Option (List Tok)) → Front symbol.Not ts n → Front symbol.Open ts o → Judged stop d term zero ts (if_some n (if_some o (comparison_at d stop ts) (λ us. Err (deep (first_place stop ts)))) (λ us. Err (deep (first_place stop ts))))
     go ts None None (absent e) (absent f) = comparison_judged stop d zero ts e f
     go _ None (Some us) e there = bad group_deep
     go _ (Some us) o there f = bad not_deep
-term_judged stop d (suc room) ts = go ts (after_symbol symbol.Not ts) (after_symbol symbol.Open ts) (front symbol.Not ts) (front symbol.Open ts) (λ us. term_judged stop d room us)
+term_judged stop d (suc room) ts = go ts (after_symbol symbol.Not ts) (after_symbol symbol.Open ts) (Front-after_symbol symbol.Not ts) (Front-after_symbol symbol.Open ts) (λ us. term_judged stop d room us)
   where
     go : (ts : List Tok) (n o : Option (List Tok)) → Front symbol.Not ts n → Front symbol.Open ts o → ((us : List Tok) → Judged stop d term room us (term_at d stop room us))
         → Judged stop d term (suc room) ts (if_some n (if_some o (comparison_at d stop ts) (λ us. pred_at (term_at d stop room) us >>= λ x. need symbol.Close stop x.1 >>= λ vs. Ok (x.0, vs))) (λ us. term_at d stop room us >>= λ x. Ok (Negation x.0, x.1)))
     go ts None None (absent e) (absent f) sound = comparison_judged stop d (suc room) ts e f
-    go _ None (Some us) e (there {p = p}) sound = bind (pred_at (term_at d stop room) us) _ (pred_judged stop d room (term_at d stop room) sound us) (λ x h. close_judged stop d room p us x.1 x.0 h) (λ f h. group_in h)
-    go _ (Some us) o there f sound = bind (term_at d stop room us) _ (sound us) (λ x h. good (not_is h)) (λ f h. not_in h)
+    go _ None (Some us) e (there {p = p}) sound = Outcome-bind (pred_at (term_at d stop room) us) _ (pred_judged stop d room (term_at d stop room) sound us) (λ x h. close_judged stop d room p us x.1 x.0 h) (λ f h. group_in h)
+    go _ (Some us) o there f sound = Outcome-bind (term_at d stop room us) _ (sound us) (λ x h. good (not_is h)) (λ f h. not_in h)
 
 -- ---- what is in the grammar is what the function gives
 
@@ -187,37 +187,37 @@ pub reads_agree : {d : Dialect} {s : Part} {room : ℕ} {ts us : List Tok} {t : 
 unfolding after_symbol term_at conj_at pred_at comparison_at need operand_at
 reads_agree stop (pred_is h k) = rw (reads_agree stop h) (reads_agree stop k _ (omega arith))
 reads_agree stop (ors_end e) = λ n le. is_last _ _ _ n _ _ e
-reads_agree stop (ors_more h k) = λ n le. step _ _ _ n _ _ _ _ _ _ refl (reads_agree stop h) (consumes h) le (reads_agree stop k)
+reads_agree stop (ors_more h k) = λ n le. step _ _ _ n _ _ _ _ _ _ refl (reads_agree stop h) (le-Reads h) le (reads_agree stop k)
 reads_agree stop (conj_is h k) = rw (reads_agree stop h) (reads_agree stop k _ (omega arith))
 reads_agree stop (ands_end e) = λ n le. is_last _ _ _ n _ _ e
-reads_agree stop (ands_more h k) = λ n le. step _ _ _ n _ _ _ _ _ _ refl (reads_agree stop h) (consumes h) le (reads_agree stop k)
+reads_agree stop (ands_more h k) = λ n le. step _ _ _ n _ _ _ _ _ _ refl (reads_agree stop h) (le-Reads h) le (reads_agree stop k)
 reads_agree stop (not_is h) = rw (reads_agree stop h) refl
 reads_agree stop (group_is h) = rw (reads_agree stop h) refl
 reads_agree {d = d} {room = room} stop (holds_is {p = p} {ts = ts} e) = begun stop d room (true_is {d = d} {p = p} {ts = ts}) ∙ rw e refl
 reads_agree {d = d} {room = room} stop (fails_is {p = p} {ts = ts} e) = begun stop d room (false_is {d = d} {p = p} {ts = ts}) ∙ rw e refl
-reads_agree {d = d} {room = room} stop (comparison_is h e k) = begun stop d room h ∙ rw (operand_agrees stop h, e, operand_agrees stop k) refl
+reads_agree {d = d} {room = room} stop (comparison_is h e k) = begun stop d room h ∙ rw (operand_at-IsOperand stop h, e, operand_at-IsOperand stop k) refl
 
 pub faults_agree : (stop : Fault) {d : Dialect} {s : Part} {room : ℕ} {ts : List Tok} {f : Fault} → Faults stop d s room ts f → Agrees stop d s room ts (Err f)
 unfolding after_symbol term_at conj_at pred_at comparison_at need
 faults_agree stop (pred_first h) = rw (faults_agree stop h) refl
 faults_agree stop (pred_later h k) = rw (reads_agree stop h) (faults_agree stop k _ (omega arith))
 faults_agree stop (ors_first h) = λ n le. step_fails _ _ _ n _ _ _ _ refl (faults_agree stop h) le
-faults_agree stop (ors_later h k) = λ n le. step _ _ _ n _ _ _ _ _ _ refl (reads_agree stop h) (consumes h) le (faults_agree stop k)
+faults_agree stop (ors_later h k) = λ n le. step _ _ _ n _ _ _ _ _ _ refl (reads_agree stop h) (le-Reads h) le (faults_agree stop k)
 faults_agree stop (conj_first h) = rw (faults_agree stop h) refl
 faults_agree stop (conj_later h k) = rw (reads_agree stop h) (faults_agree stop k _ (omega arith))
 faults_agree stop (ands_first h) = λ n le. step_fails _ _ _ n _ _ _ _ refl (faults_agree stop h) le
-faults_agree stop (ands_later h k) = λ n le. step _ _ _ n _ _ _ _ _ _ refl (reads_agree stop h) (consumes h) le (faults_agree stop k)
+faults_agree stop (ands_later h k) = λ n le. step _ _ _ n _ _ _ _ _ _ refl (reads_agree stop h) (le-Reads h) le (faults_agree stop k)
 faults_agree stop not_deep = refl
 faults_agree stop (not_in h) = rw (faults_agree stop h) refl
 faults_agree stop group_deep = refl
 faults_agree stop (group_in h) = rw (faults_agree stop h) refl
 faults_agree stop (group_left {us = us} h e) = rw (reads_agree stop h, e) refl
-faults_agree stop {d = d} {room = room} (no_left {ts = ts} n o h) = compared stop d room ts n o ∙ rw (operand_fault_agrees stop h) refl
-faults_agree stop {d = d} {room = room} (no_op {x = x} h e f) = begun stop d room h ∙ rw (operand_agrees stop h, f, not_alone x e) refl
-faults_agree stop {d = d} {room = room} (no_right h e k) = begun stop d room h ∙ rw (operand_agrees stop h, e, operand_fault_agrees stop k) refl
+faults_agree stop {d = d} {room = room} (no_left {ts = ts} n o h) = compared stop d room ts n o ∙ rw (operand_at-OperandFault stop h) refl
+faults_agree stop {d = d} {room = room} (no_op {x = x} h e f) = begun stop d room h ∙ rw (operand_at-IsOperand stop h, f, not_alone x e) refl
+faults_agree stop {d = d} {room = room} (no_right h e k) = begun stop d room h ∙ rw (operand_at-IsOperand stop h, e, operand_at-OperandFault stop k) refl
 
-pub pred_agreement : (d : Dialect) → Agreement (Reads d pred 32) (λ stop. Faults stop d pred 32) (λ stop. pred_at (term_at d stop 32))
-pred_agreement d = record {
+pub Agreement-pred_at : (d : Dialect) → Agreement (Reads d pred 32) (λ stop. Faults stop d pred 32) (λ stop. pred_at (term_at d stop 32))
+Agreement-pred_at d = record {
   judged = λ stop ts. pred_judged stop d 32 (term_at d stop 32) (term_judged stop d 32) ts;
   reads = λ stop h. reads_agree stop h;
   faults = λ stop h. faults_agree stop h;

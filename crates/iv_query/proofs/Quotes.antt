@@ -10,8 +10,8 @@ use Rattle.std.proofs.lemmas.Str.{IsUtf8-drop, IsCharBoundary-end, IsCharBoundar
 use Rattle.iv_query.specs.Lexing.{is_plain, after_quote, onto, quoted}
 
 -- where the first quote stands
-pub plain_boundary : (bs : List ℕ) → IsUtf8 bs → IsCharBoundary bs (prefix_len is_plain bs)
-plain_boundary bs u =
+pub IsCharBoundary-plain : (bs : List ℕ) → IsUtf8 bs → IsCharBoundary bs (prefix_len is_plain bs)
+IsCharBoundary-plain bs u =
     elim (cases_lt (prefix_len is_plain bs) (length bs)) [
       | inl lt ↦
           let stops = prefix_len_stops is_plain bs 0 lt in
@@ -23,7 +23,7 @@ plain_boundary bs u =
     ]
 
 pub plain_rest : (bs : List ℕ) → IsUtf8 bs → IsUtf8 (drop (prefix_len is_plain bs) bs)
-plain_rest bs u = IsUtf8-drop bs (prefix_len is_plain bs) u (plain_boundary bs u)
+plain_rest bs u = IsUtf8-drop bs (prefix_len is_plain bs) u (IsCharBoundary-plain bs u)
 
 -- a quote that comes first
 pub data Quote : List ℕ → Option (List ℕ) → Type 0 where
@@ -126,8 +126,8 @@ no_quote (b ∷ us) n e = go (b == 39) refl e n
     go false q f m = absurd (omega arith)
 
 -- no quote comes
-pub joins_none : (text value rest plain behind : List ℕ) → plain ≡ take (prefix_len is_plain rest) rest → behind ≡ drop (prefix_len is_plain rest) rest → after_quote behind ≡ None → Joins text value rest → quoted text ≡ None
-joins_none text value rest plain behind p b e j =
+pub quoted-unclosed : (text value rest plain behind : List ℕ) → plain ≡ take (prefix_len is_plain rest) rest → behind ≡ drop (prefix_len is_plain rest) rest → after_quote behind ≡ None → Joins text value rest → quoted text ≡ None
+quoted-unclosed text value rest plain behind p b e j =
     let n : prefix_len is_plain behind ≡ 0 = rw b (drop_plain rest) in
     after_plain text value rest plain behind p b j ∙ ap (onto (value ++ plain)) (no_quote behind n e)
 
@@ -135,20 +135,20 @@ behind_is : {behind us : List ℕ} → Quote behind (Some us) → behind ≡ 39 
 behind_is comes = refl
 
 -- one quote comes
-pub joins_end : (text value rest plain behind us : List ℕ) → plain ≡ take (prefix_len is_plain rest) rest → behind ≡ drop (prefix_len is_plain rest) rest → after_quote behind ≡ Some us → after_quote us ≡ None → Joins text value rest → quoted text ≡ Some (value ++ plain, us)
-joins_end text value rest plain behind us p b e f j =
+pub quoted-closed : (text value rest plain behind us : List ℕ) → plain ≡ take (prefix_len is_plain rest) rest → behind ≡ drop (prefix_len is_plain rest) rest → after_quote behind ≡ Some us → after_quote us ≡ None → Joins text value rest → quoted text ≡ Some (value ++ plain, us)
+quoted-closed text value rest plain behind us p b e f j =
     let q : behind ≡ 39 ∷ us = behind_is (subst (Quote behind) e (quote behind)) in
     after_plain text value rest plain behind p b j ∙ ap (onto (value ++ plain)) (ap quoted q ∙ last_quote us f) ∙ ap (λ (v : List ℕ). Some (v, us)) (append-nil (value ++ plain))
 
 -- two quotes come
-pub joins_more : (text value rest plain behind us vs : List ℕ) → plain ≡ take (prefix_len is_plain rest) rest → behind ≡ drop (prefix_len is_plain rest) rest → after_quote behind ≡ Some us → after_quote us ≡ Some vs → Joins text value rest → Joins text ((value ++ plain) ++ 39 ∷ []) vs
-joins_more text value rest plain behind us vs p b e f j =
+pub Joins-more : (text value rest plain behind us vs : List ℕ) → plain ≡ take (prefix_len is_plain rest) rest → behind ≡ drop (prefix_len is_plain rest) rest → after_quote behind ≡ Some us → after_quote us ≡ Some vs → Joins text value rest → Joins text ((value ++ plain) ++ 39 ∷ []) vs
+Joins-more text value rest plain behind us vs p b e f j =
     let q : behind ≡ 39 ∷ us = behind_is (subst (Quote behind) e (quote behind)) in
     let r : us ≡ 39 ∷ vs = behind_is (subst (Quote us) f (quote us)) in
     record { whole = after_plain text value rest plain behind p b j ∙ ap (onto (value ++ plain)) (ap quoted (q ∙ ap (λ (x : List ℕ). 39 ∷ x) r) ∙ two_quotes vs) ∙ onto-onto (value ++ plain) (39 ∷ []) (quoted vs) }
 
-pub next_text : (rest behind us vs : List ℕ) → behind ≡ drop (prefix_len is_plain rest) rest → after_quote behind ≡ Some us → after_quote us ≡ Some vs → IsUtf8 rest → IsUtf8 vs
-next_text rest behind us vs b e f u = after_quote_text us vs f (after_quote_text behind us e (rw b (plain_rest rest u)))
+pub IsUtf8-after_quote : (rest behind us vs : List ℕ) → behind ≡ drop (prefix_len is_plain rest) rest → after_quote behind ≡ Some us → after_quote us ≡ Some vs → IsUtf8 rest → IsUtf8 vs
+IsUtf8-after_quote rest behind us vs b e f u = after_quote_text us vs f (after_quote_text behind us e (rw b (plain_rest rest u)))
 
 pub next_shorter : (rest behind us vs : List ℕ) → behind ≡ drop (prefix_len is_plain rest) rest → after_quote behind ≡ Some us → after_quote us ≡ Some vs → length vs < length rest
 next_shorter rest behind us vs b e f =
@@ -199,5 +199,5 @@ module _ (whole : List ℕ) (u : IsUtf8 whole) where
       first true false q h k = (omega arith, behind_quote i b (c ∷ bs) e q)
       first false s q h k = onto_closed (b ∷ []) _ _ (quoted (c ∷ bs)) (omega arith) k
 
-pub quoted_closed : (bs : List ℕ) → IsUtf8 bs → Closed (length bs) (quoted bs)
-quoted_closed bs u = quoted_from bs u 0 bs refl
+pub Closed-quoted : (bs : List ℕ) → IsUtf8 bs → Closed (length bs) (quoted bs)
+Closed-quoted bs u = quoted_from bs u 0 bs refl

@@ -15,7 +15,7 @@ use Rattle.std.proofs.lemmas.Bool.Decides.{nat_tests}
 use Rattle.std.specs.Prelude.{nat_lt}
 use Rattle.std.specs.Str.{IsUtf8}
 use Rattle.iv_query.specs.TextReading.{Lexed, lexed, read_tokens, read_text}
-use Rattle.iv_query.proofs.Lexes.{same, whole_lexes}
+use Rattle.iv_query.proofs.Lexes.{Lexes-unique, Lexes-lexed}
 
 -- what a function reads is what a rule reads, and its faults are the rule's
 pub record Agreement {T : Type 0} (Reads : List Tok → T → List Tok → Type 0) (Faults : Fault → List Tok → Fault → Type 0) (read : Fault → List Tok → Read T) : Type 0 where
@@ -46,15 +46,15 @@ module _ {T : Type 0} (R : List Tok → T → List Tok → Type 0) (F : Fault �
 
   pub tree_alone : (l : Lexed) (t : T) → Lexes (length bs) bs l.tokens l.stop l.ends → IsText R bs t → Ok t ≡ read_tokens read l
   unfolding whole_at end_at
-  tree_alone l t k (text_is le m h) = same m k (λ us s e. Ok t ≡ whole_at (read s) s e us) (rw (agreement.reads _ h) refl)
+  tree_alone l t k (text_is le m h) = Lexes-unique m k (λ us s e. Ok t ≡ whole_at (read s) s e us) (rw (agreement.reads _ h) refl)
 
   pub fault_alone : (l : Lexed) (f : Fault) → Lexes (length bs) bs l.tokens l.stop l.ends → TextFault R F bs f → Err f ≡ read_tokens read l
   unfolding whole_at end_at
   fault_alone l f k (too_long lt) = absurd (omega arith)
-  fault_alone l f k (inside le m h) = same m k (λ us s e. Err f ≡ whole_at (read s) s e us) (rw (agreement.faults _ h) refl)
-  fault_alone l f k (behind {stop = s} {ends = true} le m h) = same m k (λ us s e. Err f ≡ whole_at (read s) s e us) (rw (agreement.reads s h) refl)
-  fault_alone l f k (behind {stop = s} {ends = false} le m h) = same m k (λ us s e. Err f ≡ whole_at (read s) s e us) (rw (agreement.reads s h) refl)
-  fault_alone l f k (unfinished le m h) = same m k (λ us s e. Err f ≡ whole_at (read s) s e us) (rw (agreement.reads f h) refl)
+  fault_alone l f k (inside le m h) = Lexes-unique m k (λ us s e. Err f ≡ whole_at (read s) s e us) (rw (agreement.faults _ h) refl)
+  fault_alone l f k (behind {stop = s} {ends = true} le m h) = Lexes-unique m k (λ us s e. Err f ≡ whole_at (read s) s e us) (rw (agreement.reads s h) refl)
+  fault_alone l f k (behind {stop = s} {ends = false} le m h) = Lexes-unique m k (λ us s e. Err f ≡ whole_at (read s) s e us) (rw (agreement.reads s h) refl)
+  fault_alone l f k (unfinished le m h) = Lexes-unique m k (λ us s e. Err f ≡ whole_at (read s) s e us) (rw (agreement.reads f h) refl)
 
 -- ---- each text
 
@@ -69,7 +69,7 @@ module _ {T : Type 0} (R : List Tok → T → List Tok → Type 0) (F : Fault �
       go true h = too_long (grind (arith, nat_tests))
       go false h =
           let short : length bs ≤ 4096 = grind (arith, nat_tests) in
-          tokens_read R F read agreement bs short (lexed (length bs) (length bs) bs) (whole_lexes bs u)
+          tokens_read R F read agreement bs short (lexed (length bs) (length bs) bs) (Lexes-lexed bs u)
 
   alone : (other : Result T Fault) → IsOutcome (IsText R) (TextFault R F) bs other → other ≡ read_text read bs
   alone other h = go (nat_lt 4096 (length bs)) refl other h
@@ -82,8 +82,8 @@ module _ {T : Type 0} (R : List Tok → T → List Tok → Type 0) (F : Fault �
       long lt (Err f) (unfinished le k h) = absurd (omega arith)
 
       short : length bs ≤ 4096 → (other : Result T Fault) → IsOutcome (IsText R) (TextFault R F) bs other → other ≡ read_tokens read (lexed (length bs) (length bs) bs)
-      short le (Ok t) h = tree_alone R F read agreement bs le (lexed (length bs) (length bs) bs) t (whole_lexes bs u) h
-      short le (Err f) h = fault_alone R F read agreement bs le (lexed (length bs) (length bs) bs) f (whole_lexes bs u) h
+      short le (Ok t) h = tree_alone R F read agreement bs le (lexed (length bs) (length bs) bs) t (Lexes-lexed bs u) h
+      short le (Err f) h = fault_alone R F read agreement bs le (lexed (length bs) (length bs) bs) f (Lexes-lexed bs u) h
 
       go : (b : Bool) → nat_lt 4096 (length bs) ≡ b → (other : Result T Fault) → IsOutcome (IsText R) (TextFault R F) bs other → other ≡ by_length b
       go true e = long (grind (arith, nat_tests))
@@ -113,6 +113,6 @@ module _ {T X : Type 0} (read : Fault → List Tok → Read T) (bs : List ℕ) (
       go false h = absurd (grind (arith, nat_tests))
 
 -- what is read is the text's
-pub found : {T X : Type 0} (Is : List ℕ → T → Type 0) (Has : List ℕ → Fault → Type 0) (bs : List ℕ) (view : X → T) (r : Result X QueryFault) (o : Result T Fault) → Gives view r o → IsOutcome Is Has bs o → IfOk r (λ x. Is bs (view x))
-found Is Has bs view (Ok x) o g h = subst (IsOutcome Is Has bs) g h
-found Is Has bs view (Err e) o g h = tt
+pub IfOk-IsOutcome : {T X : Type 0} (Is : List ℕ → T → Type 0) (Has : List ℕ → Fault → Type 0) (bs : List ℕ) (view : X → T) (r : Result X QueryFault) (o : Result T Fault) → Gives view r o → IsOutcome Is Has bs o → IfOk r (λ x. Is bs (view x))
+IfOk-IsOutcome Is Has bs view (Ok x) o g h = subst (IsOutcome Is Has bs) g h
+IfOk-IsOutcome Is Has bs view (Err e) o g h = tt

@@ -17,7 +17,7 @@ use Rattle.iv_query.specs.Rules.{First, first, IsName, name_is, Many, many_end, 
 use Rattle.iv_query.specs.Parts.{push, starts_join, HeadTree, HeadOf, FromTree, FromOf, starts_set_op, NextTree, combine, sources_in, sources_of}
 use Rattle.iv_query.specs.Query.{IsAlias, as_alias, bare_alias, MayAlias, some_alias, no_alias, IsSource, source_is, IsPair, pair_is, IsPairs, pairs_is, IsPlainJoin, plain_join_is, IsJoin, inner_join, bare_join, AreJoins, IsItem, column_item, sum_item, count_item, IsList, star_is, items_is, IsHead, distinct_is, head_is, IsFrom, from_is, MayFilter, some_filter, no_filter, MayGroup, some_group, no_group, IsSelect, select_is, IsSetOp, union_all_is, union_is, except_is, IsNext, next_is, IsQuery, query_is}
 use Rattle.iv_query.specs.Well.{IsWellName, IsWellColumn, IsWellOperand, IsWellPred, IsWellSource, IsWellPair, IsWellJoin, IsWellItem, IsWellList, IsWellSelect, IsWellQuery}
-use Rattle.iv_query.proofs.Steps.{after_first}
+use Rattle.iv_query.proofs.Steps.{First-after_symbol}
 
 -- ---- tokens
 
@@ -76,8 +76,8 @@ reads_well (holds_is e) a w = (tt, w.1)
 reads_well (fails_is e) a w = (tt, w.1)
 reads_well (comparison_is h e k) a w = let x = operand_well h w in let y = operand_well k x.1.1 in ((x.0, y.0), y.1)
 
-pub pred_well : {d : Dialect} {ts us : List Tok} {t : PredTree} → Reads d pred 32 ts t us → WellToks ts → IsWellPred d t
-pred_well h w = (reads_well h tt w).0
+pub IsWellPred-Reads : {d : Dialect} {ts us : List Tok} {t : PredTree} → Reads d pred 32 ts t us → WellToks ts → IsWellPred d t
+IsWellPred-Reads h w = (reads_well h tt w).0
 
 -- ---- queries
 
@@ -96,7 +96,7 @@ grows (many_end e) = omega arith
 grows (many_more {a = a} {b = b} e h k) = omega (arith, length_push a b, grows k)
 
 past : (s : Symbol) (ts us : List Tok) → after_symbol s ts ≡ Some us → WellToks ts → WellToks us
-past s ts us e w = behind (after_first s ts us e) w
+past s ts us e w = behind (First-after_symbol s ts us e) w
 
 same : (b : Bool) (ts us : List Tok) → cond b (Some ts) None ≡ Some us → WellToks ts → WellToks us
 same true ts us e w = let k : ts ≡ us = cc in subst WellToks k w
@@ -185,8 +185,8 @@ op_well (except_is x) w = behind x w
 next_well : {left : ℕ} {ts us : List Tok} (q : QueryTree) (n : NextTree) → IsNext left ts n us → IsWellQuery q → WellToks ts → IsWellQuery (combine q n) × WellToks us
 next_well q _ (next_is h k) p w = let x = select_well k (op_well h w) in ((p, x.0), x.1)
 
-pub query_well : {ts us : List Tok} {q : QueryTree} → IsQuery ts q us → WellToks ts → IsWellQuery q
-query_well (query_is h k) w =
+pub IsWellQuery-IsQuery : {ts us : List Tok} {q : QueryTree} → IsQuery ts q us → WellToks ts → IsWellQuery q
+IsWellQuery-IsQuery (query_is h k) w =
     let x = select_well h w in
     (many_well IsWellQuery (λ ts us. same (starts_set_op ts) ts us) (λ a b ts us p n v. next_well a b n p v) k x.0 x.1).0
 
@@ -216,5 +216,5 @@ select_sources {left = left} (select_is h (from_is e k j) f g) = let n = some_le
 next_sources : {left : ℕ} {ts us : List Tok} (q : QueryTree) (n : NextTree) → IsNext left ts n us → left ≡ 8 - sources_of q → sources_of q ≤ 8 → sources_of (combine q n) ≤ 8
 next_sources q _ (next_is h k) e le = let n = select_sources k in omega arith
 
-pub query_sources : {ts us : List Tok} {q : QueryTree} → IsQuery ts q us → sources_of q ≤ 8
-query_sources (query_is h k) = many_keeps (λ q. sources_of q ≤ 8) (λ a b ts us p n. next_sources a b n refl p) k (select_sources h)
+pub le-sources_of : {ts us : List Tok} {q : QueryTree} → IsQuery ts q us → sources_of q ≤ 8
+le-sources_of (query_is h k) = many_keeps (λ q. sources_of q ≤ 8) (λ a b ts us p n. next_sources a b n refl p) k (select_sources h)

@@ -21,7 +21,7 @@ use Rattle.iv_query.specs.Parts.{sources_of}
 use Rattle.iv_query.specs.Grammar.{Reads, pred}
 use Rattle.iv_query.specs.Texts.{IsText, text_is}
 use Rattle.iv_query.specs.Well.{IsWellPred, IsWellQuery}
-use Rattle.iv_query.proofs.WellLaws.{WellTok, WellToks, pred_well, query_well, query_sources}
+use Rattle.iv_query.proofs.WellLaws.{WellTok, WellToks, IsWellPred-Reads, IsWellQuery-IsQuery, le-sources_of}
 
 abbrev Holds : Ahead → Type 0
 Holds (Gap rest) = Unit {0}
@@ -110,10 +110,10 @@ lexes_well (broken e) = tt
 -- ---- the trees of texts
 
 query_text_well : {bs : List ℕ} {q : QueryTree} → IsText IsQuery bs q → IsWellQuery q × (sources_of q ≤ 8)
-query_text_well (text_is le l h) = (query_well h (lexes_well l), query_sources h)
+query_text_well (text_is le l h) = (IsWellQuery-IsQuery h (lexes_well l), le-sources_of h)
 
 pred_text_well : {bs : List ℕ} {t : PredTree} → IsText (Reads Policy pred 32) bs t → IsWellPred Policy t
-pred_text_well (text_is le l h) = pred_well h (lexes_well l)
+pred_text_well (text_is le l h) = IsWellPred-Reads h (lexes_well l)
 
 module _ {X : Type 0} (bs : List ℕ) where
   pub queries_well : (view : X → QueryTree) (r : Result X QueryFault) → IfOk r (λ x. IsText IsQuery bs (view x)) → IfOk r (λ x. IsWellQuery (view x))

@@ -1,4 +1,4 @@
--- Chains of direct memberships, and the test that follows them.
+-- Chains of direct memberships, and the test that Follows-reaches them.
 use Rattle.std.proofs.Common.{◌≡◌, ◌⊎◌, inl, inr, ℕ, ◌==◌, List, [], ◌∷◌, ◌++◌, Bool, true, false, not, ◌&&◌, ◌||◌, refl, sym, ap, ◌∙◌, subst, append_assoc, append-nil}
 use Rattle.std.specs.Prelude.{if◌then◌else◌}
 use Rattle.std.specs.Bool.{Decides}
@@ -10,14 +10,14 @@ use Rattle.iv_roles.specs.Memberships.{Membership, membership_eq, member_of, is_
 
 -- ---- two truth values
 
-pub never : {A : Type 0} (b : Bool) → b ≡ true → b ≡ false → A
-never b e f = cc
+pub absurd-true_false : {A : Type 0} (b : Bool) → b ≡ true → b ≡ false → A
+absurd-true_false b e f = cc
 
-pub two_ways : (a b : Bool) → (a ≡ true → b ≡ true) → (b ≡ true → a ≡ true) → a ≡ b
-two_ways true true f g = refl
-two_ways false false f g = refl
-two_ways true false f g = sym (f refl)
-two_ways false true f g = g refl
+pub is-both_ways : (a b : Bool) → (a ≡ true → b ≡ true) → (b ≡ true → a ≡ true) → a ≡ b
+is-both_ways true true f g = refl
+is-both_ways false false f g = refl
+is-both_ways true false f g = sym (f refl)
+is-both_ways false true f g = g refl
 
 -- ---- one membership
 
@@ -49,12 +49,12 @@ Follows ms test = (a b : ℕ) → Decides (test a b) (Reaches ms a b)
 
 no_chain : {ms : List Membership} {a b : ℕ} → ((m : Membership) → is_direct ms m ≡ false) → Reaches ms a b → (a == b) ≡ true
 no_chain none (itself ms a) = number_itself a
-no_chain none (through ms a next b e h) = never (is_direct ms (member_of next a)) e (none (member_of next a))
+no_chain none (through ms a next b e h) = absurd-true_false (is_direct ms (member_of next a)) e (none (member_of next a))
 
 itself_alone : Follows [] (λ a b. a == b)
 itself_alone a b = (λ e. subst (λ c. Reaches [] a c) ((unsigned_Decides a b).0 e) (itself [] a), λ h. no_chain (λ m. refl) h)
 
--- where all memberships but one are among those that the test follows, a chain goes by the test, or by the one between
+-- where all memberships but one are among those that the test Follows-reaches, a chain goes by the test, or by the one between
 pub found : (ms : List Membership) (test : ℕ → ℕ → Bool) (m : Membership) → Follows ms test → {ns : List Membership} {a b : ℕ}
     → ((n : Membership) → is_direct ns n ≡ true → (is_direct ms n ≡ true) ⊎ (n ≡ m)) → Reaches ns a b → further test m a b ≡ true
 found ms test m h old (itself ns a) = by_left (test a a) (test a m.member && test m.role a) ((h a a).1 (itself ms a))
@@ -84,7 +84,7 @@ either ms m n e =
       | inl d ↦ inl d
       | inr x ↦ elim (one_of (membership_eq n m) false x) [
         | inl y ↦ inr (membership_same n m y)
-        | inr y ↦ never false y refl
+        | inr y ↦ absurd-true_false false y refl
       ]
     ]
 
@@ -110,24 +110,24 @@ followed : (ms ns : List Membership) (test : ℕ → ℕ → Bool) → Follows m
 followed ms [] test h = subst (λ os. Follows os test) (sym (append-nil ms)) h
 followed ms (n ∷ ns) test h = subst (λ os. Follows os (reaches_by (further test n) ns)) (append_assoc ms (n ∷ []) ns) (followed (ms ++ n ∷ []) ns (further test n) (extended ms test n h))
 
--- the test follows each chain, and nothing else
-pub follows : (ms : List Membership) → Follows ms (reaches ms)
-follows ms = followed [] ms (λ a b. a == b) itself_alone
+-- the test Follows-reaches each chain, and nothing else
+pub Follows-reaches : (ms : List Membership) → Follows ms (reaches ms)
+Follows-reaches ms = followed [] ms (λ a b. a == b) itself_alone
 
 by_parts : (test : ℕ → ℕ → Bool) (ms ns : List Membership) (a b : ℕ) → reaches_by test (ms ++ ns) a b ≡ reaches_by (reaches_by test ms) ns a b
 by_parts test [] ns a b = refl
 by_parts test (m ∷ ms) ns a b = by_parts (further test m) ms ns a b
 
-pub one_more : (ms : List Membership) (m : Membership) (a b : ℕ) → reaches (ms ++ m ∷ []) a b ≡ further (reaches ms) m a b
-one_more ms m a b = by_parts (λ x y. x == y) ms (m ∷ []) a b
+pub reaches-push : (ms : List Membership) (m : Membership) (a b : ℕ) → reaches (ms ++ m ∷ []) a b ≡ further (reaches ms) m a b
+reaches-push ms m a b = by_parts (λ x y. x == y) ms (m ∷ []) a b
 
 -- ---- the test on chains
 
 pub reaches_itself : (ms : List Membership) (a : ℕ) → reaches ms a a ≡ true
-reaches_itself ms a = (follows ms a a).1 (itself ms a)
+reaches_itself ms a = (Follows-reaches ms a a).1 (itself ms a)
 
-pub reaches_on : (ms : List Membership) (a b c : ℕ) → reaches ms a b ≡ true → reaches ms b c ≡ true → reaches ms a c ≡ true
-reaches_on ms a b c e f = (follows ms a c).1 (chained ((follows ms a b).0 e) ((follows ms b c).0 f))
+pub reaches-trans : (ms : List Membership) (a b c : ℕ) → reaches ms a b ≡ true → reaches ms b c ≡ true → reaches ms a c ≡ true
+reaches-trans ms a b c e f = (Follows-reaches ms a c).1 (chained ((Follows-reaches ms a b).0 e) ((Follows-reaches ms b c).0 f))
 
 -- ---- one membership less
 
@@ -155,41 +155,41 @@ unless false true false r e t = refl
 unless false true true true e t = sym (t refl refl)
 unless false true true false e t = e
 
-pub come_apart : (ms : List Membership) (role member a : ℕ) → reaches (with_membership (member_of role member) ms) a role ≡ reaches ms a role
+pub reaches-with_membership : (ms : List Membership) (role member a : ℕ) → reaches (with_membership (member_of role member) ms) a role ≡ reaches ms a role
     → (b : ℕ) → reaches (with_membership (member_of role member) ms) a b ≡ reaches ms a b
-come_apart ms role member a e b =
+reaches-with_membership ms role member a e b =
     let m = member_of role member in
     elim (is_direct ms m) as (λ t. reaches (if t then ms else ms ++ m ∷ []) a role ≡ reaches ms a role → reaches (if t then ms else ms ++ m ∷ []) a b ≡ reaches ms a b) [
       | true ↦ λ _. refl
       | false ↦ λ h.
-          one_more ms m a b
+          reaches-push ms m a b
           ∙ unless (reaches ms a b) (reaches ms a member) (reaches ms role b) (reaches ms a role)
-          (ap (λ t. reaches ms a role || (reaches ms a member && t)) (sym (reaches_itself ms role)) ∙ (sym (one_more ms m a role) ∙ h))
-          (reaches_on ms a role b)
+          (ap (λ t. reaches ms a role || (reaches ms a member && t)) (sym (reaches_itself ms role)) ∙ (sym (reaches-push ms m a role) ∙ h))
+          (reaches-trans ms a role b)
     ] e
 
-pub gone_apart : (ms : List Membership) (role member a : ℕ) → reaches (without_membership (member_of role member) ms) a role ≡ reaches ms a role
+pub reaches-without_membership : (ms : List Membership) (role member a : ℕ) → reaches (without_membership (member_of role member) ms) a role ≡ reaches ms a role
     → (b : ℕ) → reaches (without_membership (member_of role member) ms) a b ≡ reaches ms a b
-gone_apart ms role member a e b =
+reaches-without_membership ms role member a e b =
     let m = member_of role member in
     let ns = without_membership m ms in
-    let more : (x y : ℕ) → reaches ns x y ≡ true → reaches ms x y ≡ true = λ x y h. (follows ms x y).1 (kept ms (λ n d. among_fewer m n ms d) ((follows ns x y).0 h)) in
+    let more : (x y : ℕ) → reaches ns x y ≡ true → reaches ms x y ≡ true = λ x y h. (Follows-reaches ms x y).1 (kept ms (λ n d. among_fewer m n ms d) ((Follows-reaches ns x y).0 h)) in
     let back : reaches ms a b ≡ true → reaches ns a b ≡ true = λ h.
-    elim (one_of (reaches ns a b) (reaches ns a member && reaches ns role b) (found ns (reaches ns) m (follows ns) (λ n d. left_or_same m n ms d) ((follows ms a b).0 h))) [
+    elim (one_of (reaches ns a b) (reaches ns a member && reaches ns role b) (found ns (reaches ns) m (Follows-reaches ns) (λ n d. left_or_same m n ms d) ((Follows-reaches ms a b).0 h))) [
       | inl x ↦ x
       | inr y ↦
           let both = each_of (reaches ns a member) (reaches ns role b) y in
           elim (is_direct ms m) as (λ t. is_direct ms m ≡ t → reaches ns a b ≡ true) [
             | true ↦ λ d.
-                let through_it : reaches ms member role ≡ true = (follows ms member role).1 (through ms member role role d (itself ms role)) in
-                reaches_on ns a role b (e ∙ reaches_on ms a member role (more a member both.0) through_it) both.1
-            | false ↦ λ d. (follows ns a b).1 (kept ns (λ n k. elim (left_or_same m n ms k) [
+                let through_it : reaches ms member role ≡ true = (Follows-reaches ms member role).1 (through ms member role role d (itself ms role)) in
+                reaches-trans ns a role b (e ∙ reaches-trans ms a member role (more a member both.0) through_it) both.1
+            | false ↦ λ d. (Follows-reaches ns a b).1 (kept ns (λ n k. elim (left_or_same m n ms k) [
               | inl x ↦ x
-              | inr same ↦ never (is_direct ms m) (subst (λ o. is_direct ms o ≡ true) same k) d
-            ]) ((follows ms a b).0 h))
+              | inr same ↦ absurd-true_false (is_direct ms m) (subst (λ o. is_direct ms o ≡ true) same k) d
+            ]) ((Follows-reaches ms a b).0 h))
           ] refl
     ] in
-    two_ways (reaches ns a b) (reaches ms a b) (more a b) back
+    is-both_ways (reaches ns a b) (reaches ms a b) (more a b) back
 
 -- ---- no loops
 
@@ -197,34 +197,34 @@ gone_apart ms role member a e b =
 abbrev pub AreApart : List Membership → Type 0
 AreApart ms = (a b : ℕ) → Reaches ms a b → Reaches ms b a → a ≡ b
 
-pub apart_none : AreApart []
-apart_none a b x y = (unsigned_Decides a b).0 (no_chain (λ m. refl) x)
+pub AreApart-none : AreApart []
+AreApart-none a b x y = (unsigned_Decides a b).0 (no_chain (λ m. refl) x)
 
 apart_more : (ms : List Membership) (m : Membership) → reaches ms m.role m.member ≡ false → AreApart ms → AreApart (ms ++ m ∷ [])
 apart_more ms m none h a b x y =
-    let loops : reaches ms m.role m.member ≡ true → a ≡ b = λ e. never (reaches ms m.role m.member) e none in
-    let back = one_of (reaches ms b a) (reaches ms b m.member && reaches ms m.role a) (sym (one_more ms m b a) ∙ (follows (ms ++ m ∷ []) b a).1 y) in
-    elim (one_of (reaches ms a b) (reaches ms a m.member && reaches ms m.role b) (sym (one_more ms m a b) ∙ (follows (ms ++ m ∷ []) a b).1 x)) [
+    let loops : reaches ms m.role m.member ≡ true → a ≡ b = λ e. absurd-true_false (reaches ms m.role m.member) e none in
+    let back = one_of (reaches ms b a) (reaches ms b m.member && reaches ms m.role a) (sym (reaches-push ms m b a) ∙ (Follows-reaches (ms ++ m ∷ []) b a).1 y) in
+    elim (one_of (reaches ms a b) (reaches ms a m.member && reaches ms m.role b) (sym (reaches-push ms m a b) ∙ (Follows-reaches (ms ++ m ∷ []) a b).1 x)) [
       | inl p ↦ elim back [
-        | inl q ↦ h a b ((follows ms a b).0 p) ((follows ms b a).0 q)
+        | inl q ↦ h a b ((Follows-reaches ms a b).0 p) ((Follows-reaches ms b a).0 q)
         | inr q ↦
             let both = each_of (reaches ms b m.member) (reaches ms m.role a) q in
-            loops (reaches_on ms m.role a m.member both.1 (reaches_on ms a b m.member p both.0))
+            loops (reaches-trans ms m.role a m.member both.1 (reaches-trans ms a b m.member p both.0))
       ]
       | inr p ↦
           let one = each_of (reaches ms a m.member) (reaches ms m.role b) p in
           elim back [
-            | inl q ↦ loops (reaches_on ms m.role b m.member one.1 (reaches_on ms b a m.member q one.0))
-            | inr q ↦ loops (reaches_on ms m.role b m.member one.1 (each_of (reaches ms b m.member) (reaches ms m.role a) q).0)
+            | inl q ↦ loops (reaches-trans ms m.role b m.member one.1 (reaches-trans ms b a m.member q one.0))
+            | inr q ↦ loops (reaches-trans ms m.role b m.member one.1 (each_of (reaches ms b m.member) (reaches ms m.role a) q).0)
           ]
     ]
 
-pub apart_joined : (ms : List Membership) (m : Membership) → reaches ms m.role m.member ≡ false → AreApart ms → AreApart (with_membership m ms)
-apart_joined ms m none h =
+pub AreApart-with_membership : (ms : List Membership) (m : Membership) → reaches ms m.role m.member ≡ false → AreApart ms → AreApart (with_membership m ms)
+AreApart-with_membership ms m none h =
     elim (is_direct ms m) as (λ t. AreApart (if t then ms else ms ++ m ∷ [])) [
       | true ↦ h
       | false ↦ apart_more ms m none h
     ]
 
-pub apart_parted : (ms : List Membership) (m : Membership) → AreApart ms → AreApart (without_membership m ms)
-apart_parted ms m h a b x y = h a b (kept ms (λ n d. among_fewer m n ms d) x) (kept ms (λ n d. among_fewer m n ms d) y)
+pub AreApart-without_membership : (ms : List Membership) (m : Membership) → AreApart ms → AreApart (without_membership m ms)
+AreApart-without_membership ms m h a b x y = h a b (kept ms (λ n d. among_fewer m n ms d) x) (kept ms (λ n d. among_fewer m n ms d) y)

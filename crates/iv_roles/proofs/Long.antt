@@ -4,7 +4,7 @@ use Rattle.std.specs.Prelude.{nat_le}
 use Rattle.std.proofs.lemmas.Bool.{cases_lt}
 use Rattle.std.proofs.lemmas.Bool.Decides.{nat_tests}
 use Rattle.iv_roles.specs.Memberships.{member_of, further, reaches, chain_of}
-use Rattle.iv_roles.proofs.Chains.{one_more, two_ways}
+use Rattle.iv_roles.proofs.Chains.{reaches-push, is-both_ways}
 
 -- a role of the chain reaches those before it, and another itself alone
 pub record Along (test : ℕ → ℕ → Bool) (n : ℕ) : Type 0 where
@@ -23,7 +23,7 @@ alone_along : Along (λ a b. a == b) 0
 alone_along = record { inside = λ a b l. first a b l; outside = λ a b l. refl }
   where
     first : (a b : ℕ) → a ≤ 0 → (a == b) ≡ nat_le b a
-    first a b l = two_ways (a == b) (nat_le b a) (λ h. grind (arith, nat_tests)) (λ h. grind (arith, nat_tests))
+    first a b l = is-both_ways (a == b) (nat_le b a) (λ h. grind (arith, nat_tests)) (λ h. grind (arith, nat_tests))
 
 module _ (test : ℕ → ℕ → Bool) (n : ℕ) (h : Along test n) where
   below : (a b : ℕ) → a ≤ n → further test (member_of n (suc n)) a b ≡ nat_le b a
@@ -54,7 +54,7 @@ module _ (test : ℕ → ℕ → Bool) (n : ℕ) (h : Along test n) where
 
       by : (x : Bool) → nat_le b n ≡ x → ((suc n == b) || x) ≡ nat_le b (suc n)
       by true e = or_true (suc n == b) ∙ sym (lower e)
-      by false e = or_false (suc n == b) ∙ two_ways (suc n == b) (nat_le b (suc n)) (λ h. grind (arith, nat_tests)) (λ h. grind (arith, nat_tests))
+      by false e = or_false (suc n == b) ∙ is-both_ways (suc n == b) (nat_le b (suc n)) (λ h. grind (arith, nat_tests)) (λ h. grind (arith, nat_tests))
 
   along_more : Along (further test (member_of n (suc n))) (suc n)
   along_more = record {
@@ -68,11 +68,11 @@ module _ (test : ℕ → ℕ → Bool) (n : ℕ) (h : Along test n) where
       top : (a : ℕ) → n < a → a ≤ suc n → a ≡ suc n
       top a over l = omega arith
 
-pub along : (n : ℕ) → Along (reaches (chain_of n)) n
-along zero = alone_along
-along (suc n) =
-    let more = along_more (reaches (chain_of n)) n (along n) in
+pub Along-chain_of : (n : ℕ) → Along (reaches (chain_of n)) n
+Along-chain_of zero = alone_along
+Along-chain_of (suc n) =
+    let more = along_more (reaches (chain_of n)) n (Along-chain_of n) in
     record {
-      inside = λ a b l. one_more (chain_of n) (member_of n (suc n)) a b ∙ more.inside a b l;
-      outside = λ a b l. one_more (chain_of n) (member_of n (suc n)) a b ∙ more.outside a b l;
+      inside = λ a b l. reaches-push (chain_of n) (member_of n (suc n)) a b ∙ more.inside a b l;
+      outside = λ a b l. reaches-push (chain_of n) (member_of n (suc n)) a b ∙ more.outside a b l;
     }

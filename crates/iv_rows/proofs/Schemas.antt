@@ -10,11 +10,11 @@ and_false : (b : Bool) → (b && false) ≡ false
 and_false true = refl
 and_false false = refl
 
-pub not_accepted : (cs : List Column) (vs : List Value) → (length vs ≡ length cs → ⊥) → false ≡ accepts (kinds_of cs) (cells_of vs)
-not_accepted [] [] h = absurd (h refl)
-not_accepted [] (v ∷ vs) h = refl
-not_accepted (k ∷ ks) [] h = refl
-not_accepted (k ∷ ks) (v ∷ vs) h = sym (and_false (is_kind k.kind (cell_of v))) ∙ ap (λ b. is_kind k.kind (cell_of v) && b) (not_accepted ks vs (λ e. h (ap suc e)))
+pub accepts-other_length : (cs : List Column) (vs : List Value) → (length vs ≡ length cs → ⊥) → false ≡ accepts (kinds_of cs) (cells_of vs)
+accepts-other_length [] [] h = absurd (h refl)
+accepts-other_length [] (v ∷ vs) h = refl
+accepts-other_length (k ∷ ks) [] h = refl
+accepts-other_length (k ∷ ks) (v ∷ vs) h = sym (and_false (is_kind k.kind (cell_of v))) ∙ ap (λ b. is_kind k.kind (cell_of v) && b) (accepts-other_length ks vs (λ e. h (ap suc e)))
 
 -- the column at a place and the value there, and those behind them
 pub accepts_at : (cs : List Column) (vs : List Value) (i : ℕ) (c : Column) (v : Value) → i < length cs → i < length vs → accepts (kinds_of (drop i cs)) (cells_of (drop i vs)) ≡ (is_kind (get_or cs i c).kind (cell_of (get_or vs i v)) && accepts (kinds_of (drop (i + 1) cs)) (cells_of (drop (i + 1) vs)))

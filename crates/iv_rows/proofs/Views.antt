@@ -27,15 +27,15 @@ same_cmp (Flag p) (Int b) = refl
 same_cmp (Flag p) (Text t) = refl
 same_cmp (Flag p) (Flag q) = refl
 
-pub same_row_cmp : (vs ws : List Value) → slice_cmp cmp-value.it vs ws ≡ row_cmp (cells_of vs) (cells_of ws)
-same_row_cmp [] [] = refl
-same_row_cmp [] (w ∷ ws) = refl
-same_row_cmp (v ∷ vs) [] = refl
-same_row_cmp (v ∷ vs) (w ∷ ws) = λ i. ordering_then (same_cmp v w i) (same_row_cmp vs ws i)
+pub row_cmp-slice_cmp : (vs ws : List Value) → slice_cmp cmp-value.it vs ws ≡ row_cmp (cells_of vs) (cells_of ws)
+row_cmp-slice_cmp [] [] = refl
+row_cmp-slice_cmp [] (w ∷ ws) = refl
+row_cmp-slice_cmp (v ∷ vs) [] = refl
+row_cmp-slice_cmp (v ∷ vs) (w ∷ ws) = λ i. ordering_then (same_cmp v w i) (row_cmp-slice_cmp vs ws i)
 
 -- values that are equal one by one are one row
 pub same_row_eq : (vs ws : List Value) → pointwise eq-value.it vs ws ≡ row_eq (cells_of vs) (cells_of ws)
-same_row_eq vs ws = lists_ties cmp-value.it matches_eq-law vs ws ∙ ap is_eq (same_row_cmp vs ws)
+same_row_eq vs ws = lists_ties cmp-value.it matches_eq-law vs ws ∙ ap is_eq (row_cmp-slice_cmp vs ws)
 
 fold_then : {S A : Type 0} (f : S → A → S) (s : S) (xs ys : List A) → fold f s (xs ++ ys) ≡ fold f (fold f s xs) ys
 fold_then f s [] ys = refl
@@ -53,16 +53,16 @@ pub equal_more : (v w : Value) (vs ws : List Value) → row_eq (cells_of (v ∷ 
 equal_more v w vs ws = sym (same_row_eq (v ∷ vs) (w ∷ ws)) ∙ ap (λ b. eq-value.it v w && b) (same_row_eq vs ws)
 
 -- rows of different lengths are not equal
-pub equal_long : (vs ws : List Value) → (length vs ≡ length ws → ⊥) → false ≡ row_eq (cells_of vs) (cells_of ws)
-equal_long [] [] h = absurd (h refl)
-equal_long [] (w ∷ ws) h = refl
-equal_long (v ∷ vs) [] h = refl
-equal_long (v ∷ vs) (w ∷ ws) h = sym (equal_more v w vs ws ∙ ap (λ b. eq-value.it v w && b) (sym (equal_long vs ws (λ e. h (ap suc e)))) ∙ and-false (eq-value.it v w))
+pub row_eq-other_length : (vs ws : List Value) → (length vs ≡ length ws → ⊥) → false ≡ row_eq (cells_of vs) (cells_of ws)
+row_eq-other_length [] [] h = absurd (h refl)
+row_eq-other_length [] (w ∷ ws) h = refl
+row_eq-other_length (v ∷ vs) [] h = refl
+row_eq-other_length (v ∷ vs) (w ∷ ws) h = sym (equal_more v w vs ws ∙ ap (λ b. eq-value.it v w && b) (sym (row_eq-other_length vs ws (λ e. h (ap suc e)))) ∙ and-false (eq-value.it v w))
 
 -- from a place on, by the values at it
-pub equal_from : (vs ws : List Value) (i : ℕ) (v w : Value) → v ≡ get_or vs i v → w ≡ get_or ws i w → i < length vs → i < length ws
+pub row_eq-drop : (vs ws : List Value) (i : ℕ) (v w : Value) → v ≡ get_or vs i v → w ≡ get_or ws i w → i < length vs → i < length ws
     → row_eq (cells_of (drop i vs)) (cells_of (drop i ws)) ≡ (eq-value.it v w && row_eq (cells_of (drop (i + 1) vs)) (cells_of (drop (i + 1) ws)))
-equal_from vs ws i v w at to p q =
+row_eq-drop vs ws i v w at to p q =
     let l : drop i vs ≡ v ∷ drop (i + 1) vs = drop_more vs i v p ∙ ap (λ x. x ∷ drop (i + 1) vs) (sym at) in
     let r : drop i ws ≡ w ∷ drop (i + 1) ws = drop_more ws i w q ∙ ap (λ x. x ∷ drop (i + 1) ws) (sym to) in
     (λ j. row_eq (cells_of (l j)) (cells_of (r j))) ∙ equal_more v w (drop (i + 1) vs) (drop (i + 1) ws)

@@ -24,8 +24,8 @@ by_length (w ∷ ws) s =
       | false ↦ λ h. ap (λ r. r || list_any (λ x. bytes_eq x s) ws) (apart w s h) ∙ by_length ws s
     ] refl
 
-pub of_length : (n : ℕ) (s : List ℕ) → length s ≡ n → list_any (λ w. bytes_eq w s) (filter (λ w. length w == n) reserved) ≡ is_reserved s
-of_length n s h = sym (by_length reserved s ∙ ap (λ k. list_any (λ w. bytes_eq w s) (filter (λ w. length w == k) reserved)) h)
+pub is_reserved-of_length : (n : ℕ) (s : List ℕ) → length s ≡ n → list_any (λ w. bytes_eq w s) (filter (λ w. length w == n) reserved) ≡ is_reserved s
+is_reserved-of_length n s h = sym (by_length reserved s ∙ ap (λ k. list_any (λ w. bytes_eq w s) (filter (λ w. length w == k) reserved)) h)
 
 other : (k n : ℕ) → (n ≡ k → ⊥) → (k == n) ≡ false
 other k n differ =
@@ -35,7 +35,7 @@ other k n differ =
     ] refl
 
 -- no word has another number of bytes
-pub none_of_length : (n : ℕ) → (n ≡ 2 → ⊥) → (n ≡ 3 → ⊥) → (n ≡ 4 → ⊥) → (n ≡ 5 → ⊥) → (n ≡ 6 → ⊥) → (n ≡ 7 → ⊥) → (n ≡ 8 → ⊥) → (n ≡ 9 → ⊥) → (n ≡ 12 → ⊥)
+pub reserved-of_no_length : (n : ℕ) → (n ≡ 2 → ⊥) → (n ≡ 3 → ⊥) → (n ≡ 4 → ⊥) → (n ≡ 5 → ⊥) → (n ≡ 6 → ⊥) → (n ≡ 7 → ⊥) → (n ≡ 8 → ⊥) → (n ≡ 9 → ⊥) → (n ≡ 12 → ⊥)
     → filter (λ w. length w == n) reserved ≡ []
 unfolding reserved
-none_of_length n a b c d e f g h i = simp (other 2 n a, other 3 n b, other 4 n c, other 5 n d, other 6 n e, other 7 n f, other 8 n g, other 9 n h, other 12 n i)
+reserved-of_no_length n a b c d e f g h i = simp (other 2 n a, other 3 n b, other 4 n c, other 5 n d, other 6 n e, other 7 n f, other 8 n g, other 9 n h, other 12 n i)

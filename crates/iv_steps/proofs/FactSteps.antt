@@ -13,7 +13,7 @@ use Rattle.iv_machine.specs.Machine.{outcome, settled, step}
 use Rattle.iv_machine.specs.Refusing.{or_else, refusal}
 use Rattle.iv_machine.specs.State.{State, next_rel}
 use Rattle.iv_machine.proofs.SubscriptionPlaces.{find_more}
-use Rattle.iv_machine.proofs.Sound.{IsWhole, settled_whole}
+use Rattle.iv_machine.proofs.Sound.{IsWhole, IsWhole-settled}
 use Rattle.iv_steps.specs.Steps.{Fact, all_carried, at_place, carried, first_refused, is_shared, passed, shared}
 
 -- ---- one session
@@ -113,9 +113,9 @@ carries f u t h = by (is_shared f.act) refl h
           now = v;
           is = c.is;
           whole = λ w.
-              let whole_a : IsWhole (with_one role u) = settled_whole (shared u) 1 (begin f.role) a.accepted w in
-              let whole_b : IsWhole (with_one role v) = subst IsWhole alone (settled_whole (with_one role u) 1 f.act b.accepted whole_a) in
-              settled_whole (with_one role v) 1 finish c.accepted whole_b;
+              let whole_a : IsWhole (with_one role u) = IsWhole-settled (shared u) 1 (begin f.role) a.accepted w in
+              let whole_b : IsWhole (with_one role v) = subst IsWhole alone (IsWhole-settled (with_one role u) 1 f.act b.accepted whole_a) in
+              IsWhole-settled (with_one role v) 1 finish c.accepted whole_b;
           grows = act_grows u f.act;
         }
 

@@ -21,12 +21,12 @@ use Rattle.iv_rows.specs.Options.{if_some}
 use Rattle.iv_machine.specs.Sound.{IsSoundState, MayRead}
 use Rattle.iv_machine.specs.State.{State, Subscription, shown, subscription_of, view_shown}
 use Rattle.iv_machine.specs.declared.Cause.{Cause}
-use Rattle.iv_machine.proofs.RunSums.{found_none, lines_held, shows_nothing}
+use Rattle.iv_machine.proofs.RunSums.{find-has_number, held-line_for, shown-has_number}
 use Rattle.iv_machine.proofs.SubscriptionPlaces.{HasRole, IsPlaced, all_go}
-use Rattle.iv_machine.proofs.StepLines.{difference_only}
-use Rattle.iv_machine.proofs.UniqueNumbers.{has_number, neither, none_kept}
-use Rattle.iv_machine.proofs.Readers.{all_found}
-use Rattle.iv_machine.proofs.Sound.{IsKept, IsWhole, may_read, settled_kept, sound_whole}
+use Rattle.iv_machine.proofs.StepLines.{difference-IsDifference}
+use Rattle.iv_machine.proofs.UniqueNumbers.{has_number, or-both_false, has_number-filter}
+use Rattle.iv_machine.proofs.Readers.{subscription_of-each}
+use Rattle.iv_machine.proofs.Sound.{IsKept, IsWhole, MayRead-IsWhole, IsKept-settled, IsWhole-IsSoundState}
 use Rattle.iv_steps.specs.Laws.{FactsDecide, IsStep, IsTold, NoneIsBetween, NothingIsTold, RefusalsAreFound, StepsAreTold}
 use Rattle.iv_steps.specs.Steps.{Fact, all_carried, among, looked_at, shared}
 use Rattle.iv_steps.proofs.FactSteps.{Grows, all_carry, one_refused}
@@ -65,7 +65,7 @@ kept s u k w g = record {
 
 left_whole : (s u : State) → IsKept s.frame → IsWhole (shared u) → Grows s u → IsWhole (left s u)
 left_whole s u k w g = record {
-  frame = settled_kept finish (among s (shared u)) (kept s u k w g);
+  frame = IsKept-settled finish (among s (shared u)) (kept s u k w g);
   kinds = w.kinds;
   limits = w.limits;
   served = served (among s (shared u)) s.frame.subscriptions;
@@ -75,7 +75,7 @@ pub whole_sound : (s : State) → IsWhole s → IsSoundState s
 whole_sound s k = record {
   numbers = k.frame.numbers;
   ordered = k.frame.ordered;
-  readers = All-from_recursion (MayRead s.frame) s.frame.subscriptions (may_read s k);
+  readers = All-from_recursion (MayRead s.frame) s.frame.subscriptions (MayRead-IsWhole s k);
   served = k.served;
   names = k.frame.names;
   numbered = k.frame.numbered;
@@ -90,7 +90,7 @@ whole_sound s k = record {
 adds_by : (s new : State) (es : List Subscription) (k : ℕ) (q : List Cell) (b : Bool) → has_number k s.frame.subscriptions ≡ b → has_number k new.frame.subscriptions ≡ false ⊎ (b ≡ true)
     → cond b (weight (shown s k) (shown new k) q) (pos 0) ≡ weight (shown s k) (shown new k) q
 adds_by s new es k q true h n = refl
-adds_by s new es k q false h (inl n) = sym (λ i. weight (shows_nothing s k h i) (shows_nothing new k n i) q)
+adds_by s new es k q false h (inl n) = sym (λ i. weight (shown-has_number s k h i) (shown-has_number new k n i) q)
 adds_by s new es k q false h (inr n) = cc
 
 -- ---- and stand in order, one a subscription
@@ -184,16 +184,16 @@ module _ (ends : Subscription → Option Cause) where
       → AllByRecursion (λ f. subscription_of (cond b (e ∷ kept_of es) (kept_of es)) f.number ≡ cond (not (is_some (ends f))) (Some f) None) fs
   left_past b e es [] h a = tt
   left_past true e es (f ∷ fs) h a =
-      let n = neither (e.number == f.number) (list_any (λ g. e.number == g.number) fs) h in
+      let n = or-both_false (e.number == f.number) (list_any (λ g. e.number == g.number) fs) h in
       (ap (λ c. cond c (Some e) (subscription_of (kept_of es) f.number)) (pass_number e.number f.number n.0) ∙ a.0, left_past true e es fs n.1 a.1)
   left_past false e es (f ∷ fs) h a =
-      let n = neither (e.number == f.number) (list_any (λ g. e.number == g.number) fs) h in
+      let n = or-both_false (e.number == f.number) (list_any (λ g. e.number == g.number) fs) h in
       (a.0, left_past false e es fs n.1 a.1)
 
   own_left : (b : Bool) (e : Subscription) (es : List Subscription) → has_number e.number es ≡ false
       → subscription_of (cond b (e ∷ kept_of es) (kept_of es)) e.number ≡ cond b (Some e) None
   own_left true e es h = ap (λ c. cond c (Some e) (subscription_of (kept_of es) e.number)) (eq-eqb e.number e.number refl)
-  own_left false e es h = found_none e.number (kept_of es) (none_kept e.number (λ x. not (is_some (ends x))) es h)
+  own_left false e es h = find-has_number e.number (kept_of es) (has_number-filter e.number (λ x. not (is_some (ends x))) es h)
 
   -- each is found by its number where it is left, and nothing else is
   pub all_left : (es : List Subscription) → AreUnique es → AllByRecursion (IsLeft es) es
@@ -241,21 +241,21 @@ module _ (s new : State) (es : List Subscription) (is : new.frame.subscriptions 
 -- ---- a step
 
 told_behind : (fs : List Fact) (s u : State) → IsSoundState s → all_carried fs (shared s) ≡ Some (shared u) → IsWhole (shared u) → Grows s u → IsStep fs s (looked_at s (among s (shared u)))
-told_behind fs s u k c w g = let es = s.frame.subscriptions in let new = left s u in let ends = ending (among s (shared u)) in let whole = left_whole s u (sound_whole s k).frame w g in record {
+told_behind fs s u k c w g = let es = s.frame.subscriptions in let new = left s u in let ends = ending (among s (shared u)) in let whole = left_whole s u (IsWhole-IsSoundState s k).frame w g in record {
   sound = whole_sound new whole;
   shared = c;
   sessions = refl;
   last = refl;
   stay = refl;
-  told = told_lines s new es refl es (may_read s (sound_whole s k)) (if_left (ending new) (MayRead new.frame) es (may_read new whole)) (all_left (ending new) es k.numbers.unique) (all_found es k.numbers.unique);
-  adds = λ j q. lines_held j q s new ends es k.numbers.unique ∙ adds_by s new es j q (has_number j es) refl (unread j (has_number j es) refl);
+  told = told_lines s new es refl es (MayRead-IsWhole s (IsWhole-IsSoundState s k)) (if_left (ending new) (MayRead new.frame) es (MayRead-IsWhole new whole)) (all_left (ending new) es k.numbers.unique) (subscription_of-each es k.numbers.unique);
+  adds = λ j q. held-line_for j q s new ends es k.numbers.unique ∙ adds_by s new es j q (has_number j es) refl (unread j (has_number j es) refl);
   once = in_order s new ends es k.ordered;
   ends = λ j e h. goes_on s new ends j es e h;
 }
   where
     unread : (j : ℕ) (b : Bool) → has_number j s.frame.subscriptions ≡ b → (has_number j (left s u).frame.subscriptions ≡ false) ⊎ (b ≡ true)
     unread j true h = inr refl
-    unread j false h = inl (none_kept j (λ e. not (is_some (ending (among s (shared u)) e))) s.frame.subscriptions h)
+    unread j false h = inl (has_number-filter j (λ e. not (is_some (ending (among s (shared u)) e))) s.frame.subscriptions h)
 
 -- with nobody there
 pub nobody_whole : (s : State) → IsSoundState s → IsWhole (shared s)
@@ -301,7 +301,7 @@ none_rise = tt
 
 -- nothing differs from itself
 same_rows : (rows : List (List Cell)) → difference rows rows ≡ []
-same_rows rows = sym (difference_only rows rows [] (record { changes = record { rising = none_rise; nonzero = All-nil _ }; weights = λ q. zero (pos (copies q rows)) }))
+same_rows rows = sym (difference-IsDifference rows rows [] (record { changes = record { rising = none_rise; nonzero = All-nil _ }; weights = λ q. zero (pos (copies q rows)) }))
 
 no_line : (e : Subscription) (o : Option Cause) (ps : Weighed) → o ≡ None → ps ≡ [] → lines_told o e ps ≡ []
 no_line e o ps h k = (λ i. lines_told (h i) e (k i))

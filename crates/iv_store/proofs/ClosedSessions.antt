@@ -13,7 +13,7 @@ use Rattle.iv_machine.specs.Machine.{difference, ending, line_for, lines_told as
 use Rattle.iv_machine.specs.Refusing.{has_subscription, or_else, test}
 use Rattle.iv_machine.specs.State.{Session, State, Subscription, is_open, session_of, shown, subscription_of, view_shown}
 use Rattle.iv_machine.proofs.SubscriptionPlaces.{all_kept}
-use Rattle.iv_machine.proofs.UniqueNumbers.{given_kept, unique_kept}
+use Rattle.iv_machine.proofs.UniqueNumbers.{AreGiven-filter, AreUnique-filter}
 use Rattle.iv_store.specs.Answering.{IsAccepted, seen}
 use Rattle.iv_store.specs.Counting.{AreCounted}
 use Rattle.iv_store.specs.Finished.{without_session, without_subscription, without_unread}
@@ -64,7 +64,7 @@ module _ (e : Store) (h : IsSoundStore e) (ss : List Session) (p : Subscription 
   pub left_sound : IsSoundStore c
   left_sound = record {
     stored = record {
-      numbers = record { unique = unique_kept p e.subscriptions h.stored.numbers.unique; given = given_kept e.last p e.subscriptions h.stored.numbers.given };
+      numbers = record { unique = AreUnique-filter p e.subscriptions h.stored.numbers.unique; given = AreGiven-filter e.last p e.subscriptions h.stored.numbers.given };
       database = sessions_stored (database_of e) h.stored.database c.sessions roles;
       shows = left (IsOpen e) (IsOpen c) (λ s k o. record { session = ap (λ (x : Option Session). is_some x) (same s k) ∙ o.session; known = o.known }) h.stored.shows;
     };

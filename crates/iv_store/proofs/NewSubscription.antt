@@ -18,7 +18,7 @@ use Rattle.iv_machine.specs.State.{State, Subscription, actor, is_within, is_wit
 use Rattle.iv_machine.specs.Changing.{after, insert_subscription}
 use Rattle.iv_machine.specs.Machine.{changes, line_for, lines_told as machine_line, ending, settled, difference}
 use Rattle.iv_machine.specs.Reached.{AreNumbersUnique}
-use Rattle.iv_machine.proofs.UniqueNumbers.{after_numbers, next_is_new}
+use Rattle.iv_machine.proofs.UniqueNumbers.{AreNumbersUnique-after_frame, has_number-next}
 use Rattle.iv_store.specs.Answering.{IsAccepted, IsRefused, IsStep, seen, sent}
 use Rattle.iv_readers.specs.Rows.{AreInOrder}
 use Rattle.iv_store.specs.Built.{IsBeyond}
@@ -159,7 +159,7 @@ module _ (e : Store) (n k : ℕ) (name : Name) (h : IsSoundStore e) (x : IsOpena
 
   numbers : AreNumbersUnique (frame_of new)
   numbers = subst (λ j. AreNumbersUnique (frame_of (opened e added place (asked e n j)))) x.number
-      (let r = after_numbers (frame_of e) n (subscribe name) h.stored.numbers in record { unique = r.unique; given = r.given })
+      (let r = AreNumbersUnique-after_frame (frame_of e) n (subscribe name) h.stored.numbers in record { unique = r.unique; given = r.given })
 
   -- ---- its circuits
 
@@ -247,7 +247,7 @@ module _ (e : Store) (n k : ℕ) (name : Name) (h : IsSoundStore e) (x : IsOpena
     P y = IsShown new y × (ending (at new T) y ≡ None)
 
     before : shown (at e T) (e.last + 1) ≡ []
-    before = ap (λ o. if_some o [] (view_shown (at e T))) (not_found (e.last + 1) e.subscriptions (next_is_new e.last e.subscriptions h.stored.numbers.given))
+    before = ap (λ o. if_some o [] (view_shown (at e T))) (not_found (e.last + 1) e.subscriptions (has_number-next e.last e.subscriptions h.stored.numbers.given))
 
     pub opened_left : settled (subscribe name) (after (at e T) n (subscribe name)) ≡ at new T
     opened_left = ap (settled (subscribe name)) after_is ∙ ap (λ ss. at (record new { subscriptions = ss }) T) (none_settled new T opened_sound stands)

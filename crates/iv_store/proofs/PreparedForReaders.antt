@@ -10,7 +10,7 @@ use Rattle.std.specs.List.Sorted.{IsNonDecreasingBy, IsPartitionPoint}
 use Rattle.std.specs.Global.{Global, Vec}
 use Rattle.std.specs.declared.rc.Rc.{Rc}
 use Rattle.iv_zset.specs.Weights.{IsZSet, Weighed, weight_of}
-use Rattle.iv_zset.proofs.Support.{rows_same, rows_stored}
+use Rattle.iv_zset.proofs.Support.{rows_in-SameZ, rows_in-IsZSet}
 use Rattle.iv_circuit.specs.Changing.{Given, has_rows, is_touched}
 use Rattle.iv_circuit.specs.Circuits.{Running}
 use Rattle.iv_circuit.specs.Nodes.{Scanned, scans_of}
@@ -32,7 +32,7 @@ use Rattle.iv_readers.specs.Touching.{ArePlaces, AreRisingFrom, IsPlace, rels_of
 use Rattle.iv_readers.specs.declared.changes.Prepared.{Prepared}
 use Rattle.iv_store.specs.declared.touching.Reader.{Reader}
 use Rattle.iv_store.specs.declared.touching.Touched.{Touched}
-use Rattle.iv_database.proofs.FrameTests.{both}
+use Rattle.iv_database.proofs.FrameTests.{and-true_both}
 use Rattle.iv_store.proofs.Beside.{for_is}
 use Rattle.iv_readers.proofs.Held.{same_number}
 use Rattle.iv_readers.proofs.Lists.{all_map, all_zip, is_self, apart, below_not}
@@ -112,7 +112,7 @@ no_change t (c ∷ cs) h = by (t == c.rel) refl h (no_change t cs)
     by false e k go = ap (λ b. cond b c.rows (change_at cs t)) (swap c.rel t ∙ e) ∙ go k
 
 pub given_none : (given : Given) (changes : List Change) → AreChangesGiven given changes → (t : ℕ) → list_any (λ s. t == s) (map (λ c. c.rel) changes) ≡ false → given t ≡ []
-given_none given changes is t none = empty (given t) (sym (rows_stored (given t) (is.zsets t)) ∙ rows_same (given t) [] (λ q. is.same t q ∙ ap (λ (es : Weighed). weight_of es q) (no_change t changes none)))
+given_none given changes is t none = empty (given t) (sym (rows_in-IsZSet (given t) (is.zsets t)) ∙ rows_in-SameZ (given t) [] (λ q. is.same t q ∙ ap (λ (es : Weighed). weight_of es q) (no_change t changes none)))
   where
     empty : (es : Weighed) → length es ≡ 0 → es ≡ []
     empty [] h = refl
@@ -275,7 +275,7 @@ module _ (role rel : ℕ) where
   at_index (x ∷ ks) zero k d low t f here = ap (λ b. cond b (Some x.at) (at_for role rel ks)) t ∙ ap (λ (y : RoleCircuit). Some y.at) (sym here)
   at_index (x ∷ ks) (suc i) k d low t f here = ap (λ b. cond b (Some x.at) (at_for role rel ks)) (f 0 (omega arith)) ∙ at_index ks i k d (omega arith) t (λ j h. f (suc j) (omega (arith, h))) here
 
-  -- that of the first that is for both
+  -- that of the first that is for and-true_both
   pub at_place : (ks : List RoleCircuit) (i at : ℕ) → position (is_for role rel) ks ≡ Some i → ((k : RoleCircuit) → k ≡ get_or ks i k → at ≡ k.at) → at_for role rel ks ≡ Some at
   at_place [] i at h is = cc
   at_place (x ∷ ks) i at h is =
@@ -387,7 +387,7 @@ no_rows (Some rows) h = cc
 no_rows_at : (place : ℕ) (ps : List Prepared) → list_all has_no_rows ps ≡ true → rows_at place ps ≡ []
 no_rows_at place [] h = refl
 no_rows_at place (p ∷ ps) h =
-    let b = both (has_no_rows p) (list_all has_no_rows ps) h in
+    let b = and-true_both (has_no_rows p) (list_all has_no_rows ps) h in
     by (p.place == place) (no_rows p.rows b.0) (no_rows_at place ps b.1)
   where
     by : (c : Bool) → shared_rows p.rows ≡ [] → rows_at place ps ≡ [] → cond c (shared_rows p.rows) (rows_at place ps) ≡ []

@@ -35,8 +35,8 @@ use Rattle.iv_command.specs.declared.answer.Answer.{Answer}
 use Rattle.iv_command.specs.declared.stop.Stop.{Stop}
 use Rattle.iv_command.specs.declared.stop.Stop.TheVariants.{Refused, Memory}
 use Rattle.iv_store.proofs.SubscriptionRounds.{all_beside, same_rounds, those_counted}
-use Rattle.iv_database.proofs.PolicyTests.{err_is}
-use Rattle.iv_database.proofs.TablesOfCatalog.{rows_with}
+use Rattle.iv_database.proofs.PolicyTests.{IsErrAnd-gives}
+use Rattle.iv_database.proofs.TablesOfCatalog.{rows_of-with_table}
 use Rattle.iv_store.proofs.SubscriptionViews.{cause_for, difference_none, each_found, ending_is, shown_is}
 use Rattle.iv_readers.proofs.Lists.{all_map, all_zip}
 use Rattle.iv_store.proofs.Sound.{all_shown, begin_sound, begin_unmoved, grant_sound, grant_unmoved, role_sound, role_unmoved, table_sound, table_unmoved, view_sound, view_unmoved}
@@ -158,7 +158,7 @@ grant_quiet e n rel ps to = quiet e n (grant rel ps to)
 
 pub table_quiet : (e : Store) (n : ℕ) (name owner : Name) (columns : List Column) → IsQuiet e n (create_table name owner columns)
 table_quiet e n name owner columns = quiet e n (create_table name owner columns)
-    (record { rows = λ T. refl; after = λ T h. refl; ends = λ s. refl; reply = refl; tables = λ T s t q. ap (λ z. weight_of z q) (rows_with (catalogs.Table columns) (length e.catalog) e.tables t) ∙ s t q; sound = λ p h. table_sound e n h name owner columns; counts = λ old new role rel k. refl })
+    (record { rows = λ T. refl; after = λ T h. refl; ends = λ s. refl; reply = refl; tables = λ T s t q. ap (λ z. weight_of z q) (rows_of-with_table (catalogs.Table columns) (length e.catalog) e.tables t) ∙ s t q; sound = λ p h. table_sound e n h name owner columns; counts = λ old new role rel k. refl })
     (λ p h. table_unmoved e n h name owner columns)
 
 pub view_quiet : (e : Store) (n : ℕ) (name owner query : Name) → IsQuiet e n (create_view name owner query)
@@ -204,7 +204,7 @@ TestsAlike u n act = frame_refusal (database.frame_of (database_of u)) n act ≡
 
 -- what stops a request goes up as it is
 pub goes_up : (e : Store) (n : ℕ) (act : Act) (new : Store) (stop : Stop) → IsStep e n act (Err stop) new → (r : Result Answer Stop) → IsErrAnd r (λ x. x ≡ stop) → IsStep e n act r new
-goes_up e n act new stop step r up = err_is r (λ x. x ≡ stop) (λ y. IsStep e n act y new) up (λ x is. subst (λ (z : Stop). IsStep e n act (Err z) new) (sym is) step)
+goes_up e n act new stop step r up = IsErrAnd-gives r (λ x. x ≡ stop) (λ y. IsStep e n act y new) up (λ x is. subst (λ (z : Stop). IsStep e n act (Err z) new) (sym is) step)
 
 module _ (e u : Store) (d : Database) (n : ℕ) (act : Act) (is : u ≡ e) (same : TestsAlike u n act) where
   -- a request that it does not do

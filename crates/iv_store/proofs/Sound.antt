@@ -27,11 +27,11 @@ use Rattle.iv_readers.specs.Readers.{RoleCircuit, is_for as is_circuit_for}
 use Rattle.iv_store.specs.Next.{kept_after}
 use Rattle.iv_database.specs.Next as database
 use Rattle.iv_database.specs.Next.{database_after}
-use Rattle.iv_database.proofs.StoredFacts.{begin_stored, relation_stored, rights_stored, role_stored, start_stored, view_is}
+use Rattle.iv_database.proofs.StoredFacts.{begin_stored, relation_stored, IsDatabase-with_rights, role_stored, IsDatabase-at_start, view_is}
 use Rattle.iv_database.specs.Stands.{Stands}
-use Rattle.iv_database.proofs.TablesOfCatalog.{none_beyond, rows_with}
+use Rattle.iv_database.proofs.TablesOfCatalog.{none_beyond, rows_of-with_table}
 use Rattle.iv_store.proofs.VisibleRows.{for_same, rows_same, sees_same}
-use Rattle.iv_database.proofs.Tables.{known_at}
+use Rattle.iv_database.proofs.Tables.{numbered-is_some}
 use Rattle.iv_store.proofs.Unread.{read_has, read_same}
 use Rattle.iv_store.proofs.UnmovedSubscriptions.{IsUnmoved, other_sessions, sees_before, sight_before, still_circuit, still_numbered, still_read, still_shown, still_there, still_within}
 use Rattle.iv_readers.proofs.Lists.{all_map, all_zip}
@@ -156,7 +156,7 @@ module _ (e : Store) (h : IsSoundStore e) (name owner : Name) (held : Held) wher
   relation_unmoved_by s o =
       let r = e.known.rights in
       let q = c.known.rights in
-      let same = still_numbered name (Some held) e.catalog s.rel (known_at 0 e.catalog s.rel h.stored.database.numbered (omega arith) (let k = o.known in omega (arith, k))) in
+      let same = still_numbered name (Some held) e.catalog s.rel (numbered-is_some 0 e.catalog s.rel h.stored.database.numbered (omega arith) (let k = o.known in omega (arith, k))) in
       record {
         plan = ap (λ (y : Option CatalogEntry). if_some y (Scan s.rel) (λ z. plan_of z.rel z.held)) same;
         needs = ap (λ (y : Option CatalogEntry). if_some y [] (λ z. reached_by z.rel z.held)) same;
@@ -165,7 +165,7 @@ module _ (e : Store) (h : IsSoundStore e) (name owner : Name) (held : Held) wher
         cap = refl;
         acts = refl;
         grows = let l = length-append e.catalog (x ∷ []) in omega (arith, l);
-        kinds = λ t l. ap (λ (y : Option CatalogEntry). option_map kinds_of (if_some y None (λ z. table_in z.held))) (still_numbered name (Some held) e.catalog t (known_at 0 e.catalog t h.stored.database.numbered (omega arith) (omega (arith, l))));
+        kinds = λ t l. ap (λ (y : Option CatalogEntry). option_map kinds_of (if_some y None (λ z. table_in z.held))) (still_numbered name (Some held) e.catalog t (numbered-is_some 0 e.catalog t h.stored.database.numbered (omega arith) (omega (arith, l))));
         sight = λ t l. sight_before r q (actor (frame_of e) s.session) g (λ o. refl) refl refl t (subst (λ m. t < m) (sym h.stored.database.guards) l);
       }
 
@@ -173,7 +173,7 @@ module _ (e : Store) (h : IsSoundStore e) (name owner : Name) (held : Held) wher
   relation_unmoved = all_map (IsOpen e) (IsUnmoved e c) e.subscriptions relation_unmoved_by h.stored.shows
 
   before : (T : Lists) → Stands T c.tables → Stands T e.tables
-  before T k t q = ap (λ z. weight_of z q) (sym (rows_with held (length e.catalog) e.tables t)) ∙ k t q
+  before T k t q = ap (λ z. weight_of z q) (sym (rows_of-with_table held (length e.catalog) e.tables t)) ∙ k t q
 
   pub relation_sound : IsSoundStore c
   relation_sound =
@@ -283,7 +283,7 @@ module _ (e : Store) (n : ℕ) (h : IsSoundStore e) where
     grant_sound = record {
       stored = record {
         numbers = record { unique = h.stored.numbers.unique; given = h.stored.numbers.given };
-        database = rights_stored (database_of e) given.known.rights h.stored.database.guards refl h.stored.database;
+        database = IsDatabase-with_rights (database_of e) given.known.rights h.stored.database.guards refl h.stored.database;
         shows = all_map (IsOpen e) (IsOpen given) e.subscriptions (λ s o. record { session = o.session; known = o.known }) h.stored.shows;
       };
       served = all_read e given e.subscriptions grant_unmoved h.served;
@@ -322,7 +322,7 @@ pub start_sound : (cap : ℕ) → IsRowLimit cap → IsSoundStore (kept_at_start
 start_sound cap limit = record {
   stored = record {
     numbers = record { unique = tt; given = tt };
-    database = start_stored cap limit;
+    database = IsDatabase-at_start cap limit;
     shows = tt;
   };
   served = tt;

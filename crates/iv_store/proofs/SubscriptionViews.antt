@@ -7,7 +7,7 @@ use Rattle.std.specs.Ordering.{int_eq}
 use Rattle.std.specs.List.{AllByRecursion, list_any}
 use Rattle.iv_rows.specs.Cell.{Cell}
 use Rattle.iv_zset.specs.Limits.{copies, within}
-use Rattle.iv_zset.proofs.Limits.{within_is}
+use Rattle.iv_zset.proofs.Limits.{within-IsZSet}
 use Rattle.iv_algebra.specs.Plans.{Lists}
 use Rattle.iv_algebra.specs.Evaluation.{eval, plan_within}
 use Rattle.iv_algebra.specs.Contents.{rows_of}
@@ -25,7 +25,7 @@ use Rattle.iv_database.proofs.Taken as taking
 use Rattle.iv_store.specs.Store.{database_of, Store, IsStored, frame_of, at, may_read, shown_rows, table_rows}
 use Rattle.iv_database.specs.Stands.{Stands}
 use Rattle.iv_store.proofs.VisibleRows.{filter_within, rows_same}
-use Rattle.iv_database.proofs.Tables.{IsATable, plan_is}
+use Rattle.iv_database.proofs.Tables.{IsATable, plan_at-IsATable}
 
 nat_at_most : (m n : ℕ) → m ≤ n → nat_le m n ≡ true
 nat_at_most m n h = grind (arith, nat_tests)
@@ -34,10 +34,10 @@ nat_at_most m n h = grind (arith, nat_tests)
 
 module _ (e : Store) (T : Lists) where
   pub view_is : (role rel : ℕ) → IsATable e.catalog rel → view_for (at e T) role rel ≡ filter (may_see e.known.rights role rel) (T rel)
-  view_is role rel t = ap (λ p. eval p (allowed e.known.rights role T)) (plan_is e.catalog rel t)
+  view_is role rel t = ap (λ p. eval p (allowed e.known.rights role T)) (plan_at-IsATable e.catalog rel t)
 
   pub within_for : (role rel : ℕ) → IsATable e.catalog rel → is_within_for (at e T) role rel ≡ within e.cap (filter (may_see e.known.rights role rel) (T rel))
-  within_for role rel t = ap (λ p. plan_within e.cap p (allowed e.known.rights role T)) (plan_is e.catalog rel t)
+  within_for role rel t = ap (λ p. plan_within e.cap p (allowed e.known.rights role T)) (plan_at-IsATable e.catalog rel t)
 
   pub shown_is : (s : Subscription) → subscription_of e.subscriptions s.number ≡ Some s → shown (at e T) s.number ≡ shown_rows e T s
   shown_is s found = ap (λ o. if_some o [] (view_shown (at e T))) found
@@ -51,7 +51,7 @@ module _ (e : Store) (T : Lists) where
 
   module _ (sound : IsStored e) (stands : Stands T e.tables) where
     pub table_fits : (t : ℕ) → within e.cap (T t) ≡ true
-    table_fits t = within_is e.cap (rows_of e.tables t) (T t) (sound.database.zsets t) (stands t) ∙ nat_at_most (length (rows_of e.tables t)) e.cap (sound.database.small t)
+    table_fits t = within-IsZSet e.cap (rows_of e.tables t) (T t) (sound.database.zsets t) (stands t) ∙ nat_at_most (length (rows_of e.tables t)) e.cap (sound.database.small t)
 
     pub view_fits : (role rel : ℕ) → IsATable e.catalog rel → is_within_for (at e T) role rel ≡ true
     view_fits role rel t = view_within role rel t (table_fits rel)

@@ -15,7 +15,7 @@ use Rattle.iv_readers.specs.Readers.{RoleCircuit, is_for}
 use Rattle.iv_database.specs.Stands.{Stands}
 use Rattle.iv_store.proofs.Beside.{for_is, place_there}
 use Rattle.iv_store.proofs.RelationCircuits.{shows_for, within_for}
-use Rattle.iv_database.proofs.BagSizes.{slice_at}
+use Rattle.iv_database.proofs.BagSizes.{slice_get-at_place}
 
 -- what follows of each circuit that is for the role and the relation, where one is found
 module _ (role rel : ℕ) (P : RoleCircuit → Type 0) (Q : Type 0) (go : (k : RoleCircuit) → k.role ≡ role → k.rel ≡ rel → P k → Q) where
@@ -43,7 +43,7 @@ place_in e s i h = place_within (is_for (actor (frame_of e) s.session) s.rel) e.
 
 -- the total there is that of the circuit that stands there
 pub total_is : (e : Store) (i : ℕ) (k : RoleCircuit) → i < length e.circuits → k ≡ get_or e.circuits i k → total_at e i ≡ total_of k.circuit.node
-total_is e i k low is = ap (λ (o : Option RoleCircuit). if_some o [] (λ x. total_of x.circuit.node)) (slice_at e.circuits i k low is)
+total_is e i k low is = ap (λ (o : Option RoleCircuit). if_some o [] (λ x. total_of x.circuit.node)) (slice_get-at_place e.circuits i k low is)
 
 module _ (e : Store) (circuits : AllByRecursion (IsRoleCircuit e) e.circuits) where
   -- the limits hold

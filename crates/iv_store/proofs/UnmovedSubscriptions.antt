@@ -24,7 +24,7 @@ use Rattle.iv_store.specs.Store.{IsCircuitOf, Store, at, frame_of, may_read, sho
 use Rattle.iv_readers.specs.Readers.{RoleCircuit}
 use Rattle.iv_database.specs.Database.{kinds_at}
 use Rattle.iv_database.specs.Stands.{Stands}
-use Rattle.iv_database.proofs.RowKinds.{to_list}
+use Rattle.iv_database.proofs.RowKinds.{HasKinds-Counts}
 use Rattle.iv_store.proofs.VisibleRows.{rows_same, sees_same}
 
 -- in d it has the plan and the needs that it has in e, and its reader may select what it might, and sees the same rows; the
@@ -101,7 +101,7 @@ pub sees_before : (r q : Rights) (role : ℕ) (g : Guard) (tables : List Table) 
 sees_before r q role g tables T reach name guards beyond_none stands = λ i t. each t i
   where
     none : (t : ℕ) → length r.guards ≤ t → T t ≡ []
-    none t l = to_list None (rows_of tables t) (T t) (beyond_none t l) (stands t)
+    none t l = HasKinds-Counts None (rows_of tables t) (T t) (beyond_none t l) (stands t)
 
     by : (t : ℕ) (b : Bool) → nat_lt t (length r.guards) ≡ b → filter (may_see q role t) (T t) ≡ filter (may_see r role t) (T t)
     by t true l = rows_same q r role t reach name (ap (λ gs. slice_get gs t) guards ∙ still_there r.guards g t (below t (length r.guards) l)) (T t)

@@ -12,7 +12,7 @@ use Rattle.iv_zset.specs.Bags.{sign_of, firsts, weigh, z}
 use Rattle.iv_zset.specs.Weights.{Weighed, weight_of}
 use Rattle.iv_zset.specs.Limits.{copies, within}
 use Rattle.iv_zset.proofs.Laws.{length_at_most, weight-z-firsts, weight-z-filter}
-use Rattle.iv_zset.proofs.Rows.{row_tells}
+use Rattle.iv_zset.proofs.Rows.{Tells-row_eq}
 use Rattle.iv_algebra.specs.Rows.{Cells}
 use Rattle.iv_access.specs.declared.policy.Check.{Check}
 use Rattle.iv_access.specs.declared.policy.Check.TheVariants as check
@@ -23,8 +23,8 @@ use Rattle.iv_roles.specs.Roles.{is_admin}
 use Rattle.iv_access.specs.Privileges.{is_for, role_name}
 use Rattle.iv_access.specs.Policies.{applies, by_policies, covers, failed_at, forbids, is_exempt, is_pass, may_see, passes, permits, policies_of}
 use Rattle.iv_machine.specs.Machine.{difference, weight}
-use Rattle.iv_machine.proofs.Alike.{alike}
-use Rattle.iv_machine.proofs.DifferenceOrder.{AreRising, IsBelow, NoZero, difference_rises, difference_weighs}
+use Rattle.iv_machine.proofs.Alike.{is-SameZ_rising}
+use Rattle.iv_machine.proofs.DifferenceOrder.{AreRising, IsBelow, NoZero, AreRising-difference, weight_of-difference}
 
 -- ---- what a role sees depends on its name, on the roles that it reaches and on the guard alone
 
@@ -121,8 +121,8 @@ module _ (p : List Cell → Bool) where
 
   first_weigh : (rows : List (List Cell)) (q : List Cell) → weigh (row_eq q) (z (firsts row_eq (filter p rows))) ≤ℤ weigh (row_eq q) (z (firsts row_eq rows))
   first_weigh rows q =
-      let a : weigh (row_eq q) (z (firsts row_eq (filter p rows))) ≡ sign_of (cond (p q) (weigh (row_eq q) (z rows)) (pos 0)) = weight-z-firsts row_eq row_tells [] (filter p rows) q ∙ ap sign_of (weight-z-filter row_eq row_tells p rows q) in
-      let b : weigh (row_eq q) (z (firsts row_eq rows)) ≡ sign_of (weigh (row_eq q) (z rows)) = weight-z-firsts row_eq row_tells [] rows q in
+      let a : weigh (row_eq q) (z (firsts row_eq (filter p rows))) ≡ sign_of (cond (p q) (weigh (row_eq q) (z rows)) (pos 0)) = weight-z-firsts row_eq Tells-row_eq [] (filter p rows) q ∙ ap sign_of (weight-z-filter row_eq Tells-row_eq p rows q) in
+      let b : weigh (row_eq q) (z (firsts row_eq rows)) ≡ sign_of (weigh (row_eq q) (z rows)) = weight-z-firsts row_eq Tells-row_eq [] rows q in
       let c = sign_less (p q) (weigh (row_eq q) (z rows)) in
       along (sym a) (sym b) c
     where
@@ -133,7 +133,7 @@ module _ (p : List Cell → Bool) where
   filter_within cap rows h =
       let x = both (nat_le (length (firsts row_eq rows)) cap) (list_all (λ r. nat_lt (copies r rows) (2 ^ 63)) rows) h in
       and_true (nat_le (length (firsts row_eq (filter p rows))) cap) (list_all (λ r. nat_lt (copies r (filter p rows)) (2 ^ 63)) (filter p rows))
-      (at_most (length (firsts row_eq (filter p rows))) (length (firsts row_eq rows)) cap (length_at_most row_eq row_tells (firsts row_eq (filter p rows)) (firsts row_eq rows) (first_weigh rows)) x.0)
+      (at_most (length (firsts row_eq (filter p rows))) (length (firsts row_eq rows)) cap (length_at_most row_eq Tells-row_eq (firsts row_eq (filter p rows)) (firsts row_eq rows) (first_weigh rows)) x.0)
       (all_still (λ r. nat_lt (copies r rows) (2 ^ 63)) (λ r. nat_lt (copies r (filter p rows)) (2 ^ 63)) rows (λ r. less (copies r (filter p rows)) (copies r rows) (2 ^ 63) (fewer r rows)) x.1)
 
   -- ---- the difference of what is seen is what is seen of the difference
@@ -196,6 +196,6 @@ module _ (p : List Cell → Bool) where
       by false m n = omega (arith, ints)
 
   pub difference_filter : (a b : List (List Cell)) → difference (filter p a) (filter p b) ≡ seen (difference a b)
-  difference_filter a b = alike (difference (filter p a) (filter p b)) (seen (difference a b)) (difference_rises (filter p a) (filter p b)).0 (rising_seen (difference a b) (difference_rises a b).0)
-      (difference_rises (filter p a) (filter p b)).1 (nonzero_seen (difference a b) (difference_rises a b).1)
-      (λ q. difference_weighs (filter p a) (filter p b) q ∙ weight_filter a b q ∙ sym (weight_seen (difference a b) q ∙ ap (λ w. cond (p q) w (pos 0)) (difference_weighs a b q)))
+  difference_filter a b = is-SameZ_rising (difference (filter p a) (filter p b)) (seen (difference a b)) (AreRising-difference (filter p a) (filter p b)).0 (rising_seen (difference a b) (AreRising-difference a b).0)
+      (AreRising-difference (filter p a) (filter p b)).1 (nonzero_seen (difference a b) (AreRising-difference a b).1)
+      (λ q. weight_of-difference (filter p a) (filter p b) q ∙ weight_filter a b q ∙ sym (weight_seen (difference a b) q ∙ ap (λ w. cond (p q) w (pos 0)) (weight_of-difference a b q)))

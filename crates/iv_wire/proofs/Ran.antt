@@ -6,7 +6,7 @@ use Rattle.iv_machine.specs.Act.{Command}
 use Rattle.iv_machine.specs.Machine.{run, step}
 use Rattle.iv_machine.specs.State.{State}
 use Rattle.iv_machine.specs.Stored.{IsGiven}
-use Rattle.iv_machine.proofs.SoundRuns.{run_stays}
+use Rattle.iv_machine.proofs.SoundRuns.{IsSoundWhole-run}
 use Rattle.iv_engine.specs.Engine.{Engine, IsBehind}
 use Rattle.iv_engine.specs.Sound.{IsSoundEngine}
 use Rattle.iv_engine.proofs.SoundStates.{sound_of, whole_of}
@@ -64,4 +64,4 @@ one_given line c b h g = rw (b, h) (All-cons IsGiven c [] g (All-nil IsGiven))
 
 pub sound_by_run : (lines : ℕ) (old new : Engine) → ((s : State) → IsBehind s old → HasRun lines s new) → IsSoundEngine old → IsSoundEngine new
 sound_by_run lines old new f h = let r = f h.state h.behind in
-    sound_of (run h.state r.commands).state new r.behind (run_stays h.state r.commands r.given (whole_of old h))
+    sound_of (run h.state r.commands).state new r.behind (IsSoundWhole-run h.state r.commands r.given (whole_of old h))

@@ -5,7 +5,7 @@ use Rattle.iv_machine.specs.Act.{Line}
 use Rattle.iv_machine.specs.Machine.{run, step}
 use Rattle.iv_machine.specs.Reached.{AreNumbersUnique}
 use Rattle.iv_machine.specs.State.{State}
-use Rattle.iv_machine.proofs.RunSums.{adds_up, run_numbers}
+use Rattle.iv_machine.proofs.RunSums.{AddsUp-run, AreNumbersUnique-run}
 use Rattle.iv_engine.specs.Engine.{Engine, IsBehind}
 use Rattle.iv_request.specs.Reading.{Reading, faulty, asked}
 use Rattle.iv_lines.specs.Answer.{heard, commands_of, text_answered}
@@ -35,10 +35,10 @@ written_ok s (Some bytes) r end h p =
       commands = commands_of rs;
       text = text_answered s rs;
       behind = h.1;
-      numbers = run_numbers s (commands_of rs) p;
+      numbers = AreNumbersUnique-run s (commands_of rs) p;
       written = h.0;
       texts = text_is_of_run s rs;
-      sums = adds_up s (commands_of rs) p;
+      sums = AddsUp-run s (commands_of rs) p;
     }
 
 pub has_written : (first : Engine) (r : Run) (result : Result End RunFault) → AreNumbersUnique first.frame → ((s : State) → IsBehind s first → IsAnswered s r result) → OnOk result ((s : State) → IsBehind s first → IfSome r.given (λ _. HasWritten s r))

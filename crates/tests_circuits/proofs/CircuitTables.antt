@@ -16,7 +16,7 @@ use Rattle.iv_access.specs.Policies.{allowed}
 use Rattle.iv_circuit.specs.Changing.{Given, IsReady}
 use Rattle.iv_circuit.specs.Circuits.{IsTurned, ReadersFollow, Running}
 use Rattle.iv_circuit.specs.Nodes.{Scanned}
-use Rattle.iv_circuit.proofs.NodesFromTables.{all_from}
+use Rattle.iv_circuit.proofs.NodesFromTables.{All-from_each}
 use Rattle.tests_circuits.specs.Worlds.{AreSound, HasMore, IsReader, IsSound, LeadTo, SameHeads}
 
 pub same_or_not : (m n : ℕ) → (m ≡ n) ⊎ (m ≢ n)
@@ -86,7 +86,7 @@ module _ (old new : List Table) (c : Running) (given : Given) (follow : ReadersF
         (leads s.table q ∙ weight_of-append (given s.table) (rows_of old s.table) q)
         (lists (rows_of old s.table) (before s.table).bag q) (lists (rows_of new s.table) (after s.table).bag q);
     kinds =
-        all_from (λ row. accepts (or_nothing (heads_of old s.table)) row ≡ true) (list_behind (rows_of new s.table)) (λ q n.
+        All-from_each (λ row. accepts (or_nothing (heads_of old s.table)) row ≡ true) (list_behind (rows_of new s.table)) (λ q n.
         subst (λ ks. accepts (or_nothing ks) q ≡ true) (same s.table)
         ((after s.table).kinds q (λ e. n (number (copies q (list_behind (rows_of new s.table))) (sym (lists (rows_of new s.table) (after s.table).bag q) ∙ e)))));
   }

@@ -1,6 +1,6 @@
-use Rattle.iv_roles.proofs.Chains.{follows}
-use Rattle.iv_access.proofs.GrantSets.{members_hold}
+use Rattle.iv_roles.proofs.Chains.{Follows-reaches}
+use Rattle.iv_access.proofs.GrantSets.{has-reaches}
 use Rattle.iv_access.proofs.laws.members_hold_what_roles_hold.Goals as goal
 
 pub returns : goal.returns
-returns c = λ r role other p rel h other_than_admin e. members_hold r role other p rel ((follows r.members role other).1 h) other_than_admin e
+returns c = λ r role other p rel h other_than_admin e. has-reaches r role other p rel ((Follows-reaches r.members role other).1 h) other_than_admin e

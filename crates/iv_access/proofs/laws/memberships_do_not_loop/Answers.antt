@@ -1,5 +1,5 @@
-use Rattle.iv_access.proofs.NoLoops.{reached_apart}
+use Rattle.iv_access.proofs.NoLoops.{AreApart-IsReached}
 use Rattle.iv_access.proofs.laws.memberships_do_not_loop.Goals as goal
 
 pub returns : goal.returns
-returns c = λ r h role other x y. reached_apart h role other x y
+returns c = λ r h role other x y. AreApart-IsReached h role other x y

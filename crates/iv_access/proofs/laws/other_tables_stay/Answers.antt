@@ -3,10 +3,10 @@ use Rattle.std.specs.Prelude.{slice_get, if◌then◌else◌}
 use Rattle.iv_access.specs.declared.policy.Verdict.TheVariants.{Pass}
 use Rattle.iv_access.specs.Policies.{by_policies, is_exempt, policies_of}
 use Rattle.iv_access.specs.Changing.{changed_at}
-use Rattle.iv_access.proofs.Further.{further, same_elsewhere, same_verdict}
+use Rattle.iv_access.proofs.Further.{further, slice_get-changed_elsewhere, same_verdict}
 use Rattle.iv_access.proofs.laws.other_tables_stay.Goals as goal
 
 pub returns : goal.returns
 returns c = λ r p role table other test row apart.
     same_verdict r (changed_at table (further p) r.guards) role test row (slice_get (changed_at table (further p) r.guards) other)
-    ∙ ap (λ o. if is_exempt r role o then Pass else by_policies r role test row (policies_of o)) (same_elsewhere table other (further p) r.guards apart)
+    ∙ ap (λ o. if is_exempt r role o then Pass else by_policies r role test row (policies_of o)) (slice_get-changed_elsewhere table other (further p) r.guards apart)

@@ -8,7 +8,7 @@ use Rattle.iv_access.specs.Changing.{with_relation, all_privileges}
 use Rattle.iv_access.specs.Given.{is_among}
 use Rattle.iv_roles.proofs.Chains.{by_right, reaches_itself}
 use Rattle.iv_access.proofs.GrantSets.{given, gives}
-use Rattle.iv_access.proofs.GrantNames.{among_given, privilege_among_all}
+use Rattle.iv_access.proofs.GrantNames.{is_among-for_each_granted, privilege_among_all}
 use Rattle.iv_access.proofs.laws.owners_have_all.Goals as goal
 
 or_true : (a : Bool) → (a || true) ≡ true
@@ -21,7 +21,7 @@ same n = (unsigned_Decides n n).1 refl
 own : (r : Rights) (owner : ℕ) (p : Privilege) → is_among (with_relation owner r).grants (record { grantee = Role owner; privilege = p; rel = length r.guards }) ≡ true
 own r owner p =
     let g : Grant = record { grantee = Role owner; privilege = p; rel = length r.guards } in
-    among_given (length r.guards) all_privileges (Role owner) g r.grants
+    is_among-for_each_granted (length r.guards) all_privileges (Role owner) g r.grants
     ∙ (λ i. is_among r.grants g || (same (length r.guards) i && (privilege_among_all p i && same owner i)))
     ∙ or_true (is_among r.grants g)
 

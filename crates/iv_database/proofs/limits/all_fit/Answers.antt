@@ -5,19 +5,19 @@ use Rattle.iv_algebra.specs.Contents.{rows_of}
 use Rattle.iv_database.specs.Changes.{Change}
 use Rattle.iv_database.specs.Summed.{KeepsLimits}
 use Rattle.iv_database.specs.Stands.{HasTable}
-use Rattle.iv_database.proofs.BagSizes.{keep_taken, kept_next, table_at}
+use Rattle.iv_database.proofs.BagSizes.{keep_taken, IsKept-take_next_table, HasTable-get_or}
 use Rattle.iv_database.proofs.limits.all_fit.Goals as goal
 
 pub table-requires : goal.table-requires
 table-requires c =
     let s = c.change-item.result in
-    let table = table_at c.args.tables.now c.args.changes.now c.loop-change.change-index s c.requires.tables c.loop-change-test.true c.change-item.is in
+    let table = HasTable-get_or c.args.tables.now c.args.changes.now c.loop-change.change-index s c.requires.tables c.loop-change-test.true c.change-item.is in
     subst (λ (x : Change). HasTable c.args.tables.now x.rel) (sym c.change.view_is) table.0
 
 pub fits-requires-clause-change : goal.fits-requires-clause-change
 fits-requires-clause-change c =
     let s = c.change-item.result in
-    let table = table_at c.args.tables.now c.args.changes.now c.loop-change.change-index s c.requires.tables c.loop-change-test.true c.change-item.is in
+    let table = HasTable-get_or c.args.tables.now c.args.changes.now c.loop-change.change-index s c.requires.tables c.loop-change-test.true c.change-item.is in
     let rows = c.deref.ensures.value ∙ ap (λ (x : Change). x.rows) c.change.view_is in
     subst IsZSet (table.1 ∙ sym rows) (c.requires.changes s.rel)
 
@@ -30,7 +30,7 @@ fits-requires-clause-small c =
 pub returns-then-not-fits-clause-breaks : goal.returns-then-not-fits-clause-breaks
 returns-then-not-fits-clause-breaks c = λ _.
     let s = c.change-item.result in
-    let table = table_at c.args.tables.now c.args.changes.now c.loop-change.change-index s c.requires.tables c.loop-change-test.true c.change-item.is in
+    let table = HasTable-get_or c.args.tables.now c.args.changes.now c.loop-change.change-index s c.requires.tables c.loop-change-test.true c.change-item.is in
     let here : rows_of c.args.tables.now s.rel ≡ c.table.result.now = ap (λ (x : Change). rows_of c.args.tables.now x.rel) (sym c.change.view_is) ∙ sym c.table.ensures.rows in
     let rows = c.deref.ensures.value ∙ ap (λ (x : Change). x.rows) c.change.view_is in (
       s.rel,
@@ -44,7 +44,7 @@ loop-change-preserved c =
     let s = c.change-item.result in
     let here : rows_of c.args.tables.now s.rel ≡ c.table.result.now = ap (λ (x : Change). rows_of c.args.tables.now x.rel) (sym c.change.view_is) ∙ sym c.table.ensures.rows in
     let rows = c.deref.ensures.value ∙ ap (λ (x : Change). x.rows) c.change.view_is in
-    kept_next c.args.cap c.args.tables.now c.args.changes.now c.loop-change.change-index s c.loop-change.invariant c.loop-change-test.true c.change-item.is
+    IsKept-take_next_table c.args.cap c.args.tables.now c.args.changes.now c.loop-change.change-index s c.loop-change.invariant c.loop-change-test.true c.change-item.is
     (subst (λ b. KeepsLimits c.args.cap b s.rows) (sym here) (subst (KeepsLimits c.args.cap c.table.result.now) rows (c.fits.ensures.keeps c.if-not-fits.false)))
 
 pub returns-clause-keep : goal.returns-clause-keep

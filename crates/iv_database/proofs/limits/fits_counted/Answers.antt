@@ -4,14 +4,14 @@ use Rattle.std.proofs.lemmas.Int.{to_z-of_z}
 use mir.Val.{SFits}
 use Rattle.iv_zset.specs.Support.{one_for}
 use Rattle.iv_zset.specs.Weights.{InRange}
-use Rattle.iv_zset.proofs.Support.{rows_stored, rows_sum}
-use Rattle.iv_database.proofs.BagSizes.{breaks, counted_next, counted_start, entry_fits, keeps, range_next, range_out, range_start, slice_at}
+use Rattle.iv_zset.proofs.Support.{rows_in-IsZSet, rows_in-append}
+use Rattle.iv_database.proofs.BagSizes.{breaks, counted_next, rows_in-start, SFits-slice_get, keeps, range_next, range_out, InRange-start, slice_get-at_place}
 use Rattle.iv_database.proofs.limits.fits_counted.Goals as goal
 
 pub loop-row-init : goal.loop-row-init
 loop-row-init c = record {
-  in_range = range_start c.args.bag.now c.rows-rows.ensures.zset;
-  counted = counted_start c.args.bag.now c.rows-rows.result c.rows-rows.ensures.zset c.rows-rows.ensures.rows;
+  in_range = InRange-start c.args.bag.now c.rows-rows.ensures.zset;
+  counted = rows_in-start c.args.bag.now c.rows-rows.result c.rows-rows.ensures.zset c.rows-rows.ensures.rows;
   more = omega arith;
   less = omega arith;
 }
@@ -21,8 +21,8 @@ returns-in_default-clause-breaks c = λ _.
     let k = c.loop-row.row-index in
     let row = c.loop-row-item.result.0 in
     let w = c.loop-row-item.result.1 in
-    let here = slice_at c.args.change.now k c.loop-row-item.result c.loop-row-test.true c.loop-row-item.is in
-    let fits = entry_fits c.args.change.now k row w c.requires.change here in
+    let here = slice_get-at_place c.args.change.now k c.loop-row-item.result c.loop-row-test.true c.loop-row-item.is in
+    let fits = SFits-slice_get c.args.change.now k row w c.requires.change here in
     let old : SFits w64 c.weight-before.result = search rules in
     range_out c.args.bag.now c.args.change.now k row w c.requires.change here c.args.cap
     (λ r. c.in_default.ensures.none.0 refl (subst InRange (sym ((λ i. to_z-of_z w64 w fits i +ℤ to_z-of_z w64 c.weight-before.result old i) ∙ ap (λ x. w +ℤ x) c.weight-before.ensures.weight)) r))
@@ -46,8 +46,8 @@ loop-row-preserved c =
     let k = c.loop-row.row-index in
     let row = c.loop-row-item.result.0 in
     let w = c.loop-row-item.result.1 in
-    let here = slice_at c.args.change.now k c.loop-row-item.result c.loop-row-test.true c.loop-row-item.is in
-    let fits = entry_fits c.args.change.now k row w c.requires.change here in
+    let here = slice_get-at_place c.args.change.now k c.loop-row-item.result c.loop-row-test.true c.loop-row-item.is in
+    let fits = SFits-slice_get c.args.change.now k row w c.requires.change here in
     let old : SFits w64 c.weight-before.result = search rules in
     let new : SFits w64 c.in-Some.after = search rules in
     let one = c.one_if_zero-added.ensures in

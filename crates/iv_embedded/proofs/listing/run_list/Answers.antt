@@ -3,7 +3,7 @@ use Rattle.std.proofs.Common.{◌≡◌, ◌∙◌, refl, sym, ap, List, map, �
 use Rattle.std.specs.List.{list_all}
 use Rattle.std.proofs.lemmas.List.{map-append}
 use Rattle.std.specs.Vec.Iter.{into_iter_items}
-use Rattle.iv_machine.proofs.RunSums.{adds_up}
+use Rattle.iv_machine.proofs.RunSums.{AddsUp-run}
 use Rattle.iv_machine.specs.Held.{held}
 use Rattle.iv_machine.specs.Machine.{run, step}
 use Rattle.iv_machine.specs.Reached.{AreNumbersUnique}
@@ -75,7 +75,7 @@ returns-clause-held c = λ s b k q kept.
     let none : into_iter_items c.loop-command.command-iterator ≡ [] = no_items (into_iter_items c.loop-command.command-iterator) (let empty = c.in-None.ensures.steps.0 in let ok = c.loop-command.command-iterator.rest.ok in omega (arith, empty, ok)) in
     let lines : map line_of c.loop-command.lines.items ≡ (run s (map command_of c.args.commands.items)).lines = nothing_more (map line_of c.loop-command.lines.items) ∙ sym (ap (λ (cs : List Command). map line_of c.loop-command.lines.items ++ (run x.0 (map command_of cs)).lines) none) ∙ x.2 in
     let numbers : AreNumbersUnique s.frame = subst AreNumbersUnique (sym b.frame) (c.is_failed.ensures.numbers c.if-is_failed.false) in
-    ap (held k q) lines ∙ adds_up s (map command_of c.args.commands.items) numbers k q kept
+    ap (held k q) lines ∙ AddsUp-run s (map command_of c.args.commands.items) numbers k q kept
 
 pub returns-clause-sound : goal.returns-clause-sound
 returns-clause-sound c = λ g h. sound_after_all c.args.engine.now _ (map command_of c.args.commands.items) g (returns-clause-state c) h

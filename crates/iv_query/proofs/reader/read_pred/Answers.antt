@@ -5,8 +5,8 @@ use Rattle.iv_query.specs.Trees.{pred_tree}
 use Rattle.iv_query.specs.Grammar.{pred, Reads, Faults}
 use Rattle.iv_query.specs.Texts.{IsPredText, HasPredFault}
 use Rattle.iv_query.specs.TextReading.{policy_condition_at, read_pred}
-use Rattle.iv_query.proofs.TextLaws.{text_read, gives_text, gives_long, found}
-use Rattle.iv_query.proofs.PredLaws.{pred_agreement}
+use Rattle.iv_query.proofs.TextLaws.{text_read, gives_text, gives_long, IfOk-IsOutcome}
+use Rattle.iv_query.proofs.PredLaws.{Agreement-pred_at}
 use Rattle.iv_query.proofs.WellTokens.{preds_well}
 use Rattle.iv_query.proofs.reader.read_pred.Goals as goal
 
@@ -22,4 +22,4 @@ returns-clause-read c =
 pub returns-clause-well : goal.returns-clause-well
 returns-clause-well c =
     preds_well c.args.text.now (λ (p : PredText). pred_tree p.pred) c.whole_pred.result
-    (found IsPredText HasPredFault c.args.text.now (λ (p : PredText). pred_tree p.pred) c.whole_pred.result (read_pred c.args.text.now) (returns-clause-read c) (text_read (Reads Policy pred 32) (λ stop. Faults stop Policy pred 32) policy_condition_at (pred_agreement Policy) c.args.text.now c.utf8.text))
+    (IfOk-IsOutcome IsPredText HasPredFault c.args.text.now (λ (p : PredText). pred_tree p.pred) c.whole_pred.result (read_pred c.args.text.now) (returns-clause-read c) (text_read (Reads Policy pred 32) (λ stop. Faults stop Policy pred 32) policy_condition_at (Agreement-pred_at Policy) c.args.text.now c.utf8.text))

@@ -4,8 +4,8 @@ use Rattle.iv_query.specs.Query.{IsQuery, IsQueryFault}
 use Rattle.iv_query.specs.QueryReading.{query_at}
 use Rattle.iv_query.specs.Texts.{IsQueryText, HasQueryFault}
 use Rattle.iv_query.specs.TextReading.{read_query}
-use Rattle.iv_query.proofs.TextLaws.{text_read, gives_text, gives_long, found}
-use Rattle.iv_query.proofs.SelectLaws.{query_agreement}
+use Rattle.iv_query.proofs.TextLaws.{text_read, gives_text, gives_long, IfOk-IsOutcome}
+use Rattle.iv_query.proofs.SelectLaws.{Agreement-query_at}
 use Rattle.iv_query.proofs.WellTokens.{queries_well, queries_small}
 use Rattle.iv_query.proofs.reader.read_query.Goals as goal
 
@@ -21,9 +21,9 @@ returns-clause-read c =
 pub returns-clause-well : goal.returns-clause-well
 returns-clause-well c =
     queries_well c.args.text.now query_tree c.whole_query.result
-    (found IsQueryText HasQueryFault c.args.text.now query_tree c.whole_query.result (read_query c.args.text.now) (returns-clause-read c) (text_read IsQuery IsQueryFault query_at query_agreement c.args.text.now c.utf8.text))
+    (IfOk-IsOutcome IsQueryText HasQueryFault c.args.text.now query_tree c.whole_query.result (read_query c.args.text.now) (returns-clause-read c) (text_read IsQuery IsQueryFault query_at Agreement-query_at c.args.text.now c.utf8.text))
 
 pub returns-clause-sources : goal.returns-clause-sources
 returns-clause-sources c =
     queries_small c.args.text.now query_tree c.whole_query.result
-    (found IsQueryText HasQueryFault c.args.text.now query_tree c.whole_query.result (read_query c.args.text.now) (returns-clause-read c) (text_read IsQuery IsQueryFault query_at query_agreement c.args.text.now c.utf8.text))
+    (IfOk-IsOutcome IsQueryText HasQueryFault c.args.text.now query_tree c.whole_query.result (read_query c.args.text.now) (returns-clause-read c) (text_read IsQuery IsQueryFault query_at Agreement-query_at c.args.text.now c.utf8.text))

@@ -1,5 +1,5 @@
-use Rattle.iv_roles.proofs.Chains.{follows}
+use Rattle.iv_roles.proofs.Chains.{Follows-reaches}
 use Rattle.iv_roles.proofs.laws.chains_are_followed.Goals as goal
 
 pub returns : goal.returns
-returns c = λ ms role other. follows ms role other
+returns c = λ ms role other. Follows-reaches ms role other

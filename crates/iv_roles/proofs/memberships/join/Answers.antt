@@ -1,9 +1,9 @@
 use Rattle.std.proofs.Common.{◌∙◌, ◌||◌, false, get_or, length-set, arith}
-use Rattle.iv_roles.proofs.Flags.{joined_start, joined_step, joined_end}
+use Rattle.iv_roles.proofs.Flags.{JoinedTo-start, JoinedTo-step, get_or-joined}
 use Rattle.iv_roles.proofs.memberships.join.Goals as goal
 
 pub loop-place-init : goal.loop-place-init
-loop-place-init c = (joined_start c.args.row.now c.args.other.now, c.told-row)
+loop-place-init c = (JoinedTo-start c.args.row.now c.args.other.now, c.told-row)
 
 pub loop-place-preserved : goal.loop-place-preserved
 loop-place-preserved c =
@@ -11,7 +11,7 @@ loop-place-preserved c =
     let n = c.loop-place.place in
     let long = c.loop-place.invariant.1 in
     let below = c.loop-place-test.true in (
-      joined_step c.args.row.now c.args.other.now row n (omega (arith, long, below)) c.loop-place.invariant.0,
+      JoinedTo-step c.args.row.now c.args.other.now row n (omega (arith, long, below)) c.loop-place.invariant.0,
       length-set row n (get_or row n false || get_or c.args.other.now n false) ∙ long,
     )
 
@@ -21,4 +21,4 @@ returns c =
     let long = c.loop-place.invariant.1 in
     let other = c.told-other in
     let past = c.loop-place-test.false in
-    joined_end c.loop-place.place c.args.role c.args.row.now c.args.other.now c.loop-place.row (omega (arith, other, past)) (omega (arith, wide, long)) c.loop-place.invariant.0
+    get_or-joined c.loop-place.place c.args.role c.args.row.now c.args.other.now c.loop-place.row (omega (arith, other, past)) (omega (arith, wide, long)) c.loop-place.invariant.0

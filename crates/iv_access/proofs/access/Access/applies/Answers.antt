@@ -3,7 +3,7 @@ use Rattle.std.specs.List.{list_any}
 use Rattle.iv_access.specs.Grants.{seen}
 use Rattle.iv_access.specs.Policies.{applies}
 use Rattle.iv_access.specs.Privileges.{is_for}
-use Rattle.iv_roles.proofs.Lists.{any_map}
+use Rattle.iv_roles.proofs.Lists.{list_any-map}
 use Rattle.iv_access.proofs.access.Access.applies.Goals as goal
 
 pub returns-then-covers : goal.returns-then-covers
@@ -12,6 +12,6 @@ returns-then-covers c =
     let role = c.args.role.0 in
     c.goes_to.ensures
     ∙ ap (list_any (λ t. is_for r role (seen t))) c.deref.ensures.value
-    ∙ sym (any_map (is_for r role) seen c.policy.inside.to.items)
+    ∙ sym (list_any-map (is_for r role) seen c.policy.inside.to.items)
     ∙ ap (λ b. b && list_any (is_for r role) (map seen c.policy.inside.to.items)) (sym c.if-covers.true ∙ c.covers.ensures)
     ∙ ap (applies r role c.args.test) c.policy.view_is

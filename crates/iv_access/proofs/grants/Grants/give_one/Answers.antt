@@ -2,7 +2,7 @@ use Rattle.std.proofs.Common.{◌≡◌, ◌<◌, [], ◌∷◌, ◌++◌, ap, s
 use Rattle.std.specs.Prelude.{if◌then◌else◌, is_ok}
 use Rattle.iv_access.specs.Given.{grant_to, is_among}
 use Rattle.iv_access.specs.Grants.{AreFlags, seen}
-use Rattle.iv_access.proofs.GrantFlags.{given_one}
+use Rattle.iv_access.proofs.GrantFlags.{AreFlags-granted}
 use Rattle.iv_access.proofs.grants.Grants.give_one.Goals as goal
 
 pub invariant_of-self : goal.invariant_of-self
@@ -15,4 +15,4 @@ invariant_of-self c =
     let many = ap (λ k. k.relations) c.self.view_is in
     let here : c.args.rel.0 < length rs = omega (arith, told, many, c.self.inside.flags.ok.0) in
     let pushed : c.push.new.self.items ≡ gs ++ h ∷ [] = c.push.ensures.items ∙ ap (λ r. if is_ok r then gs ++ h ∷ [] else gs) c.unwrap.ensures in
-    subst (λ ks. AreFlags ks (set rs c.args.rel.0 c.set.new.self)) (sym pushed) (given_one gs rs h c.index_mut.result.now c.set.new.self c.self.invariant none here c.index_mut.ensures.value c.set.ensures)
+    subst (λ ks. AreFlags ks (set rs c.args.rel.0 c.set.new.self)) (sym pushed) (AreFlags-granted gs rs h c.index_mut.result.now c.set.new.self c.self.invariant none here c.index_mut.ensures.value c.set.ensures)

@@ -3,7 +3,7 @@ use Rattle.std.specs.Prelude.{insert}
 use Rattle.std.specs.List.{position_or_len}
 use Rattle.iv_access.specs.Changing.{insert_policy}
 use Rattle.iv_access.specs.Stored.{is_before}
-use Rattle.iv_access.proofs.Policies.{inserted}
+use Rattle.iv_access.proofs.Policies.{insert-insert_policy}
 use Rattle.iv_access.proofs.guard.Guard.insert.Goals as goal
 
 pub returns-clause-ok : goal.returns-clause-ok
@@ -16,6 +16,6 @@ returns-clause-ok c =
     let after : c.insert.new.self.items ≡ insert_policy p c.args.self.now.policies =
     c.in_ok-insert.ensures.items
     ∙ ap (λ n. insert ps n p) place
-    ∙ inserted p ps
+    ∙ insert-insert_policy p ps
     ∙ ap (λ g. insert_policy p g.policies) c.self.view_is in
     λ i. record { owner = (c.self.view_is i).owner; enabled = (c.self.view_is i).enabled; forced = (c.self.view_is i).forced; policies = after i }

@@ -6,7 +6,7 @@ use Rattle.iv_access.specs.Rights.{Name}
 use Rattle.iv_bind.specs.Catalogs.{bound_of, numbered}
 use Rattle.iv_database.specs.Database.{Database}
 use Rattle.iv_database.proofs.NewView.{view_stops}
-use Rattle.iv_database.proofs.RightsRefusals.{free_number}
+use Rattle.iv_database.proofs.RightsRefusals.{numbered-length}
 use Rattle.iv_database.proofs.database.Database.add_view.Goals as goal
 
 pub returns-in-Err-clause-added : goal.returns-in-Err-clause-added
@@ -24,4 +24,4 @@ returns-in-Err-clause-added c =
 pub add_view-requires-clause-number : goal.add_view-requires-clause-number
 add_view-requires-clause-number c =
     ap (λ (v : Database). numbered v.catalog c.in-Ok.rel.0) c.self.view_is
-    ∙ free_number c.args.self.now c.requires.stored c.in-Ok.rel.0 (c.in-Ok.ensures.number ∙ ap (λ (v : Database). length v.known.relations) c.self.view_is)
+    ∙ numbered-length c.args.self.now c.requires.stored c.in-Ok.rel.0 (c.in-Ok.ensures.number ∙ ap (λ (v : Database). length v.known.relations) c.self.view_is)

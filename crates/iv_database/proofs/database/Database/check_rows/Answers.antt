@@ -9,8 +9,8 @@ use Rattle.iv_database.specs.Database.{frame_of}
 use Rattle.iv_database.specs.Placed.{first_of}
 use Rattle.iv_command.specs.Stops.{IsTested}
 use Rattle.iv_command.specs.declared.stop.Stop.{Stop}
-use Rattle.iv_database.proofs.FrameTests.{first_stops}
-use Rattle.iv_database.proofs.PolicyTests.{err_is}
+use Rattle.iv_database.proofs.FrameTests.{IsTested-Err}
+use Rattle.iv_database.proofs.PolicyTests.{IsErrAnd-gives}
 use Rattle.iv_database.proofs.database.Database.check_rows.Goals as goal
 
 pub returns-in_err-check_row : goal.returns-in_err-check_row
@@ -21,6 +21,6 @@ returns-in_err-check_row c =
     let f : Check × Bor (List Cell) → Option Refusal = λ t. check (t.0, t.1.now) in
     let rest = first (map f (drop (suc i) tests)) in
     let here = c.loop-test.invariant ∙ ap (λ (ts : List (Check × Bor (List Cell))). first (map f ts)) (drop-cons tests i c.loop-test-item.result c.loop-test-test.true ∙ ap (λ (t : Check × Bor (List Cell)). t ∷ drop (suc i) tests) (sym c.loop-test-item.is)) in
-    err_is c.from_residual.result _ (IsTested (first_of check tests)) c.from_residual.ensures.1
+    IsErrAnd-gives c.from_residual.result _ (IsTested (first_of check tests)) c.from_residual.ensures.1
     (λ stop is. subst (λ (s : Stop). IsTested (first_of check tests) (Err s)) (sym is)
-    (subst (λ (o : Option Refusal). IsTested o (Err c.in_err-check_row.field-0.0)) (sym here) (first_stops (f c.loop-test-item.result) rest c.in_err-check_row.field-0.0 c.in_err-check_row.ensures)))
+    (subst (λ (o : Option Refusal). IsTested o (Err c.in_err-check_row.field-0.0)) (sym here) (IsTested-Err (f c.loop-test-item.result) rest c.in_err-check_row.field-0.0 c.in_err-check_row.ensures)))

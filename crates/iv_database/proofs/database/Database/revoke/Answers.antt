@@ -11,7 +11,7 @@ use Rattle.iv_database.specs.Target.{IsActingOn}
 use Rattle.iv_command.specs.declared.stop.Stop.{Stop}
 use Rattle.iv_database.proofs.MembershipChanges.{without_memory}
 use Rattle.iv_database.proofs.GrantChanges.{taken_done}
-use Rattle.iv_database.proofs.PolicyTests.{acting_refused, err_is}
+use Rattle.iv_database.proofs.PolicyTests.{IsDone-IsActingOn, IsErrAnd-gives}
 use Rattle.iv_database.proofs.database.Database.revoke.Goals as goal
 
 pub returns-in_err-acting-clause-done : goal.returns-in_err-acting-clause-done
@@ -22,9 +22,9 @@ returns-in_err-acting-clause-done c =
     let rel = string_bytes c.args.rel in
     let to = name_given c.args.grantee in
     let act = machine.revoke rel c.args.privileges.now to in
-    err_is c.from_residual.result _ (λ r. IsDone e n act r e) c.from_residual.ensures.1
+    IsErrAnd-gives c.from_residual.result _ (λ r. IsDone e n act r e) c.from_residual.ensures.1
     (λ stop is. subst (λ (s : Stop). IsDone e n act (Err s) e) (sym is)
-    (acting_refused e n act rel c.in_err-acting.field-0.0 (owner_alone f (actor f n) rel ∷ known_grantee f to ∷ []) refl
+    (IsDone-IsActingOn e n act rel c.in_err-acting.field-0.0 (owner_alone f (actor f n) rel ∷ known_grantee f to ∷ []) refl
     (subst (λ (name : Name). IsActingOn e n name (Err c.in_err-acting.field-0.0)) c.as_str.ensures.value c.in_err-acting.ensures)))
 
 pub returns-clause-done : goal.returns-clause-done

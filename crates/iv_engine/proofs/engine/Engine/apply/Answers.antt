@@ -4,7 +4,7 @@ use Rattle.iv_machine.specs.Machine.{step}
 use Rattle.iv_machine.specs.State.{Frame}
 use Rattle.iv_machine.specs.Reached.{AreNumbersUnique}
 use Rattle.iv_machine.specs.Readers.{ShowsKnownRows}
-use Rattle.iv_machine.proofs.RowsOfLines.{step_shows}
+use Rattle.iv_machine.proofs.RowsOfLines.{ShowsKnownRows-step}
 use Rattle.std.specs.List.{All}
 use Rattle.iv_store.specs.Answering.{seen}
 use Rattle.iv_store.specs.Store.{Store, frame_of}
@@ -33,7 +33,7 @@ returns-in-Ok-clause-known_rows c = λ s b.
     let rows = subst (λ (v : Engine). Stands s.rows v.tables) (sym c.self.view_is) b.rows in
     let lines = c.in-Ok.ensures.lines s.rows rows ∙ ap (λ (f : Frame). (step (record { frame = f; rows = s.rows }) (command_of c.args.command)).lines) (sym frame) in
     let numbers : AreNumbersUnique s.frame = subst AreNumbersUnique (sym b.frame) (c.is_failed.ensures.numbers c.if-is_failed.false) in
-    subst (All (ShowsKnownRows s (step s (command_of c.args.command)).state)) (sym lines) (step_shows s (command_of c.args.command) numbers)
+    subst (All (ShowsKnownRows s (step s (command_of c.args.command)).state)) (sym lines) (ShowsKnownRows-step s (command_of c.args.command) numbers)
 
 pub returns-in-Ok-clause-refused : goal.returns-in-Ok-clause-refused
 returns-in-Ok-clause-refused c = λ n r is. ap (λ (e : Store). shown_by e c.self.inside.failed) (c.in-Ok.ensures.refused n r is) ∙ c.self.view_is

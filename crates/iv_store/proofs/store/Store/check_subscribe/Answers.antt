@@ -4,7 +4,7 @@ use Rattle.iv_database.specs.Target.{IsActingOn}
 use Rattle.iv_store.specs.Store.{Store, database_of}
 use Rattle.iv_store.specs.Openable.{MayOpen}
 use Rattle.iv_command.specs.declared.stop.Stop.{Stop}
-use Rattle.iv_database.proofs.PolicyTests.{err_is}
+use Rattle.iv_database.proofs.PolicyTests.{IsErrAnd-gives}
 use Rattle.iv_store.proofs.NewSubscription.{not_acting}
 use Rattle.iv_store.proofs.store.Store.check_subscribe.Goals as goal
 
@@ -16,7 +16,7 @@ returns-in_err-acting c =
     let e = c.args.self.now in
     let n = c.args.session in
     let name = c.args.rel.now in
-    err_is c.from_residual.result _ (MayOpen e n name) c.from_residual.ensures.1
+    IsErrAnd-gives c.from_residual.result _ (MayOpen e n name) c.from_residual.ensures.1
     (λ stop is. subst (λ (s : Stop). MayOpen e n name (Err s)) (sym is)
     (not_acting e n name c.in_err-acting.field-0.0 (subst (λ (v : Store). IsActingOn (database_of v) n name (Err c.in_err-acting.field-0.0)) c.self.view_is c.in_err-acting.ensures)))
 

@@ -3,7 +3,7 @@ use Rattle.std.specs.Prelude.{string_bytes}
 use Rattle.iv_access.specs.Rights.{Name}
 use Rattle.iv_machine.specs.Act.{subscribe}
 use Rattle.iv_machine.specs.State.{Subscription}
-use Rattle.iv_database.proofs.PolicyTests.{err_is}
+use Rattle.iv_database.proofs.PolicyTests.{IsErrAnd-gives}
 use Rattle.iv_command.specs.declared.stop.Stop.{Stop}
 use Rattle.iv_store.specs.Answering.{IsStep}
 use Rattle.iv_store.specs.Store.{Store}
@@ -17,7 +17,7 @@ returns-in_err-rel c =
     let e = c.args.self.now in
     let n = c.args.session in
     let act = subscribe (string_bytes c.args.rel) in
-    err_is c.from_residual.result _ (λ r. IsStep e n act r e) c.from_residual.ensures.1
+    IsErrAnd-gives c.from_residual.result _ (λ r. IsStep e n act r e) c.from_residual.ensures.1
     (λ stop is. subst (λ (s : Stop). IsStep e n act (Err s) e) (sym is)
     (not_opened e n (string_bytes c.args.rel) c.in_err-rel.field-0.0 (subst (λ (name : Name). MayOpen e n name (Err c.in_err-rel.field-0.0)) c.as_str.ensures.value c.in_err-rel.ensures)))
 
