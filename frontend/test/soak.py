@@ -1,7 +1,7 @@
 #!/usr/bin/python3
 """A soak of the gateway as a program: millions of requests, a thousand clients that come and go, and policies that change meanwhile.
 
-    frontend/test/soak.py [--requests 10000000] [--clients 1000] [--stay 20] [--each 500000] [--seed 1]
+    frontend/test/soak.py [--requests 10000000] [--minutes N] [--clients 1000] [--stay 20] [--each 500000] [--seed 1]
 
 Who writes keeps rows of its own, and knows which are there. After each so many requests all stand still: each reader's rows, as what it was
 told adds up, have to be those that its policy shows by a model of ten lines, and those that a client is shown which comes then; the memory
@@ -15,6 +15,7 @@ import functools
 import hashlib
 import heapq
 import json
+import math
 import os
 import random
 import re
@@ -263,8 +264,8 @@ class Owner(Client):
 
 
 class Soak:
-    def __init__(self, clients: int, stay: float, seed: int):
-        self.dice, self.stay, self.size = random.Random(seed), stay, clients
+    def __init__(self, clients: int, stay: float, seed: int, seconds: float):
+        self.dice, self.stay, self.size, self.end = random.Random(seed), stay, clients, time.monotonic() + seconds
         self.requests = self.accepted = self.comings = self.late = 0
         self.poll, self.clients, self.speaking = select.epoll(), dict[int, Client](), set[Client]()
         tokens = {it: it.split()[0] for it in ["ann", "admin", *(f"{role} {at}" for role in READERS for at in range(clients // PER_TOKEN + 1))]}
@@ -316,9 +317,9 @@ class Soak:
             heapq.heappush(self.guests, (now + self.dice.expovariate(1 / self.stay), self.comings, guest))
 
     def run(self, requests: int) -> None:
-        """Goes on for so many requests."""
+        """Goes on for so many requests, or until its time is over."""
         until, change = self.requests + requests, time.monotonic()
-        while self.requests < until:
+        while self.requests < until and time.monotonic() < self.end:
             for it in self.writers:
                 it.write()
             self.come_and_go()
@@ -379,11 +380,11 @@ def program() -> str:
     return f"{PROGRAM}, SHA-256 {found[:16]}, " + (f"of the gate's run of {run['date']}" if is_known else "which the gate's last run does not name")
 
 
-def soak(requests: int, clients: int, each: int, stay: float = 20.0, seed: int = 1, more: int = 8 << 20) -> None:
-    """The whole. The memory after the second part may grow by so many bytes, and by a fiftieth, until the end."""
-    it, began, seen = Soak(clients, stay, seed), time.monotonic(), []
+def soak(requests: int, clients: int, each: int, stay: float = 20.0, seed: int = 1, seconds: float = math.inf, more: int = 8 << 20) -> None:
+    """The whole, for so many seconds at most. The memory after the second part may grow by so many bytes, and by a fiftieth, until the end."""
+    it, began, seen = Soak(clients, stay, seed, seconds), time.monotonic(), []
     print(f"  {program()}", flush=True)
-    while it.requests < requests:
+    while it.requests < requests and time.monotonic() < it.end:
         it.run(min(each, requests - it.requests))
         found, files = it.stand_still(), it.files()
         seen.append((it.gate.memory(), files))
@@ -404,6 +405,7 @@ def soak(requests: int, clients: int, each: int, stay: float = 20.0, seed: int =
 if __name__ == "__main__":
     words = argparse.ArgumentParser(description=__doc__.splitlines()[0])
     words.add_argument("--requests", type=int, default=10_000_000)
+    words.add_argument("--minutes", type=float, default=math.inf, help="it ends then, if it has not asked all")
     words.add_argument("--clients", type=int, default=1000, help="guests at a time")
     words.add_argument("--each", type=int, default=500_000, help="requests between two looks")
     words.add_argument("--stay", type=float, default=20.0, help="seconds for which a guest stays, on average")
@@ -412,7 +414,7 @@ if __name__ == "__main__":
     signal.signal(signal.SIGTERM, signal.default_int_handler)  # the program ends with it
     many_files()
     try:
-        soak(given.requests, given.clients, given.each, given.stay, given.seed)
+        soak(given.requests, given.clients, given.each, given.stay, given.seed, 60 * given.minutes)
     finally:
         for gate in [*Gateway.running]:
             gate.end()

@@ -46,7 +46,8 @@ pub record AreCarriedTo (s : State) (facts : List Fact) (new : Store) : Type 0 w
 
 abbrev pub AreCarried : Store → List Fact → Result Unit StepFault → Store → Type 0
 AreCarried e facts (Ok u) new = IsStillEmpty new × ((s : State) → IsBehind s (seen e) → AreCarriedTo s facts new)
-AreCarried e facts (Err (Refused n r)) new = (s : State) → IsBehind s (seen e) → (all_carried facts s ≡ None) × (first_refused 1 facts s ≡ Some (n, refusal_of r))
+AreCarried e facts (Err (Refused n r)) new =
+    (s : State) → IsBehind s (seen e) → (all_carried facts s ≡ None) × (first_refused 1 facts s ≡ Some (n, refusal_of r))
 AreCarried e facts (Err Memory) new = Unit {0}
 AreCarried e facts (Err Failed) new = ⊥
 
