@@ -180,6 +180,9 @@ def test_files_of_tests_tell_what_they_test() -> None:
         pytest.param("TOWER.md", "which is no file", id="no document"),
         pytest.param("TOUR.md#rihgts", "which is no heading", id="no heading of a document"),
         pytest.param("#there", "which is no heading", id="none of its own"),
+        pytest.param("../crates.txt#L1", "", id="a line"),
+        pytest.param("../crates.txt#L0", "which is no line", id="a line before the first"),
+        pytest.param("../crates.txt#L9999", "which is no line", id="a line after the last"),
     ],
 )
 def test_links_of_documents_lead_somewhere(link: str, lost: str) -> None:
