@@ -91,8 +91,8 @@ def test_a_lost_answer_is_told_again() -> None:
         wire.say(other)
         wire.shut()
         until(lambda: len(gate.names()) == 2, "what was sent before the socket went is not done")
-        done = {"answer": {"ok": True}, "at": f"{gate.epoch()}.2"}
-        refused = {"answer": {"entry": 1, "error": 16}, "at": f"{gate.epoch()}.2"}
+        done: Line = {"answer": {"ok": True}, "at": f"{gate.epoch()}.2"}
+        refused: Line = {"answer": {"entry": 1, "error": 16}, "at": f"{gate.epoch()}.2"}
 
         def is_known(wire: Wire) -> None:
             assert wire.place == f"{gate.epoch()}.2"
