@@ -1,5 +1,5 @@
 //! The texts of a journal: `push_request` writes a request, `request_in` reads it; `cut_at` cuts bytes.
-ghost use Rattle.std.specs.Prelude.{◌≡◌, ◌==◌, if◌then◌else◌, ◌++◌, ℕ, List, Option, Some, IfOk, IfSome, OnOk, option_map, string_bytes, true};
+ghost use Rattle.std.specs.Prelude.{◌≡◌, ◌==◌, if◌then◌else◌, ◌++◌, ◌∷◌, ℕ, List, Option, Some, IfOk, IfSome, OnOk, option_map, string_bytes, true};
 ghost use Rattle.iv_rows.specs.Names.{is_name};
 ghost use Rattle.iv_command.specs.Views.{act_of};
 ghost use Rattle.iv_clients.specs.Journal.{has_newline, is_shape, is_shared};
@@ -66,6 +66,16 @@ pub fn behind<'a>(bytes: &'a [u8], prefix: &[u8]) -> Option<&'a [u8]>
     }
     let (front, rest) = bytes.split_at(prefix.len());
     if front == prefix { Some(rest) } else { None }
+}
+
+/// A text after a brace.
+pub(crate) fn with_brace(alloc: Global, rest: &[u8]) -> Result<Vec<u8>, AllocError>
+    ensures { IfOk result (λ line. line.items ≡ 123 ∷ rest.now) }
+{
+    let mut line = Vec::new(alloc);
+    line.push(b'{')?;
+    line.extend_from_slice(rest)?;
+    Ok(line)
 }
 
 /// The role of a text, and the message after it without its brace.

@@ -7,8 +7,7 @@ ghost use Rattle.iv_clients.specs.Names as spec;
 ghost use Rattle.iv_request.specs.Request.{passing};
 ghost use Rattle.iv_clients.specs.Names.{between, claim_in, claimed, count_in, holder_of, is_between, is_count, is_epoch, is_letter, is_random, spelled_in};
 
-use crate::journal::{behind, cut_at};
-use crate::said::with_brace;
+use crate::journal::{behind, cut_at, with_brace};
 use iv_message::{Id, read_id};
 use iv_once::Place;
 use json::Scratch;

@@ -1,5 +1,5 @@
 //! `read_said`: what a client says, by which name, and the line that its entry has, which is without its id and its name.
-ghost use Rattle.std.specs.Prelude.{◌≡◌, ◌∷◌, ℕ, List, Option, IfOk, codes, Some, None, true, option_map};
+ghost use Rattle.std.specs.Prelude.{◌≡◌, ℕ, List, Option, IfOk, codes, Some, None, true, option_map};
 ghost use Rattle.iv_clients.specs.Journal.{Parts, begins_object, claim_said, first_id, id_in_front, is_blank, line_said, not_request, parts_of, said_by, said_in, unindented, with_front};
 ghost use Rattle.iv_rows.specs.Options.{if_some};
 ghost use Rattle.iv_clients.specs.Names as spec;
@@ -7,7 +7,7 @@ ghost use Rattle.iv_clients.specs.Names.{claim_in};
 ghost use Rattle.iv_message.specs.Message.{is_well_message, wrong};
 ghost use Rattle.iv_message.specs.Seen.{id_data, said_of, why_of};
 
-use crate::journal::{behind, cut_at};
+use crate::journal::{behind, cut_at, with_brace};
 use crate::names::{Claim, claim_in};
 use iv_message::{Id, Message, Why, on_one_line, read_id, read_message};
 use json::Scratch;
@@ -42,16 +42,6 @@ fn begins_object(text: &[u8]) -> bool
         [] => false,
         [first, ..] => *first == b'{',
     }
-}
-
-/// A text after a brace.
-pub(crate) fn with_brace(alloc: Global, rest: &[u8]) -> Result<Vec<u8>, AllocError>
-    ensures { IfOk result (λ line. line.items ≡ 123 ∷ rest.now) }
-{
-    let mut line = Vec::new(alloc);
-    line.push(b'{')?;
-    line.extend_from_slice(rest)?;
-    Ok(line)
 }
 
 /// The id in front of a line, and the line without it.
