@@ -5,7 +5,7 @@ ghost use Rattle.serde_json.specs.Written.{compact_text};
 ghost use Rattle.sha2.specs.Sha256.{sha256};
 ghost use Rattle.iv_rows.specs.Options.{if_some};
 ghost use Rattle.iv_command.specs.Views.{act_of, line_of, refusal_of, reply_of};
-ghost use Rattle.iv_machine.specs.Act.{Act, Reply, refused};
+ghost use Rattle.iv_machine.specs.Act.{Act as ActSpec, Reply as ReplySpec, no_session, refused};
 ghost use Rattle.iv_machine.specs.Well.{is_well_act};
 ghost use Rattle.iv_message.specs.Told.{answered, denied, undecided};
 ghost use Rattle.iv_clients.specs.Journal.{is_shared};
@@ -69,6 +69,16 @@ fn is_done(reply: &Reply) -> bool
     ensures { result ≡ is_accepted (reply_of reply.now) }
 {
     !matches!(reply, Reply::Refused(_))
+}
+
+/// The reply that lines of the engine begin with, if they do.
+fn first_reply(lines: &[Line]) -> Option<&Reply>
+    ensures { if_some result (refused no_session) (λ r. reply_of r.now) ≡ reply_in (map line_of lines.now) }
+{
+    match lines.first() {
+        Some(Line::Reply { reply, .. }) => Some(reply),
+        _ => None,
+    }
 }
 
 /// An answer as it is kept.
@@ -173,7 +183,7 @@ impl Gateway {
         accepted: bool,
         made: &[u8],
     ) -> Result<(), AllocError>
-        ensures { OnOk result ((g : Gate) (act : Act) (by : Option Ask) (r : Reply) → IsAlive g self.old → is_shared act ≡ true
+        ensures { OnOk result ((g : Gate) (act : ActSpec) (by : Option Ask) (r : ReplySpec) → IsAlive g self.old → is_shared act ≡ true
             → accepted ≡ is_accepted r → name ≡ option_map (λ a. record { ask = a; refused = not (is_accepted r); answer = answer_text r }) by
             → made.now ≡ made_of asked.now act by r → IsAlive (entered g (entries_of (request_of asked.now act) by r)) self.new) }
     {
@@ -190,7 +200,7 @@ impl Gateway {
         reply: &Reply,
         made: &[u8],
     ) -> Result<(), AllocError>
-        ensures { OnOk result ((g : Gate) (act : Act) → IsAlive g self.old → is_shared act ≡ true → made.now ≡ made_of asked.now act None (reply_of reply.now)
+        ensures { OnOk result ((g : Gate) (act : ActSpec) → IsAlive g self.old → is_shared act ≡ true → made.now ≡ made_of asked.now act None (reply_of reply.now)
             → IsAlive (replies_to g asked.now.client asked.now.id (request_of asked.now act) None (reply_of reply.now)) self.new) }
     {
         self.enter_request(asked, None, is_done(reply), made)?;
@@ -206,7 +216,7 @@ impl Gateway {
         reply: &Reply,
         made: &[u8],
     ) -> Result<(), AllocError>
-        ensures { OnOk result ((g : Gate) (act : Act) → IsAlive g self.old → is_shared act ≡ true → made.now ≡ made_of asked.now act (Some ask) (reply_of reply.now)
+        ensures { OnOk result ((g : Gate) (act : ActSpec) → IsAlive g self.old → is_shared act ≡ true → made.now ≡ made_of asked.now act (Some ask) (reply_of reply.now)
             → IsAlive (replies_to g asked.now.client asked.now.id (request_of asked.now act) (Some ask) (reply_of reply.now)) self.new) }
     {
         let is_accepted = is_done(reply);
@@ -231,7 +241,7 @@ impl Gateway {
         reply: &Reply,
         made: &[u8],
     ) -> Result<(), AllocError>
-        ensures { OnOk result ((g : Gate) (act : Act) → IsAlive g self.old → is_shared act ≡ true → made.now ≡ made_of asked.now act name (reply_of reply.now)
+        ensures { OnOk result ((g : Gate) (act : ActSpec) → IsAlive g self.old → is_shared act ≡ true → made.now ≡ made_of asked.now act name (reply_of reply.now)
             → IsAlive (replies_to g asked.now.client asked.now.id (request_of asked.now act) name (reply_of reply.now)) self.new) }
     {
         match name {
@@ -254,15 +264,15 @@ impl Gateway {
         lines: &[Line],
         made: &[u8],
     ) -> Result<(), AllocError>
-        ensures { OnOk result ((g : Gate) (act : Act) → IsAlive g self.old → is_shared act ≡ true → made.now ≡ made_of asked.now act name (reply_in (map line_of lines.now))
+        ensures { OnOk result ((g : Gate) (act : ActSpec) → IsAlive g self.old → is_shared act ≡ true → made.now ≡ made_of asked.now act name (reply_in (map line_of lines.now))
             → IsAlive (replies_to g asked.now.client asked.now.id (request_of asked.now act) name (reply_in (map line_of lines.now))) self.new) }
     {
-        match lines.first() {
-            Some(Line::Reply { reply, .. }) => {
+        match first_reply(lines) {
+            Some(reply) => {
                 self.answer_request(asked, name, reply, made)?;
                 Ok(())
             }
-            _ => {
+            None => {
                 let reply = Reply::Refused(Refusal::NoSession);
                 self.answer_request(asked, name, &reply, made)?;
                 Ok(())
@@ -280,7 +290,7 @@ impl Gateway {
         lines: &[Line],
         grants: &Grants,
     ) -> Result<(), AllocError>
-        ensures { OnOk result ((g : Gate) (act : Act) (n : ℕ) → IsRun g (in_session n act) (map line_of lines.now) self.old → is_shared act ≡ true
+        ensures { OnOk result ((g : Gate) (act : ActSpec) (n : ℕ) → IsRun g (in_session n act) (map line_of lines.now) self.old → is_shared act ≡ true
             → made.now ≡ made_of asked.now act name (reply_in (map line_of lines.now)) → IsGranting act grants.now
             → IsAlive (done_in g asked.now.client asked.now.id (request_of asked.now act) name n) self.new) }
     {
@@ -322,7 +332,7 @@ impl Gateway {
         name: Option<Ask>,
         refusal: Refusal,
     ) -> Result<(), AllocError>
-        ensures { OnOk result ((g : Gate) (act : Act) → IsAlive g self.old → is_shared act ≡ true
+        ensures { OnOk result ((g : Gate) (act : ActSpec) → IsAlive g self.old → is_shared act ≡ true
             → IsAlive (replies_to g asked.now.client asked.now.id (request_of asked.now act) name (refused (refusal_of refusal))) self.new) }
     {
         let reply = Reply::Refused(refusal);

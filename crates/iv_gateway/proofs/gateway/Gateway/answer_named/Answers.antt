@@ -10,8 +10,8 @@ use Rattle.iv_gateway.proofs.gateway.Gateway.answer_named.Goals as goal
 pub returns : goal.returns
 returns c = λ g act b s t.
     let h : Gate = entered g (entries_of (request_of c.args.asked.now act) (Some c.args.ask) (reply_of c.args.reply.now)) in
-    let waits = c.in_ok-enter_request.ensures g act (Some c.args.ask) (reply_of c.args.reply.now) b s c.is_done.ensures
-    (λ i. Some (record { ask = c.args.ask; refused = not (c.is_done.ensures i); answer = c.in_ok-answer.ensures i })) t in
+    let waits = c.in_ok-enter_request.ensures g act (Some c.args.ask) (reply_of c.args.reply.now) b s c.is_done-is_accepted.ensures
+    (λ i. Some (record { ask = c.args.ask; refused = not (c.is_done-is_accepted.ensures i); answer = c.in_ok-answer.ensures i })) t in
     let holder : c.as_str.result.now ≡ c.args.ask.holder = search rules in
     let text : c.deref.result.now ≡ answer_text (reply_of c.args.reply.now) = c.deref.ensures.value ∙ c.in_ok-text.ensures in
     subst (λ z. IsAlive z c.tell_answer.new.self)

@@ -13,8 +13,8 @@ returns-in_ok-decide-in-None c = λ g k b r u.
 
 pub returns-in_ok-ask_named-in-Some : goal.returns-in_ok-ask_named-in-Some
 returns-in_ok-ask_named-in-Some c = λ g k b r u.
-    shares_named g c.args.asked.now.client k c.args.asked.now.id (request_of c.args.asked.now (act_of c.args.act)) c.args.claim c.in-Some.claim c.in_ok-ask.ask _ c.in-Some.is
-    (c.in_ok-ask.ensures ∙ (λ i. record {
+    shares_named g c.args.asked.now.client k c.args.asked.now.id (request_of c.args.asked.now (act_of c.args.act)) c.args.claim c.in-Some.claim c.in_ok-ask-in-Some.ask _ c.in-Some.is
+    (c.in_ok-ask-in-Some.ensures ∙ (λ i. record {
       holder = holder_of (r i) (u i);
       name = c.in-Some.claim.name;
       at = c.in-Some.claim.at;
