@@ -9,6 +9,7 @@ use Rattle.iv_rows.specs.Options.{if_some}
 use Rattle.iv_journal.specs.Journal.{Line}
 use Rattle.iv_clients.proofs.Cuts.{passed}
 use Rattle.iv_head.specs.Begun.{Begun, Followed, IsBegun, IsReadBack, IsStanding, SaysNothing, Standing, begun_in, followed_in, line, lines_of, log_in, log_text, said_log, said_standing, standing_in, standing_text, standings_in}
+use Rattle.iv_head.proofs.Entries.{entries_say}
 use Rattle.iv_head.proofs.WrittenThere.{log_back, standing_back}
 
 abbrev said : List Standing → List Line
@@ -153,4 +154,4 @@ begun_is ls log has ss count l h s e =
     ∙ ap (λ o. with_log o ls) l))
 
 pub read_back : IsReadBack
-read_back = record { back = begun_back; written = log_written }
+read_back = record { back = begun_back; entries = entries_say; written = log_written }

@@ -8,6 +8,7 @@ use Rattle.iv_rows.specs.Options.{if_some}
 use Rattle.iv_request.specs.Request.{passing}
 use Rattle.iv_journal.specs.Journal.{Line}
 use Rattle.iv_once.specs.Names.{Known, Place, begun}
+use Rattle.iv_clients.specs.Journal.{Entry, IsEntry, journal_of}
 use Rattle.iv_clients.specs.Names.{between, count_in, is_count, is_epoch, place_text}
 use Rattle.iv_clients.specs.Parsed.{cut_quote, string_in}
 use Rattle.iv_clients.specs.Tokens.{behind, cut_at}
@@ -119,9 +120,10 @@ pub record IsBegun (b : Begun) : Type 0 where
 abbrev pub SaysNothing : List Line → Type 0
 SaysNothing ls = (log_in ls ≡ None) × (standings_in ls ≡ [])
 
--- it is read back, whatever follows that says nothing of it; and what is read was written so
+-- it is read back, whatever follows that says nothing of it, as entries do; and what is read was written so
 pub record IsReadBack : Type 0 where
   pub back : (b : Begun) (ls : List Line) → IsBegun b → SaysNothing ls → begun_in (lines_of b ++ ls) ≡ (b, ls)
+  pub entries : (es : List Entry) → AllByRecursion IsEntry es → SaysNothing (journal_of es)
   pub written : (ls : List Line) → ls ≡ lines_of (begun_in ls).0 ++ (begun_in ls).1
 
 -- ---- what is known of names
