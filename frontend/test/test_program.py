@@ -4,7 +4,6 @@ GATEWAY names another program than the one that is built."""
 import base64
 import collections
 import contextlib
-import hashlib
 import hmac
 import itertools
 import json
@@ -23,7 +22,7 @@ from collections.abc import Callable, Iterator
 from typing import Any
 
 from model import Model, Player, line, text_of
-from trial import BASE, Rows, comes_in, insert, serving, total, until
+from trial import BASE, Rows, chained, comes_in, insert, serving, total, until
 from wire import BINARY, CLOSE, COMING, PATIENCE, PING, PONG, PROGRAM, TOP, Ended, Gateway, Line, Wire, digest, frame, http, in_time, masked, plain, request
 
 LATE = 30  # seconds for which the gateway keeps who takes nothing
@@ -924,15 +923,6 @@ def test_the_journal_has_what_was_accepted() -> None:
         assert gate.journal.stat().st_mode & 0o777 == 0o600
 
 
-def chained(texts: list[bytes], epoch: bytes = b"0123456789abcdef" * 2) -> bytes:
-    """A journal of these texts behind a head, as OPERATING describes it."""
-    before, out = bytes(32), b""
-    for text in (b'"journal":1,"epoch":"%s","audit":1}' % epoch, *texts):
-        before = hashlib.sha256(before + b'{"last":"' + text).digest()
-        out += b'{"last":"%s",%s\n' % (before.hex().encode(), text)
-    return out
-
-
 def test_a_torn_entry_is_cut_and_a_damaged_one_is_told() -> None:
     """A journal of the form before, too: it is cut or refused as it was."""
     with serving() as (gate, admin):
@@ -958,7 +948,7 @@ def test_a_torn_entry_is_cut_and_a_damaged_one_is_told() -> None:
                  "no bytes": b"", "an entry of another form": b'{"role":"ann","do":"write","entries":[{"on":"notes","insert":[9,"ann"]}]}',
                  "a blank": b'{"as":"ann", "do":"write","entries":[]}', "a word": b"nonsense", "a second head": b'{"journal":1,"epoch":"%s","audit":1}' % (b"0" * 32)}
         for what, bad in wrong.items():
-            for data, number in ((old + bad + b"\n", len(BASE) + 2), (chained([*texts, bad[1:]]), len(BASE) + 3)):
+            for data, number in ((old + bad + b"\n", len(BASE) + 2), (chained((True, text) for text in [*texts, bad[1:]]), len(BASE) + 3)):
                 gate.journal.write_bytes(data)
                 at = len(b"".join(data.splitlines(keepends=True)[:-1]))
                 assert gate.launch().wait(PATIENCE) == 1
@@ -966,43 +956,6 @@ def test_a_torn_entry_is_cut_and_a_damaged_one_is_told() -> None:
                 assert gate.journal.read_bytes() == data
         gate.journal.write_bytes(whole)
         gate.start()
-
-
-def test_each_damaged_byte_is_told_with_its_place(every: int = 19) -> None:
-    """Bytes of a small journal are changed, lost, doubled or zeroed: told with the line, or cut as a torn last line; never read otherwise."""
-    with serving() as (gate, admin):
-        admin.ask(insert(1, "ann"))
-        gate.kill()
-        whole = gate.journal.read_bytes()
-        ends = [at + 1 for at, byte in enumerate(whole) if byte == 10]
-        for at in [*range(0, len(whole), every), *(end - 1 for end in ends)]:
-            for data in (whole[:at] + bytes([whole[at] ^ 1]) + whole[at + 1:], whole[:at] + whole[at + 1:], whole[:at] + whole[at:at + 1] + whole[at:],
-                         whole[:at] + b"\0" + whole[at + 1:]):
-                gate.journal.write_bytes(data)
-                line = sum(end <= at for end in ends) + (data.count(b"\n") > whole.count(b"\n"))  # behind a newline more is a line more
-                place = ends[line - 1] if line else 0
-                gate.launch()
-                until(lambda: gate.process.poll() is not None or is_ready(gate), "it neither listens nor ends")
-                if gate.process.poll() is None:  # the end of its last line alone may look torn
-                    gate.kill()
-                    assert line == len(ends) - 1 and gate.journal.read_bytes() == whole[:place], (at, gate.said())
-                else:
-                    assert gate.process.returncode == 1 and f": line {line + 1}, at byte {place}," in gate.logs[-1].read_text(), (at, gate.logs[-1].read_text())
-                    assert gate.journal.read_bytes() == data
-        lines = whole.splitlines(keepends=True)
-        for data, number in ((b"".join(lines[:3] + lines[4:]), 4), (b"".join(lines[:3] + lines[2:]), 4), (b"".join(lines[:2] + [lines[3], lines[2]] + lines[4:]), 3),
-                           (whole + b"\0" * 512, len(lines) + 1), (b"".join(lines[1:]), 1)):
-            gate.journal.write_bytes(data)
-            assert gate.launch().wait(PATIENCE) == 1 and f"damaged: {gate.journal}: line {number}, " in gate.logs[-1].read_text(), gate.said()
-        gate.journal.write_bytes(whole)
-        gate.start()
-
-
-def is_ready(gate: Gateway) -> bool:
-    try:
-        return http(gate.port, "/readyz")[0] == 200
-    except OSError:
-        return False
 
 
 def test_each_entry_tells_who_wrote_it_and_when() -> None:

@@ -1,11 +1,11 @@
 -- The gateway's lines among those of a journal.
-use Rattle.std.proofs.Common.{◌≡◌, ℕ, suc, Bool, true, false, cond, List, [], ◌∷◌, ◌++◌, append_assoc, append-nil, codes, take, map, refl, ap, ◌∙◌, sym}
+use Rattle.std.proofs.Common.{◌≡◌, ℕ, Bool, true, false, cond, List, [], ◌∷◌, ◌++◌, append_assoc, append-nil, codes, take, map, refl, ap, ◌∙◌, sym}
 use Rattle.std.specs.Prelude.{◌==◌, bytes_eq}
 use Rattle.hex.specs.Hex.{encode_lower}
 use Rattle.std.specs.List.{AllByRecursion, list_any}
-use Rattle.iv_journal.specs.Journal.{Line, body_of, bytes_of, digest_of, is_text, journal_of, mark, no_digest}
+use Rattle.iv_journal.specs.Journal.{Line, body_of, bytes_of, digest_of, is_text, mark, no_digest}
 use Rattle.iv_journal.specs.Laws.{HasItsText}
-use Rattle.iv_audit.specs.Reading.{ended_lines, given_in, line_in, line_of, lines_in}
+use Rattle.iv_audit.specs.Reading.{ended_lines, given_in, line_in, line_of}
 use Rattle.iv_audit.specs.Laws.{BytesHaveLines}
 use Rattle.iv_audit.proofs.Texts.{neither}
 

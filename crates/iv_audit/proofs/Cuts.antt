@@ -1,11 +1,11 @@
 -- What is left of a journal that was cut.
-use Rattle.std.proofs.Common.{◌≡◌, ◌⊎◌, inl, inr, ℕ, zero, suc, ◌+◌, ◌<◌, ◌≤◌, Bool, true, false, cond, ◌&&◌, List, [], ◌∷◌, ◌++◌, append_assoc, codes, drop, take, map, length, length-append, refl, ap, ◌∙◌, sym, subst, arith}
+use Rattle.std.proofs.Common.{◌≡◌, ◌⊎◌, inl, inr, ℕ, zero, suc, ◌<◌, ◌≤◌, Bool, true, false, cond, ◌&&◌, List, [], ◌∷◌, ◌++◌, codes, drop, take, map, length, length-append, refl, ap, ◌∙◌, sym, subst, arith}
 use Rattle.std.specs.Prelude.{bytes_eq, nat_lt}
 use Rattle.std.specs.List.{AllByRecursion}
 use Rattle.std.proofs.lemmas.Bool.Decides.{nat_tests}
-use Rattle.iv_journal.specs.Journal.{Line, body_of, bytes_of, digest_of, form, has_head, head_of, is_text, journal_of, no_digest}
+use Rattle.iv_journal.specs.Journal.{Line, body_of, bytes_of, digest_of, form, head_of, journal_of, no_digest}
 use Rattle.iv_journal.specs.Reading.{before_whole, whole}
-use Rattle.iv_journal.specs.Laws.{CutsAreFronts, IsCut, IsJournal}
+use Rattle.iv_journal.specs.Laws.{CutsAreFronts, IsCut}
 use Rattle.iv_audit.specs.Audit.{Written, audit_of, head_line, record_of, version}
 use Rattle.iv_audit.specs.Reading.{given_in, line_in}
 use Rattle.iv_audit.specs.Laws as law

@@ -4,16 +4,16 @@ use Rattle.std.specs.Prelude.{◌==◌}
 use Rattle.std.specs.List.{AllByRecursion, list_any}
 use Rattle.std.proofs.lemmas.Bool.{false≢true}
 use Rattle.std.proofs.lemmas.List.{take-append-le}
-use Rattle.iv_journal.specs.Journal.{Line, body_of, bytes_of, digest_behind, digest_of, is_text, journal_of, no_digest}
-use Rattle.iv_audit.specs.Audit.{is_noted, is_request, record_of}
+use Rattle.iv_journal.specs.Journal.{Line, body_of, bytes_of, digest_of, journal_of, no_digest}
+use Rattle.iv_audit.specs.Audit.{Note, is_noted, is_request, record_of}
 use Rattle.iv_audit.specs.Reading.{ended_lines, ends_line, line_in, line_of, lines_in}
 use Rattle.iv_audit.specs.Laws.{BytesGoOn, GoOn, JournalsGoOn}
-use Rattle.iv_audit.specs.Writing.{GoesOnWith, holder_at, note_by, noted_from}
+use Rattle.iv_audit.specs.Writing.{holder_at, note_by, noted_from}
 use Rattle.iv_audit.specs.declared.writing.Share.{Share}
 use Rattle.iv_audit.proofs.Texts.{neither, text_back}
 use Rattle.iv_audit.proofs.Bytes.{AllText, HaveTexts, bodies, ended_one, given_all, given_by, lines_all}
 use Rattle.iv_audit.proofs.Cuts.{either}
-use Rattle.iv_audit.proofs.Goes.{AllTexts, bytes_append, digest_append, texts_lines}
+use Rattle.iv_audit.proofs.Goes.{bytes_append, digest_append, texts_lines}
 
 -- ---- what stands behind
 
@@ -128,7 +128,7 @@ torn_lines law (suc n) d (l ∷ ls) a = by (either (suc n) (length (body_of d l)
 note_second : (at : Option ℕ) (holder text : List ℕ) → IfSome at (λ t. t < 2 ^ 64) → IfSome (note_by at holder text) (λ m. m.at < 2 ^ 64)
 note_second at holder text h = by (is_request text) at h
   where
-    by : (b : Bool) (at : Option ℕ) → IfSome at (λ t. t < 2 ^ 64) → IfSome (cond b (option_map (λ t. record { at = t; holder = holder }) at) None) (λ m. m.at < 2 ^ 64)
+    by : (b : Bool) (at : Option ℕ) → IfSome at (λ t. t < 2 ^ 64) → IfSome {T = Note} (cond b (option_map (λ t. record { at = t; holder = holder }) at) None) (λ m. m.at < 2 ^ 64)
     by false at h = tt
     by true None h = tt
     by true (Some t) h = h

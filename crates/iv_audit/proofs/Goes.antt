@@ -1,6 +1,5 @@
 -- A journal that goes on by lines.
-use Rattle.std.proofs.Common.{◌≡◌, ℕ, zero, suc, ◌+◌, ◌-◌, ◌≤◌, Bool, true, false, cond, List, [], ◌∷◌, ◌++◌, append_assoc, append-nil, Option, None, Some, codes, drop, take, map, length, length-append, option_map, refl, ap, ◌∙◌, sym, subst, arith}
-use Rattle.std.specs.Prelude.{nat_lt}
+use Rattle.std.proofs.Common.{◌≡◌, ℕ, suc, ◌+◌, ◌≤◌, Bool, true, false, cond, List, [], ◌∷◌, ◌++◌, append_assoc, append-nil, Option, None, map, length, length-append, refl, ap, ◌∙◌, sym, subst, arith}
 use Rattle.std.specs.List.{AllByRecursion}
 use Rattle.iv_journal.specs.Journal.{Line, body_of, bytes_of, digest_behind, digest_of, is_text, journal_of, no_digest}
 use Rattle.iv_audit.specs.Audit.{Written, head_line, is_noted, is_request, record_of, text_by}
@@ -74,14 +73,14 @@ plain_append (l ∷ ls) ms a b = (a.0, plain_append ls ms a.1 b)
 pub record IsDone (at : Option ℕ) (shares left : List Share) (lines rest : List Line) (place : ℕ) (before chain was out : List ℕ) : Type 0 where
   pub done : List Line
   pub split : lines ≡ done ++ rest
-  pub place : place ≡ length done
+  pub long : place ≡ length done
   pub are : ArePlain done
   pub goes : GoesOnBy (noted_from at shares 0 done) before chain was out
   pub same : (n : ℕ) → place ≤ n → holder_at left n ≡ holder_at shares n
 
 pub begins : (at : Option ℕ) (shares : List Share) (lines : List Line) (before was : List ℕ) → IsDone at shares shares lines lines 0 before before was was
 begins at shares lines before was =
-    record { done = []; split = refl; place = refl; are = tt; goes = by_nothing before was was refl; same = λ n h. refl }
+    record { done = []; split = refl; long = refl; are = tt; goes = by_nothing before was was refl; same = λ n h. refl }
 
 -- one line more
 pub one_more : (at : Option ℕ) (shares left now : List Share) (lines rest later : List Line) (place : ℕ) (before chain next was out grown : List ℕ) (l made : Line) (holder : List ℕ)
@@ -94,13 +93,13 @@ one_more at shares left now lines rest later place before chain next was out gro
     let note : made ≡ record_of (record { note = note_by at (holder_at shares place) l.text; line = l }) =
     e ∙ ap (λ (z : List ℕ). record { is_last = l.is_last; text = text_by (note_by at z l.text) l.text }) here in
     let one = by_one (record { note = note_by at (holder_at shares place) l.text; line = l }) made chain next out grown note p in
-    let first : 0 + length h.done ≡ place = (let k = h.place in omega (arith, k)) in
+    let first : 0 + length h.done ≡ place = (let k = h.long in omega (arith, k)) in
     let more = noted_append at shares 0 h.done (l ∷ []) ∙ ap (λ m. noted_from at shares 0 h.done ++ noted_from at shares m (l ∷ [])) first in
     let long = length-append h.done (l ∷ []) in
     record {
       done = h.done ++ l ∷ [];
       split = h.split ∙ (ap (λ z. h.done ++ z) line ∙ sym (append_assoc h.done (l ∷ []) later));
-      place = (let k = h.place in omega (arith, k, long));
+      long = (let k = h.long in omega (arith, k, long));
       are = plain_append h.done (l ∷ []) h.are (is, tt);
       goes = subst (λ (z : List Written). GoesOnBy z before next was grown) (sym more)
           (then_by (noted_from at shares 0 h.done) (record { note = note_by at (holder_at shares place) l.text; line = l } ∷ []) before chain next was out grown h.goes one);

@@ -4,3 +4,4 @@ pub mod Cuts
 pub mod Goes
 pub mod Further
 pub mod Read
+pub mod PlainLines

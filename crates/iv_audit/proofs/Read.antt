@@ -1,12 +1,10 @@
 -- What is read of a journal.
-use Rattle.std.proofs.Common.{◌≡◌, ℕ, true, List, [], ◌∷◌, ◌++◌, append_assoc, Option, None, option_map, take, length, refl, ap, ◌∙◌, sym, subst}
-use Rattle.std.specs.List.{AllByRecursion}
+use Rattle.std.proofs.Common.{◌≡◌, ℕ, true, List, [], ◌∷◌, ◌++◌, append_assoc, Option, None, option_map, take, ap, ◌∙◌, sym, subst}
 use Rattle.std.proofs.Math.Seq.{take-append_seam}
-use Rattle.iv_journal.specs.Journal.{Line, bytes_of, digest_behind, is_text, journal_of, no_digest}
+use Rattle.iv_journal.specs.Journal.{Line, bytes_of, digest_behind, journal_of, no_digest}
 use Rattle.iv_journal.specs.Reading.{IsReading, Reading}
 use Rattle.iv_journal.specs.Laws.{GoesOn, IsTold}
 use Rattle.iv_journal.specs.Ends.{AreEnded}
-use Rattle.iv_journal.specs.declared.reading.End.{End}
 use Rattle.iv_audit.specs.Reading.{IsAudit, epoch_of, given_in, is_audit}
 use Rattle.iv_audit.specs.declared.reading.Audit.{Audit}
 use Rattle.iv_audit.proofs.Bytes.{AllText}

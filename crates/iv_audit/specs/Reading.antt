@@ -1,5 +1,5 @@
 -- Which lines of a journal are the gateway's.
-use Rattle.std.specs.Prelude.{◌≡◌, ◌⊎◌, ℕ, ◌==◌, Bool, true, false, if◌then◌else◌, List, [], ◌∷◌, ◌++◌, Option, None, Some, bytes_eq, codes, drop, length, map, option_map, take}
+use Rattle.std.specs.Prelude.{◌≡◌, ◌⊎◌, ℕ, ◌==◌, Bool, true, false, if◌then◌else◌, List, [], ◌∷◌, ◌++◌, Option, None, Some, bytes_eq, drop, map, option_map, take}
 use Rattle.std.specs.List.{AllByRecursion, list_any}
 use Rattle.iv_journal.specs.Journal.{Line, journal_of, is_text, mark}
 use Rattle.iv_journal.specs.Reading.{IsReading, Reading}

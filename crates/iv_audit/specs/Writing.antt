@@ -1,5 +1,5 @@
 -- For contracts of the code: what is written of a gateway's lines, and whose they are.
-use Rattle.std.specs.Prelude.{◌≡◌, ℕ, ◌+◌, Bool, true, false, if◌then◌else◌, List, [], ◌∷◌, ◌++◌, Option, None, map, nat_lt, option_map, string_bytes}
+use Rattle.std.specs.Prelude.{◌≡◌, ℕ, ◌+◌, true, false, if◌then◌else◌, List, [], ◌∷◌, ◌++◌, Option, None, map, nat_lt, option_map, string_bytes}
 use Rattle.std.specs.List.{AllByRecursion}
 use Rattle.iv_journal.specs.Journal.{Line, bytes_of, digest_behind, is_text, journal_of}
 use Rattle.iv_audit.specs.Audit.{Note, Written, head_line, is_noted, is_request, record_of}

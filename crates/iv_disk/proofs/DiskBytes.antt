@@ -1,9 +1,9 @@
 -- What a disk keeps, behind what is appended to it.
-use Rattle.std.proofs.Common.{◌≡◌, ℕ, suc, ◌<◌, ◌^◌, true, List, [], ◌∷◌, ◌++◌, append-nil, None, Some, IfSome, take, length, refl, ap, ◌∙◌, sym, subst, arith}
+use Rattle.std.proofs.Common.{◌≡◌, ℕ, ◌<◌, ◌^◌, true, List, [], ◌∷◌, ◌++◌, append-nil, None, Some, IfSome, take, length, refl, ap, ◌∙◌, sym, subst, arith}
 use Rattle.std.specs.Prelude.{◌≤◌, Option, option_map}
 use Rattle.std.specs.List.{AllByRecursion}
 use Rattle.std.specs.Io.KnownBytes.{Appends, Keeps}
-use Rattle.iv_journal.specs.Journal.{Line, bytes_of, digest_behind, is_text, journal_of, no_digest}
+use Rattle.iv_journal.specs.Journal.{Line, digest_behind, is_text, journal_of, no_digest}
 use Rattle.iv_journal.specs.Ends.{AreEnded}
 use Rattle.iv_audit.specs.Audit.{head_line}
 use Rattle.iv_audit.specs.Laws.{BytesHaveLines, GoOn}

@@ -1,7 +1,9 @@
 -- The lines before the first entry, and those after them.
-use Rattle.std.proofs.Common.{◌≡◌, ℕ, suc, Bool, true, false, cond, List, [], ◌∷◌, ◌++◌, drop, length, map, Option, Some, None, is_some, refl, ap, ◌∙◌, sym}
+use Rattle.std.proofs.Common.{◌≡◌, ℕ, suc, Bool, true, false, cond, List, [], ◌∷◌, ◌++◌, ◌+◌, ◌<◌, ◌≤◌, append_assoc, append-nil, drop, drop-drop, drop_of_length-le, get_or, length, map, Option, Some, None, is_some, refl, ap, ◌∙◌, sym, arith}
 use Rattle.std.specs.Prelude.{bytes_eq}
 use Rattle.std.specs.List.{AllByRecursion}
+use Rattle.std.proofs.lemmas.Bool.{false≢true}
+use Rattle.std.proofs.lemmas.List.{at_drop_more}
 use Rattle.std.proofs.lemmas.Slice.Eq.{bytes_eq-Decides}
 use Rattle.iv_rows.specs.Options.{if_some}
 use Rattle.iv_journal.specs.Journal.{Line}
@@ -87,6 +89,68 @@ log_written (l ∷ ls) = by l.is_last refl
     by : (b : Bool) → l.is_last ≡ b → IsWrittenSo (l ∷ ls) (cond b (followed_in l.text) None)
     by false e = standings_written (l ∷ ls)
     by true e = some e (followed_in l.text) refl
+
+-- ---- line after line
+
+next : (ls : List Line) (i : ℕ) (l : Line) → i < length ls → l ≡ get_or ls i l → drop i ls ≡ l ∷ drop (i + 1) ls
+next ls i l h e = at_drop_more (λ z. z) ls i l h ∙ ap (λ z. z ∷ drop (i + 1) ls) (sym e)
+
+abbrev with_first : Bool → Option Standing → List Line → List Standing
+with_first last said ls = cond last (if_some said [] (λ s. s ∷ standings_in ls)) []
+
+first_of : (ls : List Line) (i : ℕ) (l : Line) (last : Bool) (said : Option Standing) → i < length ls → l ≡ get_or ls i l → l.is_last ≡ last → standing_in l.text ≡ said
+    → standings_in (drop i ls) ≡ with_first last said (drop (i + 1) ls)
+first_of ls i l last said h e f g = ap standings_in (next ls i l h e) ∙ (λ j. with_first (f j) (g j) (drop (i + 1) ls))
+
+-- a part of a record says no standing
+pub part_ends : (ls : List Line) (i : ℕ) (l : Line) (out all : List Standing) → i < length ls → l ≡ get_or ls i l → l.is_last ≡ false → all ≡ out ++ standings_in (drop i ls) → out ≡ all
+part_ends ls i l out all h e f k = sym (k ∙ (ap (λ z. out ++ z) (first_of ls i l false (standing_in l.text) h e f refl) ∙ append-nil out))
+
+-- nor does a line of another kind
+pub other_ends : (ls : List Line) (i : ℕ) (l : Line) (out all : List Standing) → i < length ls → l ≡ get_or ls i l → l.is_last ≡ true → None ≡ standing_in l.text
+    → all ≡ out ++ standings_in (drop i ls) → out ≡ all
+other_ends ls i l out all h e f g k = sym (k ∙ (ap (λ z. out ++ z) (first_of ls i l true None h e f (sym g)) ∙ append-nil out))
+
+pub standing_more : (ls : List Line) (i : ℕ) (l : Line) (s : Standing) (out grown all : List Standing) → i < length ls → l ≡ get_or ls i l → l.is_last ≡ true → Some s ≡ standing_in l.text
+    → all ≡ out ++ standings_in (drop i ls) → grown ≡ out ++ s ∷ [] → all ≡ grown ++ standings_in (drop (i + 1) ls)
+standing_more ls i l s out grown all h e f g k m =
+    k ∙ (ap (λ z. out ++ z) (first_of ls i l true (Some s) h e f (sym g))
+    ∙ (sym (append_assoc out (s ∷ []) (standings_in (drop (i + 1) ls))) ∙ ap (λ z. z ++ standings_in (drop (i + 1) ls)) (sym m)))
+
+pub all_ends : (ls : List Line) (i : ℕ) (out all : List Standing) → length ls ≤ i → all ≡ out ++ standings_in (drop i ls) → out ≡ all
+all_ends ls i out all h k = sym (k ∙ (ap (λ z. out ++ standings_in z) (drop_of_length-le ls h) ∙ append-nil out))
+
+-- ---- how many lines say it
+
+standings_short : (ls : List Line) → length (standings_in ls) ≤ length ls
+standings_short [] = omega arith
+standings_short (l ∷ ls) = by l.is_last (standing_in l.text) (standings_short ls)
+  where
+    by : (b : Bool) (o : Option Standing) → length (standings_in ls) ≤ length ls → length (cond b (if_some o [] (λ s. s ∷ standings_in ls)) []) ≤ suc (length ls)
+    by false o h = omega arith
+    by true None h = omega arith
+    by true (Some s) h = omega (arith, h)
+
+-- with the line of a log, if there is one
+abbrev first : Bool → ℕ
+first has = cond has 1 0
+
+pub said_within : (ls : List Line) (has : Bool) (count : ℕ) → has ≡ is_some (log_in ls) → count ≡ first has + length (standings_in (cond has (drop 1 ls) ls)) → count ≤ length ls
+said_within ls false count h e = let short = standings_short ls in omega (arith, short, e)
+said_within [] true count h e = absurd (false≢true (sym h))
+said_within (l ∷ ls) true count h e = let short = standings_short ls in omega (arith, short, e)
+
+behind_all : (ls : List Line) (has : Bool) (n count : ℕ) → count ≡ first has + n → drop count ls ≡ drop n (cond has (drop 1 ls) ls)
+behind_all ls false n count e = ap (λ m. drop m ls) e
+behind_all ls true n count e = ap (λ m. drop m ls) e ∙ sym (drop-drop n 1 ls)
+
+pub begun_is : (ls : List Line) (log : Option Followed) (has : Bool) (ss : List Standing) (count : ℕ) → log ≡ log_in ls → has ≡ is_some log → ss ≡ standings_in (cond has (drop 1 ls) ls)
+    → count ≡ first has + length ss → (record { log = log; standings = ss }, drop count ls) ≡ begun_in ls
+begun_is ls log has ss count l h s e =
+    ap (λ z. (record { log = log; standings = ss }, z)) (behind_all ls has (length ss) count e)
+    ∙ (ap (λ z. (record { log = log; standings = z }, drop (length z) (cond has (drop 1 ls) ls))) s
+    ∙ (ap (λ b. (record { log = log; standings = standings_in (cond b (drop 1 ls) ls) }, drop (length (standings_in (cond b (drop 1 ls) ls))) (cond b (drop 1 ls) ls))) h
+    ∙ ap (λ o. with_log o ls) l))
 
 pub read_back : IsReadBack
 read_back = record { back = begun_back; written = log_written }

@@ -45,11 +45,11 @@ lines_of b = if_some b.log [] (λ f. line (log_text f) ∷ []) ++ map (λ s. lin
 
 -- ---- what is read
 
-abbrev pub is_epoch_text : List ℕ → Option (List ℕ)
-is_epoch_text text = passing is_epoch text
+abbrev pub epoch_in : List ℕ → Option (List ℕ)
+epoch_in text = passing is_epoch text
 
 abbrev pub place_by : List ℕ × List ℕ → Option Place
-place_by p = if is_epoch p.0 then option_map (λ count. record { epoch = p.0; count = count }) (count_in p.1) else None
+place_by p = option_and_then (λ epoch. option_map (λ count. record { epoch = epoch; count = count }) (count_in p.1)) (epoch_in p.0)
 
 -- `EPOCH.COUNT`
 abbrev pub place_in : List ℕ → Option Place
@@ -73,7 +73,8 @@ abbrev pub standing_in : List ℕ → Option Standing
 standing_in text = option_and_then (passing (λ s. bytes_eq (standing_text s) text)) (said_standing text)
 
 abbrev pub log_with : (name epoch : List ℕ) → List ℕ × List ℕ → Option Followed
-log_with name epoch p = if is_epoch epoch then option_and_then (λ position. option_map (λ n. record { name = n; epoch = epoch; position = position }) (string_in name)) (count_in p.0) else None
+log_with name epoch p =
+    option_and_then (λ e. option_and_then (λ position. option_map (λ n. record { name = n; epoch = e; position = position }) (string_in name)) (count_in p.0)) (epoch_in epoch)
 
 abbrev pub log_behind : (name : List ℕ) → List ℕ × List ℕ → Option Followed
 log_behind name e = option_and_then (log_with name e.0) (between (codes ",\"step\":") 125 e.1)

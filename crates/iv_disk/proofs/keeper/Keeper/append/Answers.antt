@@ -1,4 +1,4 @@
-use Rattle.std.proofs.Common.{◌<◌, ◌^◌, arith}
+use Rattle.std.proofs.Common.{◌<◌, ◌^◌}
 use Rattle.iv_disk.proofs.DiskBytes.{none_given, records, still_stands, still_whole, torn_given, whole_given}
 use Rattle.iv_disk.proofs.Known.{on_err}
 use Rattle.iv_disk.proofs.keeper.Keeper.append.Goals as goal
