@@ -61,6 +61,8 @@ pub struct Hall {
     pub swept: u64,
     /// Some of those may wait to be sent to.
     pub gathering: bool,
+    /// The number at which the next round goes on to send to them; 0 if no part of them is left.
+    pub next: u32,
     /// Milliseconds since the start.
     pub now: u64,
     /// The lines on standard error.
@@ -133,6 +135,7 @@ impl Hall {
             again: false,
             swept: 0,
             gathering: false,
+            next: 0,
             now: 0,
             log: Log::new(),
             counts: Counts::new(),
@@ -390,6 +393,7 @@ impl Hall {
         self.note_all(events)?;
         self.accept(rt, desk, poll, listener)?;
         self.read_all(rt, desk, journal)?;
+        self.send_before(desk)?;
         journal.note(mem::replace(&mut self.shares, Vec::new(self.alloc)));
         settle(desk, journal)?;
         self.send_all(desk)?;
