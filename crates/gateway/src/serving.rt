@@ -5,7 +5,7 @@ ghost use Rattle.gateway.specs.Running.{IsNew, IsRunning, Leads};
 
 use crate::doors::Doors;
 use crate::fault::Fault;
-use crate::hall::{Hall, LISTENER};
+use crate::hall::{Hall, LISTENER, Places};
 use crate::steps::{new_desk, restore, tick};
 use iv_audit::{Audit, AuditFault, read_audit};
 use iv_clients::{Token, TokensFault};
@@ -443,12 +443,6 @@ fn copied(text: &Option<String>) -> Result<Option<String>, AllocError> {
     }
 }
 
-/// The hall that the settings ask for.
-fn new_hall(alloc: Global, settings: &Settings, doors: Doors) -> Result<Hall, AllocError> {
-    let pages = copied(&settings.pages)?;
-    Hall::new(alloc, settings.clients, doors, pages)
-}
-
 /// Opens the file of tokens, or says why it is not taken.
 fn open_tokens(rt: &HostRuntime, path: String) -> Result<(TokenFile, Vec<Entry>), u8> {
     match TokenFile::open(rt, path) {
@@ -486,8 +480,51 @@ fn new_doors(
     }
 }
 
-/// Serves over a new desk, with the tokens of these entries.
+/// Serves over a new desk that knows these tokens.
 fn serve_anew(
+    rt: &HostRuntime,
+    settings: &Settings,
+    file: &mut TokenFile,
+    seed: Seed,
+    hall: &mut Hall,
+    tokens: Vec<Token>,
+) -> Result<(), u8>
+    requires { AreValid settings.now }
+{
+    match new_desk(rt.alloc(), seed, settings.rows, settings.clients, tokens) {
+        Err(_) => Err(out_of_memory(rt)),
+        Ok(mut desk) => begin(rt, &mut desk, hall, settings, file),
+    }
+}
+
+/// The places that the settings ask for.
+fn new_places(alloc: Global, settings: &Settings) -> Result<Places, AllocError> {
+    let pages = copied(&settings.pages)?;
+    Places::new(alloc, settings.clients, pages)
+}
+
+/// Serves behind these doors, over a new desk that knows these tokens.
+fn serve_behind(
+    rt: &HostRuntime,
+    settings: &Settings,
+    file: &mut TokenFile,
+    seed: Seed,
+    doors: Doors,
+    tokens: Vec<Token>,
+) -> Result<(), u8>
+    requires { AreValid settings.now }
+{
+    match new_places(rt.alloc(), settings) {
+        Err(_) => Err(out_of_memory(rt)),
+        Ok(places) => {
+            let mut hall = Hall::new(rt.alloc(), places, doors);
+            serve_anew(rt, settings, file, seed, &mut hall, tokens)
+        }
+    }
+}
+
+/// Serves by the tokens of these entries.
+fn serve_by(
     rt: &HostRuntime,
     settings: &Settings,
     file: &mut TokenFile,
@@ -499,14 +536,9 @@ fn serve_anew(
         let _ = eprintln!(rt; "gateway: no random bytes");
         return Err(SYSTEM);
     };
-    let alloc = rt.alloc();
-    let (doors, tokens) = new_doors(rt, settings, entries)?;
-    let Ok(mut hall) = new_hall(alloc, settings, doors) else {
-        return Err(out_of_memory(rt));
-    };
-    match new_desk(alloc, seed, settings.rows, settings.clients, tokens) {
-        Err(_) => Err(out_of_memory(rt)),
-        Ok(mut desk) => begin(rt, &mut desk, &mut hall, settings, file),
+    match new_doors(rt, settings, entries) {
+        Err(status) => Err(status),
+        Ok((doors, tokens)) => serve_behind(rt, settings, file, seed, doors, tokens),
     }
 }
 
@@ -521,5 +553,5 @@ pub fn work(rt: &HostRuntime, settings: &Settings) -> Result<(), u8>
         return Err(out_of_memory(rt));
     };
     let (mut file, entries) = open_tokens(rt, path)?;
-    serve_anew(rt, settings, &mut file, entries)
+    serve_by(rt, settings, &mut file, entries)
 }
