@@ -254,6 +254,19 @@ fn push_bound(
     Ok(())
 }
 
+/// Appends the line of a bucket.
+fn push_bucket(
+    out: &mut Vec<u8>,
+    name: &str,
+    labels: &[Label<'_>],
+    bucket: &Bucket<'_>,
+) -> Result<(), AllocError>
+    ensures { OnOk result (out.new.items ≡ out.old.items ++ counted_line name.now (labels_of labels.now) (bucket_of bucket.now)) }
+{
+    push_bound(out, name, labels, bucket.bound.as_bytes(), bucket.count)?;
+    Ok(())
+}
+
 /// Appends the lines of buckets.
 fn push_buckets(
     out: &mut Vec<u8>,
@@ -264,7 +277,7 @@ fn push_buckets(
     ensures { OnOk result (out.new.items ≡ out.old.items ++ flat_map (counted_line name.now (labels_of labels.now)) (map bucket_of buckets.now)) }
 {
     for bucket in buckets {
-        push_bound(out, name, labels, bucket.bound.as_bytes(), bucket.count)?;
+        push_bucket(out, name, labels, bucket)?;
     }
     Ok(())
 }
