@@ -72,7 +72,7 @@ abbrev pub lists_behind : Store → Lists
 lists_behind e = taking.lists_behind (database_of e)
 
 pub stands_behind : (e : Store) → IsStored e → Stands (lists_behind e) e.tables
-stands_behind e h = taking.stands_behind (database_of e) h.database
+stands_behind e h = taking.Stands-lists_behind (database_of e) h.database
 
 -- ---- which subscriptions end
 
