@@ -174,7 +174,7 @@ def take_all(wires: list[Wire]) -> list[float]:
         assert ready, f"{len(waiting)} are told nothing"
         for it in ready:
             waiting[it].more()
-            if waiting[it].input.endswith(b'{"settled":true}\n'):
+            if b'{"settled":true}\n' in waiting[it].input:  # a line that says that the gateway is there may be behind it
                 took.append(time.monotonic() - start)
                 del waiting[it]
     return took
