@@ -1,3 +1,4 @@
 pub mod WrittenThere
+pub mod Entries
 pub mod ReadThere
 pub mod Standings

@@ -1,5 +1,5 @@
 -- What is written of where names stand, and of a log, is read back.
-use Rattle.std.proofs.Common.{◌≡◌, ℕ, Bool, true, false, cond, ◌&&◌, ◌||◌, List, [], ◌∷◌, ◌++◌, length, Option, Some, None, option_map, refl, ap, ◌∙◌, append_assoc}
+use Rattle.std.proofs.Common.{◌≡◌, ℕ, Bool, true, false, cond, ◌&&◌, ◌||◌, List, [], ◌∷◌, ◌++◌, length, Some, None, option_map, refl, ap, ◌∙◌, append_assoc}
 use Rattle.std.specs.Prelude.{◌==◌, bytes_eq, codes, decimal, option_and_then}
 use Rattle.std.specs.List.{list_all}
 use Rattle.std.specs.Str.{is_utf8}
@@ -7,9 +7,8 @@ use Rattle.std.proofs.lemmas.Slice.Eq.{bytes_eq-Decides}
 use Rattle.json.specs.Print.{escape}
 use Rattle.iv_once.specs.Names.{Place}
 use Rattle.iv_request.specs.Request.{passing}
-use Rattle.iv_clients.specs.Names.{count_in, is_between, is_count, is_epoch, place_text}
-use Rattle.iv_clients.specs.Parsed.{cut_quote, string_in}
-use Rattle.iv_clients.specs.Tokens.{cut_at}
+use Rattle.iv_clients.specs.Names.{is_between, is_count, is_epoch, place_text}
+use Rattle.iv_clients.specs.Parsed.{cut_quote}
 use Rattle.iv_clients.proofs.Cuts.{HasNo, both_true, cut_there, let_pass, none_in_both, none_passes, string_cut}
 use Rattle.iv_clients.proofs.Spelling.{count_read, decimal_no_brace, decimal_no_quote, string_read}
 use Rattle.iv_head.specs.Begun.{Followed, IsFollowed, IsStanding, Standing, followed_in, log_behind, log_parts, log_text, log_with, place_by, place_in, standing_in, standing_parts, standing_text, standing_with}
@@ -28,7 +27,7 @@ digits_of epoch h = (both_true (length epoch == 32) (list_all is_epoch_digit epo
 place_back : (at : Place) → is_epoch at.epoch ≡ true → is_count at.count ≡ true → place_in (place_text at) ≡ Some at
 place_back at e c =
     ap (option_and_then place_by) (cut_there 46 at.epoch (decimal at.count) (none_passes is_epoch_digit 46 refl at.epoch (digits_of at.epoch e)) refl)
-    ∙ (λ i. cond (e i) (option_map (λ count. record { epoch = at.epoch; count = count }) (count_read at.count c i)) None)
+    ∙ (λ i. option_and_then (λ epoch. option_map (λ count. record { epoch = epoch; count = count }) (count_read at.count c i)) (cond (e i) (Some at.epoch) None))
 
 place_no_quote : (at : Place) → is_epoch at.epoch ≡ true → HasNo 34 (place_text at)
 place_no_quote at e = none_in_both (λ x. x == 34) at.epoch (46 ∷ decimal at.count) (none_passes is_epoch_digit 34 refl at.epoch (digits_of at.epoch e)) (decimal_no_quote at.count)
@@ -56,7 +55,8 @@ standing_back s w =
 log_there : (f : Followed) → is_utf8 f.name ≡ true → is_epoch f.epoch ≡ true → is_count f.position ≡ true
     → log_with (escape f.name) f.epoch (decimal f.position, []) ≡ Some f
 log_there f u e c =
-    λ i. cond (e i) (option_and_then (λ position. option_map (λ n. record { name = n; epoch = f.epoch; position = position }) (string_read f.name u i)) (count_read f.position c i)) None
+    λ i. option_and_then (λ z. option_and_then (λ position. option_map (λ n. record { name = n; epoch = z; position = position }) (string_read f.name u i)) (count_read f.position c i))
+    (cond (e i) (Some f.epoch) None)
 
 pub log_back : (f : Followed) → IsFollowed f → followed_in (log_text f) ≡ Some f
 log_back f w =

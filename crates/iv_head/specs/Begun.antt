@@ -1,5 +1,5 @@
 -- What a journal says between its head and its first entry.
-use Rattle.std.specs.Prelude.{◌≡◌, ℕ, ◌+◌, ◌&&◌, Bool, true, false, if◌then◌else◌, List, [], ◌∷◌, ◌++◌, bytes_eq, codes, decimal, drop, length, map, Option, None, Some, is_some, option_and_then, option_map}
+use Rattle.std.specs.Prelude.{◌≡◌, ℕ, ◌&&◌, true, false, if◌then◌else◌, List, [], ◌∷◌, ◌++◌, bytes_eq, codes, decimal, drop, length, map, Option, None, IfSome, is_some, option_and_then, option_map}
 use Rattle.std.specs.List.{AllByRecursion}
 use Rattle.std.specs.Str.{is_utf8}
 use Rattle.serde_json.specs.Data.{string}
@@ -8,6 +8,7 @@ use Rattle.iv_rows.specs.Options.{if_some}
 use Rattle.iv_request.specs.Request.{passing}
 use Rattle.iv_journal.specs.Journal.{Line}
 use Rattle.iv_once.specs.Names.{Known, Place, begun}
+use Rattle.iv_clients.specs.Journal.{Entry, IsEntry, journal_of}
 use Rattle.iv_clients.specs.Names.{between, count_in, is_count, is_epoch, place_text}
 use Rattle.iv_clients.specs.Parsed.{cut_quote, string_in}
 use Rattle.iv_clients.specs.Tokens.{behind, cut_at}
@@ -45,11 +46,11 @@ lines_of b = if_some b.log [] (λ f. line (log_text f) ∷ []) ++ map (λ s. lin
 
 -- ---- what is read
 
-abbrev pub is_epoch_text : List ℕ → Option (List ℕ)
-is_epoch_text text = passing is_epoch text
+abbrev pub epoch_in : List ℕ → Option (List ℕ)
+epoch_in text = passing is_epoch text
 
 abbrev pub place_by : List ℕ × List ℕ → Option Place
-place_by p = if is_epoch p.0 then option_map (λ count. record { epoch = p.0; count = count }) (count_in p.1) else None
+place_by p = option_and_then (λ epoch. option_map (λ count. record { epoch = epoch; count = count }) (count_in p.1)) (epoch_in p.0)
 
 -- `EPOCH.COUNT`
 abbrev pub place_in : List ℕ → Option Place
@@ -73,7 +74,8 @@ abbrev pub standing_in : List ℕ → Option Standing
 standing_in text = option_and_then (passing (λ s. bytes_eq (standing_text s) text)) (said_standing text)
 
 abbrev pub log_with : (name epoch : List ℕ) → List ℕ × List ℕ → Option Followed
-log_with name epoch p = if is_epoch epoch then option_and_then (λ position. option_map (λ n. record { name = n; epoch = epoch; position = position }) (string_in name)) (count_in p.0) else None
+log_with name epoch p =
+    option_and_then (λ e. option_and_then (λ position. option_map (λ n. record { name = n; epoch = e; position = position }) (string_in name)) (count_in p.0)) (epoch_in epoch)
 
 abbrev pub log_behind : (name : List ℕ) → List ℕ × List ℕ → Option Followed
 log_behind name e = option_and_then (log_with name e.0) (between (codes ",\"step\":") 125 e.1)
@@ -111,16 +113,17 @@ abbrev pub IsFollowed : Followed → Type 0
 IsFollowed f = (is_utf8 f.name && (is_epoch f.epoch && is_count f.position)) ≡ true
 
 pub record IsBegun (b : Begun) : Type 0 where
-  pub log : if_some b.log (⊤) IsFollowed
+  pub log : IfSome b.log IsFollowed
   pub standings : AllByRecursion IsStanding b.standings
 
 -- no line says where names stand, or which log is followed
 abbrev pub SaysNothing : List Line → Type 0
 SaysNothing ls = (log_in ls ≡ None) × (standings_in ls ≡ [])
 
--- it is read back, whatever follows that says nothing of it; and what is read was written so
+-- it is read back, whatever follows that says nothing of it, as entries do; and what is read was written so
 pub record IsReadBack : Type 0 where
   pub back : (b : Begun) (ls : List Line) → IsBegun b → SaysNothing ls → begun_in (lines_of b ++ ls) ≡ (b, ls)
+  pub entries : (es : List Entry) → AllByRecursion IsEntry es → SaysNothing (journal_of es)
   pub written : (ls : List Line) → ls ≡ lines_of (begun_in ls).0 ++ (begun_in ls).1
 
 -- ---- what is known of names

@@ -1,15 +1,18 @@
 //! `Begun`: what a journal says before its first entry; `push_begun` writes its lines, `read_begun` reads them.
-ghost use Rattle.std.specs.Prelude.{◌≡◌, ◌++◌, ◌∷◌, ◌||◌, [], ◌≤◌, false, IfOk, OnOk, codes, decimal, drop, length, map, option_and_then, option_map, string_bytes};
+ghost use Rattle.std.specs.Prelude.{◌≡◌, ◌==◌, ◌++◌, ◌∷◌, ◌||◌, ◌&&◌, not, if◌then◌else◌, [], ◌≤◌, false, IfOk, OnOk, codes, decimal, drop, length, map, option_and_then, option_map, string_bytes};
+ghost use Rattle.std.specs.List.{list_all};
 ghost use Rattle.std.specs.Str.{is_utf8};
 ghost use Rattle.serde_json.specs.Data.{string};
-ghost use Rattle.serde_json.specs.Find.{as_str};
+ghost use Rattle.serde_json.specs.Find.{as_number, as_str, as_u64};
 ghost use Rattle.serde_json.specs.Written.{compact_text};
 ghost use Rattle.iv_request.specs.Documents.{value_data};
 ghost use Rattle.iv_request.specs.Request.{passing};
-ghost use Rattle.iv_clients.specs.Names.{between, count_in, is_between};
+ghost use Rattle.iv_rows.specs.Options.{if_some};
+ghost use Rattle.iv_message.specs.Seen.{id_data};
+ghost use Rattle.iv_clients.specs.Names.{between, count_in, is_between, is_count, is_epoch, place_text};
 ghost use Rattle.iv_clients.specs.Parsed.{cut_quote, string_in};
 ghost use Rattle.iv_head.specs.Begun as spec;
-ghost use Rattle.iv_head.specs.Begun.{begun_in, followed_in, is_epoch_text, lines_of, log_in, log_text, member_in, place_in, said_log, said_standing, standing_in, standing_text, standings_in};
+ghost use Rattle.iv_head.specs.Begun.{begun_in, epoch_in, followed_in, lines_of, log_in, log_text, member_in, place_in, said_log, said_standing, standing_in, standing_text, standings_in};
 
 use itoa::Buffer;
 use iv_clients::{OwnedLine, behind, cut_at};
@@ -78,14 +81,6 @@ impl Model for Begun {
 
 // ---- written
 
-/// Appends the digits of a number.
-fn push_count(text: &mut Vec<u8>, count: u64) -> Result<(), AllocError>
-    ensures { OnOk result (text.new.items ≡ text.old.items ++ decimal count) }
-{
-    text.extend_from_slice(Buffer::new().format(count).as_bytes())?;
-    Ok(())
-}
-
 /// Appends a key, and a text as JSON has it.
 fn push_member(alloc: Global, text: &mut Vec<u8>, key: &[u8], value: &str) -> Result<(), AllocError>
     ensures { OnOk result (text.new.items ≡ text.old.items ++ (key.now ++ compact_text (string value.now))) }
@@ -96,16 +91,53 @@ fn push_member(alloc: Global, text: &mut Vec<u8>, key: &[u8], value: &str) -> Re
     Ok(())
 }
 
+/// Appends an epoch and a count.
+fn push_place(text: &mut Vec<u8>, at: &Place) -> Result<(), AllocError>
+    ensures { OnOk result (text.new.items ≡ text.old.items ++ place_text at.now) }
+{
+    text.extend_from_slice(at.epoch.as_bytes())?;
+    text.push(b'.')?;
+    text.extend_from_slice(Buffer::new().format(at.count).as_bytes())?;
+    Ok(())
+}
+
+/// Appends where names stand, after whose they are.
+fn push_at(text: &mut Vec<u8>, at: &Place) -> Result<(), AllocError>
+    ensures { OnOk result (text.new.items ≡ text.old.items ++ (codes ",\"at\":\"" ++ (place_text at.now ++ codes "\"}"))) }
+{
+    text.extend_from_slice(b",\"at\":\"")?;
+    push_place(text, at)?;
+    text.extend_from_slice(b"\"}")?;
+    Ok(())
+}
+
 /// Appends the text of where names stand.
 fn push_standing(alloc: Global, text: &mut Vec<u8>, standing: &Standing) -> Result<(), AllocError>
     ensures { OnOk result (text.new.items ≡ text.old.items ++ standing_text standing.now) }
 {
     push_member(alloc, text, b"\"holder\":", standing.holder.as_str())?;
-    text.extend_from_slice(b",\"at\":\"")?;
-    text.extend_from_slice(standing.at.epoch.as_bytes())?;
-    text.push(b'.')?;
-    push_count(text, standing.at.count)?;
-    text.extend_from_slice(b"\"}")?;
+    push_at(text, &standing.at)?;
+    Ok(())
+}
+
+/// Appends a position.
+fn push_position(text: &mut Vec<u8>, position: u64) -> Result<(), AllocError>
+    ensures { OnOk result (text.new.items ≡ text.old.items ++ (codes "\",\"step\":" ++ (decimal position ++ codes "}"))) }
+{
+    text.extend_from_slice(b"\",\"step\":")?;
+    text.extend_from_slice(Buffer::new().format(position).as_bytes())?;
+    text.push(b'}')?;
+    Ok(())
+}
+
+/// Appends where a log stood, after its name.
+fn push_stood(text: &mut Vec<u8>, log: &Followed) -> Result<(), AllocError>
+    ensures { OnOk result (text.new.items ≡ text.old.items
+        ++ (codes ",\"epoch\":\"" ++ (log.now.epoch ++ (codes "\",\"step\":" ++ (decimal log.now.position ++ codes "}"))))) }
+{
+    text.extend_from_slice(b",\"epoch\":\"")?;
+    text.extend_from_slice(log.epoch.as_bytes())?;
+    push_position(text, log.position)?;
     Ok(())
 }
 
@@ -114,11 +146,24 @@ fn push_log(alloc: Global, text: &mut Vec<u8>, log: &Followed) -> Result<(), All
     ensures { OnOk result (text.new.items ≡ text.old.items ++ log_text log.now) }
 {
     push_member(alloc, text, b"\"log\":", log.name.as_str())?;
-    text.extend_from_slice(b",\"epoch\":\"")?;
-    text.extend_from_slice(log.epoch.as_bytes())?;
-    text.extend_from_slice(b"\",\"step\":")?;
-    push_count(text, log.position)?;
-    text.push(b'}')?;
+    push_stood(text, log)?;
+    Ok(())
+}
+
+/// Appends the line of where names stand.
+fn push_standing_line(
+    alloc: Global,
+    lines: &mut Vec<OwnedLine>,
+    standing: &Standing,
+) -> Result<(), AllocError>
+    ensures { OnOk result (lines.new.items ≡ lines.old.items ++ spec.line (standing_text standing.now) ∷ []) }
+{
+    let mut text = Vec::new(alloc);
+    push_standing(alloc, &mut text, standing)?;
+    lines.push(OwnedLine {
+        is_last: true,
+        text,
+    })?;
     Ok(())
 }
 
@@ -131,14 +176,40 @@ fn push_standings(
     ensures { OnOk result (lines.new.items ≡ lines.old.items ++ map (λ s. spec.line (standing_text s)) standings.now) }
 {
     for standing in standings {
-        let mut text = Vec::new(alloc);
-        push_standing(alloc, &mut text, standing)?;
-        lines.push(OwnedLine {
-            is_last: true,
-            text,
-        })?;
+        push_standing_line(alloc, lines, standing)?;
     }
     Ok(())
+}
+
+/// Appends the line of a log.
+fn push_log_line(
+    alloc: Global,
+    lines: &mut Vec<OwnedLine>,
+    log: &Followed,
+) -> Result<(), AllocError>
+    ensures { OnOk result (lines.new.items ≡ lines.old.items ++ spec.line (log_text log.now) ∷ []) }
+{
+    let mut text = Vec::new(alloc);
+    push_log(alloc, &mut text, log)?;
+    lines.push(OwnedLine {
+        is_last: true,
+        text,
+    })?;
+    Ok(())
+}
+
+/// Appends the line of a log, if one is followed.
+fn push_log_lines(
+    alloc: Global,
+    lines: &mut Vec<OwnedLine>,
+    log: &Option<Followed>,
+) -> Result<(), AllocError>
+    ensures { OnOk result (lines.new.items ≡ lines.old.items ++ if_some log.now [] (λ f. spec.line (log_text f) ∷ [])) }
+{
+    match log {
+        None => Ok(()),
+        Some(log) => push_log_line(alloc, lines, log),
+    }
 }
 
 /// Appends the lines of what a journal says before its first entry.
@@ -152,18 +223,19 @@ pub fn push_begun(
 ) -> Result<(), AllocError>
     ensures { OnOk result (lines.new.items ≡ lines.old.items ++ lines_of begun.now) }
 {
-    if let Some(log) = &begun.log {
-        let mut text = Vec::new(alloc);
-        push_log(alloc, &mut text, log)?;
-        lines.push(OwnedLine {
-            is_last: true,
-            text,
-        })?;
-    }
-    push_standings(alloc, lines, &begun.standings)
+    push_log_lines(alloc, lines, &begun.log)?;
+    push_standings(alloc, lines, &begun.standings)?;
+    Ok(())
 }
 
 // ---- read
+
+/// Whether a byte is this one, and no backslash escapes it.
+fn is_plain(escaped: bool, byte: u8, wanted: u8) -> bool
+    ensures { result ≡ (not escaped && (byte == wanted)) }
+{
+    !escaped && byte == wanted
+}
 
 /// What stands before the first quotation mark that no backslash escapes, and after it.
 fn cut_quote(bytes: &[u8]) -> Option<(&[u8], &[u8])>
@@ -171,10 +243,10 @@ fn cut_quote(bytes: &[u8]) -> Option<(&[u8], &[u8])>
 {
     let mut escaped = false;
     for at in 0..bytes.len() {
-        if !escaped && bytes[at] == b'"' {
+        if is_plain(escaped, bytes[at], b'"') {
             return Some((&bytes[..at], &bytes[at + 1..]));
         }
-        escaped = !escaped && bytes[at] == b'\\';
+        escaped = is_plain(escaped, bytes[at], b'\\');
     }
     None
 }
@@ -189,6 +261,17 @@ fn str_of(alloc: Global, value: &Json<'_>) -> Result<Option<String>, AllocError>
     }
 }
 
+/// Bytes between quotation marks.
+fn with_quotes(alloc: Global, text: &[u8]) -> Result<Vec<u8>, AllocError>
+    ensures { IfOk result (λ quoted. quoted.items ≡ 34 ∷ (text.now ++ 34 ∷ [])) }
+{
+    let mut quoted = Vec::new(alloc);
+    quoted.push(b'"')?;
+    quoted.extend_from_slice(text)?;
+    quoted.push(b'"')?;
+    Ok(quoted)
+}
+
 /// The text that a JSON string has between its quotation marks.
 fn string_in(
     alloc: Global,
@@ -197,13 +280,21 @@ fn string_in(
 ) -> Result<Option<String>, AllocError>
     ensures { IfOk result (λ o. option_map string_bytes o ≡ string_in text.now) }
 {
-    let mut quoted = Vec::new(alloc);
-    quoted.push(b'"')?;
-    quoted.extend_from_slice(text)?;
-    quoted.push(b'"')?;
+    let quoted = with_quotes(alloc, text)?;
     match read_value(alloc, &quoted, scratch)? {
         None => Ok(None),
         Some(value) => str_of(alloc, &value),
+    }
+}
+
+/// The number that an id is, if it is none below 0 and no text.
+fn count_of(id: &Id) -> Option<u64>
+    ensures { result ≡ option_and_then (passing is_count) (option_and_then as_u64 (as_number (id_data id.now))) }
+{
+    match id {
+        Id::Natural(count) => Some(*count),
+        Id::Whole(count) => u64::try_from(*count).ok(),
+        Id::Text(_) => None,
     }
 }
 
@@ -212,16 +303,45 @@ fn count_in(alloc: Global, digits: &[u8], scratch: &mut Scratch) -> Result<Optio
     ensures { IfOk result (λ o. o ≡ count_in digits.now) }
 {
     match read_id(alloc, digits, scratch)? {
-        Some(Id::Natural(count)) => Ok(Some(count)),
-        _ => Ok(None),
+        None => Ok(None),
+        Some(id) => Ok(count_of(&id)),
     }
+}
+
+fn is_between(low: u8, high: u8, byte: u8) -> bool
+    ensures { result ≡ is_between low high byte }
+{
+    low <= byte && byte <= high
 }
 
 /// Whether a byte is a hexadecimal digit, of small letters.
 fn is_digit(byte: u8) -> bool
     ensures { result ≡ (is_between 48 57 byte || is_between 97 102 byte) }
 {
-    b'0' <= byte && byte <= b'9' || b'a' <= byte && byte <= b'f'
+    is_between(b'0', b'9', byte) || is_between(b'a', b'f', byte)
+}
+
+fn are_digits(text: &[u8]) -> bool
+    ensures { result ≡ list_all (λ b. is_between 48 57 b || is_between 97 102 b) text.now }
+{
+    text.iter().all(|byte| is_digit(*byte))
+}
+
+/// Whether a text may be an epoch.
+fn is_epoch(text: &[u8]) -> bool
+    ensures { result ≡ is_epoch text.now }
+{
+    text.len() == 32 && are_digits(text)
+}
+
+/// An epoch, as text.
+fn epoch_text(text: &[u8]) -> Option<&str>
+    ensures { option_map (λ epoch. epoch.now) result ≡ epoch_in text.now }
+{
+    let Ok(epoch) = str::from_utf8(text) else {
+        return None;
+    };
+    if is_epoch(text) { Some(epoch) } else { None }
 }
 
 /// The epoch that a text is, of 32 digits, if it is one.
@@ -229,14 +349,11 @@ fn is_digit(byte: u8) -> bool
 /// # Errors
 /// `AllocError` if a growth of memory was refused.
 pub fn epoch_in(alloc: Global, text: &[u8]) -> Result<Option<String>, AllocError>
-    ensures { IfOk result (λ o. option_map string_bytes o ≡ is_epoch_text text.now) }
+    ensures { IfOk result (λ o. option_map string_bytes o ≡ epoch_in text.now) }
 {
-    if text.len() != 32 || !text.iter().all(|byte| is_digit(*byte)) {
-        return Ok(None);
-    }
-    match str::from_utf8(text) {
-        Ok(text) => Ok(Some(String::from_str(alloc, text)?)),
-        Err(_) => Ok(None),
+    match epoch_text(text) {
+        None => Ok(None),
+        Some(epoch) => Ok(Some(String::from_str(alloc, epoch)?)),
     }
 }
 
@@ -395,10 +512,24 @@ fn log_in(
 ) -> Result<Option<Followed>, AllocError>
     ensures { IfOk result (λ o. o ≡ log_in lines.now) }
 {
-    match lines.first() {
-        Some(line) if line.is_last => followed_in(alloc, line.text, scratch),
-        _ => Ok(None),
+    let Some(line) = lines.first() else {
+        return Ok(None);
+    };
+    if line.is_last {
+        followed_in(alloc, line.text, scratch)
+    } else {
+        Ok(None)
     }
+}
+
+/// The lines after that of the log, if there is one.
+fn behind_log<'l, 'a>(lines: &'l [Line<'a>], has_log: bool) -> &'l [Line<'a>]
+    ensures { result.now ≡ (if has_log then drop 1 lines.now else lines.now) }
+{
+    if has_log && !lines.is_empty() {
+        return &lines[1..];
+    }
+    lines
 }
 
 /// What a journal's lines after its head say before its first entry, and how many of them say it.
@@ -414,8 +545,8 @@ pub fn read_begun(
     ensures read { IfOk result (λ p. (p.0, drop p.1 lines.now) ≡ begun_in lines.now) }
 {
     let log = log_in(alloc, lines, scratch)?;
-    let first = if log.is_some() { 1 } else { 0 };
-    let standings = standings_in(alloc, lines.get(first..).unwrap_or(&[]), scratch)?;
-    let count = first + standings.len();
+    let has_log = log.is_some();
+    let standings = standings_in(alloc, behind_log(lines, has_log), scratch)?;
+    let count = usize::from(has_log) + standings.len();
     Ok((Begun { log, standings }, count))
 }

@@ -77,7 +77,8 @@ fn read(alloc: Global, texts: &[&'static [u8]]) -> Result<(usize, bool), AllocEr
     push_begun(alloc, &mut again, &begun)?;
     let mut same = again.len() == count;
     for at in 0..again.len().min(texts.len()) {
-        same = same && again[at].is_last && again[at].text.as_slice() == texts[at];
+        let line = &again[at];
+        same = same && line.is_last && line.text.as_slice() == texts[at];
     }
     Ok((count, same))
 }
@@ -89,7 +90,8 @@ fn what_came_before_is_read_back(rt: HostRuntime) -> Result<(), Fail> {
     push_begun(alloc, &mut lines, &begun(alloc)?)?;
     assert_eq!(rt; lines.len(), 3, "lines");
     for at in 0..lines.len().min(3) {
-        assert_eq!(rt; lines[at].text.as_slice(), LINES[at], "line {at}");
+        let line = &lines[at];
+        assert_eq!(rt; line.text.as_slice(), LINES[at], "line {at}");
     }
     assert_eq!(rt; read(alloc, &LINES)?, (3, true), "read back");
     assert_eq!(rt; read(alloc, &[LINES[1], LINES[2], OTHERS[0]])?, (2, true), "without a log");

@@ -87,7 +87,8 @@ fn are_given(lines: &[Line], count: usize) -> bool {
     let mut same = lines.len() == count;
     for at in 0..lines.len() {
         let (is_last, text) = GIVEN[at.min(3)];
-        same = same && lines[at].is_last == is_last && lines[at].text == text;
+        let line = &lines[at];
+        same = same && line.is_last == is_last && line.text == text;
     }
     same
 }
