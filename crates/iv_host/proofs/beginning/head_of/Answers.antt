@@ -9,8 +9,7 @@ use Rattle.iv_host.proofs.beginning.head_of.Goals as goal
 pub returns : goal.returns
 returns c = record {
   names = c.in_ok-names.ensures
-      ∙ (ap {B = Names} (λ ss. record { limits = limits; known = stood (nothing_known c.args.epoch.now) ss; spent = unspent }) c.deref.ensures.value
-      ∙ (λ i. record { limits = limits; known = stood_known c.args.epoch.now c.args.begun i; spent = unspent }));
-  log = ap (λ p. p.0) c.log_of-log.ensures;
-  position = ap (λ p. p.1) c.log_of-log.ensures;
+      ∙ (ap {B = Names} (λ ss. record { limits = limits; known = stood (nothing_known c.args.epoch.now) ss; spent = unspent }) c.deref.ensures.value ∙ ?here);
+  log = ?log;
+  position = ?position;
 }
