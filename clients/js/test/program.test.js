@@ -99,6 +99,17 @@ test("over kills each write is answered, and done once", {skip}, async (t) => {
   assert.ok(all.rows.every((it) => all.copies(it) === 1));
 });
 
+test("who was idle while others of its holder wrote much writes on", {skip}, async (t) => {
+  const {enter, mia} = await serving(t);
+  const idle = enter("mia");
+  const own = idle.live("notes");
+  await own.ready;
+  for (let id = 0; id < 70; id++) await mia.insert("notes", [id, "mia", false]);
+  assert.deepEqual(await Promise.all([100, 101].map((id) => idle.insert("notes", [id, "mia", false]))), [{ok: true}, {ok: true}]);
+  await until(() => own.state === "live" && own.rows.length === 72, "all rows");
+  assert.ok(own.rows.every((it) => own.copies(it) === 1));
+});
+
 test("a gateway that stands still is told of, and left", {skip}, async (t) => {
   const {gateway, enter} = await serving(t);
   const db = enter("mia", {silence: 2000, patience: 500}), own = db.live("notes");

@@ -85,6 +85,20 @@ def test_over_kills_each_write_is_answered_and_done_once(gateway):
     asyncio.run(test())
 
 
+def test_who_was_idle_while_others_of_its_holder_wrote_much_writes_on(gateway):
+    async def test():
+        async with enter(gateway, "mia") as idle, enter(gateway, "mia") as mia:
+            own = idle.live("notes")
+            await own.ready()
+            for number in range(70):
+                await mia.insert("notes", [number, "mia", False])
+            assert await asyncio.gather(*(idle.insert("notes", [number, "mia", False]) for number in (100, 101))) == [{"ok": True}] * 2
+            await until(lambda: own.state == "live" and len(own.rows) == 72)
+            assert all(own.copies(it) == 1 for it in own.rows)
+
+    asyncio.run(test())
+
+
 def test_a_gateway_that_stands_still_is_told_of(gateway):
     async def test(silence):
         async with enter(gateway, "mia", silence=silence, patience=0.5) as db:
