@@ -110,8 +110,8 @@ def written(journal: Journal, entries: Iterable[bytes], is_copy: bool = False) -
     """The lines of a journal with these requests, each a line of the form before, and with the names of another. One that goes on in the place of
     a journal that had more has another epoch: what its clients are told of that one's places is undecided."""
     epoch = os.urandom(16).hex() if is_copy or journal.epoch is None else journal.epoch
-    stand = [json.dumps({"holder": holder, "at": f"{epoch if is_copy else own.epoch}.{own.count - len(own.recent)}"}, ensure_ascii=False, separators=(",", ":")).encode()[1:]
-             for holder, own in journal.owns.items()]
+    begin = ({"holder": holder, "at": f"{epoch if is_copy else own.epoch}.{own.count - len(own.recent)}"} for holder, own in journal.owns.items())
+    stand = [json.dumps(it, ensure_ascii=False, separators=(",", ":")).encode()[1:] for it in begin]
     names = [text for own in journal.owns.values() for text in own.recent]
     digest = bytes(32)
     for text in (FORM + epoch.encode() + b'","audit":1}', *stand, *(entry.rstrip(b"\n")[1:] for entry in entries), *names):

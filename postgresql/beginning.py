@@ -73,7 +73,7 @@ def once(connection: Connection, stream: Stream, settings: Settings, most: int) 
     place, snapshot = stream.create()
     with connection.cursor() as cursor:
         cursor.execute("set transaction snapshot %s", [snapshot])
-    mark, before = cut(connection, oids, settings.publication).mark, still(connection, oids)
+    first, before = cut(connection, oids, settings.publication), still(connection, oids)
     mirror = Mirror()
 
     def held(it: Made, rel: Relation) -> Table:
@@ -86,7 +86,7 @@ def once(connection: Connection, stream: Stream, settings: Settings, most: int) 
     connection.rollback()
     if later != before:
         return None
-    steps = Steps(connection, settings.dsn, stream, oids, settings.publication, mark, place)
+    steps = Steps(connection, settings.dsn, stream, oids, settings.publication, first, place)
     steps.push()  # so that something comes of which the server is not told that it was kept
     stream.begin(place)
     return Beginning(names, state, mirror, steps, connection, stream)

@@ -58,11 +58,10 @@ class Step(NamedTuple):
 class Steps:
     """The cuts of a database, one after another."""
 
-    def __init__(self, connection: Connection, dsn: str, stream: Stream, oids: list[int], publication: str, mark: str, place: int):
+    def __init__(self, connection: Connection, dsn: str, stream: Stream, oids: list[int], publication: str, told: Cut, place: int):
         self.connection, self.stream, self.oids, self.publication = connection, stream, oids, publication
-        self.mark = mark  # of the catalog that was told
+        self.told = told  # the last one that was told: all that it sees, rows and rights
         self.place = place  # after the last transaction that was told
-        self.certain = place  # all commits before it were told
         self.committed = 0  # where the last commit stands that was told
         self.waiting: deque[Transaction] = deque()
         self.names = ""  # by which the texts of policies and views are printed
@@ -79,7 +78,6 @@ class Steps:
             self.take()
         found, catalog = self.ask()
         if catalog is None and not self.waiting:
-            self.certain = max(self.certain, min(self.stream.reached, found.place))
             return None
         self.come_to(found.place)
         seen = [number for number, it in enumerate(self.waiting, 1) if found.sees(it.xid)]
@@ -87,10 +85,9 @@ class Steps:
         if len(seen) < count:  # one that committed before another is seen after it, for a moment
             return None
         transactions = [self.waiting.popleft() for _ in range(count)]
-        self.mark = found.mark
+        self.told = found
         if transactions:
             self.committed, self.place = transactions[-1].commit, transactions[-1].end
-        self.certain = max(self.certain, self.place if self.waiting else found.place)
         return Step(transactions, found, catalog) if transactions or catalog else None
 
     def take(self) -> None:
@@ -106,7 +103,7 @@ class Steps:
             for _ in range(TRIES):
                 self.connection.rollback()
                 found = cut(self.connection, self.oids, self.publication)
-                if found.mark == self.mark:
+                if found.mark == self.told.mark:
                     return found, None
                 names = printed_as(self.connection, self.oids)
                 if names != self.names:

@@ -23,6 +23,7 @@ from wire import PATIENCE, PROGRAM, TOP, Gateway, Line, http
 
 sys.path.insert(0, str(TOP / "frontend"))
 
+import audit
 from journal import Shape
 
 ROLES = ("admin", "lena", "mia", "noah", "olga")
@@ -113,6 +114,12 @@ def seen(gate: Gateway, *more: str) -> list[Any]:
 
 def compacted(gate: Gateway, *words: str) -> subprocess.CompletedProcess[str]:
     return subprocess.run([TOP / "frontend/compact.py", *words, gate.journal, VIEWD], stdin=subprocess.DEVNULL, capture_output=True, text=True, timeout=PATIENCE)
+
+
+def inserted(journal: bytes) -> set[tuple[Any, ...]]:
+    """The rows that the requests of a journal insert, those of whole records."""
+    requests = [json.loads(it.entry) for it in audit.read(journal, "a journal").entries]
+    return {tuple(it["insert"]) for request in requests for it in request.get("entries", []) if "insert" in it}
 
 
 needs_viewd = pytest.mark.skipif(not VIEWD.is_file(), reason=f"the compactions did not run, since {VIEWD} is not built")

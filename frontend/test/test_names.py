@@ -1,19 +1,20 @@
 #!/usr/bin/python3
 """Names of requests at the gateway as a program, by what docs/PROTOCOL.md says alone: a request is carried out once, however often it is sent, over lost
-connections, kills, restarts, compactions and copies.
+connections, kills, restarts, compactions, copies and renewed tokens.
 
 GATEWAY and VIEWD name other programs than those that are built: a compaction asks viewd."""
+import collections
 import contextlib
 import json
 import random
 import secrets
 import threading
 import time
-from collections.abc import Iterator
+from collections.abc import Callable, Iterator
 from typing import Any
 
 from model import text_of
-from test_journal import compacted, has_viewd, needs_viewd
+from test_journal import compacted, has_viewd, inserted, needs_viewd
 from trial import insert, serving, total, until
 from wire import TOP, Ended, Gateway, Line, Wire, digest
 
@@ -90,8 +91,8 @@ def test_a_lost_answer_is_told_again() -> None:
         wire.say(other)
         wire.shut()
         until(lambda: len(gate.names()) == 2, "what was sent before the socket went is not done")
-        done = {"answer": {"ok": True}, "at": f"{gate.epoch()}.2"}
-        refused = {"answer": {"entry": 1, "error": 16}, "at": f"{gate.epoch()}.2"}
+        done: Line = {"answer": {"ok": True}, "at": f"{gate.epoch()}.2"}
+        refused: Line = {"answer": {"entry": 1, "error": 16}, "at": f"{gate.epoch()}.2"}
 
         def is_known(wire: Wire) -> None:
             assert wire.place == f"{gate.epoch()}.2"
@@ -232,13 +233,18 @@ def test_a_compaction_keeps_names_and_a_copy_has_another_epoch() -> None:
         assert rows(gate) == there
 
 
+Row = tuple[Any, ...]
+
+
 class Writer:
     """Sends each request by the same name, place and bytes until it is answered, over lost connections."""
 
     def __init__(self, gate: Gateway, token: str, number: int):
         self.gate, self.token, self.number, self.at = gate, token, number, 0
-        self.open: dict[tuple[int, str], str] = {}  # of each row the message that has no answer
-        self.done, self.refused, self.unknown = set[tuple[int, str]](), set[tuple[int, str]](), set[tuple[int, str]]()
+        self.came = ""  # the token by which it came in last
+        self.open: dict[Row, str] = {}  # of each row the message that has no answer
+        self.done, self.refused = set[Row](), set[Row]()
+        self.undecided: dict[Row, int] = {}
         self.sent = self.again = 0
         self.fault: Exception | None = None
 
@@ -253,7 +259,11 @@ class Writer:
             raise
 
     def serve(self, stop: threading.Event) -> None:
-        wire = self.gate.knock(self.token)
+        token = self.token
+        wire = self.gate.knock(token)
+        if wire.role is None:  # it was renewed, and is not known yet
+            raise Ended(wire.code)
+        self.came = token
         asked = [*self.open]
         for row in asked:
             wire.say(self.open[row])
@@ -269,13 +279,14 @@ class Writer:
                 asked.append(row)
                 continue
             self.again += "again" in reply
-            assert "answer" in reply or reply["undecided"] in (102, 103), reply
-            place = self.unknown if "undecided" in reply else self.done if "ok" in reply["answer"] else self.refused
-            place.add(row)
+            if "undecided" in reply:
+                self.undecided[row] = reply["undecided"]
+            else:
+                (self.done if "ok" in reply["answer"] else self.refused).add(row)
             del self.open[row]
         wire.shut()
 
-    def next(self, wire: Wire) -> tuple[int, str]:
+    def next(self, wire: Wire) -> Row:
         self.at += 1
         row = (self.number * 10_000_000 + self.at, "ann")
         request = insert(*row)
@@ -287,43 +298,95 @@ class Writer:
         return row
 
 
+class Trials:
+    """What becomes of a gateway under writers: it is killed, its journal is torn, compacted, and once that of before stands in its place; tokens are renewed."""
+
+    def __init__(self, gate: Gateway, writers: list[Writer], kills: int):
+        self.gate, self.writers, self.kills, self.dice = gate, writers, kills, random.Random(6)
+        self.kept = b""  # a copy of the journal
+        self.lost = set[Row]()  # what the journal had more that went
+        self.counts = collections.Counter[str]()
+
+    def answered(self) -> int:
+        return sum(len(it.done) for it in self.writers)
+
+    def wait(self, holds: Callable[[], bool], what: str) -> None:
+        until(lambda: any(it.fault for it in self.writers) or holds(), what)
+
+    def kill(self, at: int) -> None:
+        if at % 3 == 1:
+            self.renew()
+        before = self.answered()
+        self.wait(lambda: self.answered() > before, "nothing is answered")
+        time.sleep(self.dice.uniform(0, 0.3))
+        self.gate.kill()
+        if at % 4 == 3:  # half a line stands behind what is whole
+            self.counts["torn"] += 1
+            with self.gate.journal.open("ab") as file:
+                file.write(b'{"part":"12ab12ab12ab12ab12ab'[:self.dice.randrange(1, 28)])
+        if at == 2 * self.kills // 5:
+            self.kept = self.gate.journal.read_bytes()
+        if at == 3 * self.kills // 5 and has_viewd():
+            self.restore()
+        elif at % 10 == 9 and has_viewd():
+            self.compact()
+        self.gate.start()
+
+    def compact(self, *words: str) -> None:
+        self.counts["compacted"] += 1
+        done = compacted(self.gate, "--rows", "1048576", *words)
+        assert done.returncode == 0, done.stderr
+
+    def restore(self) -> None:
+        """The copy goes on in the place of the journal, under another epoch."""
+        self.lost = inserted(self.gate.journal.read_bytes()) - inserted(self.kept)
+        self.counts["lost"] = len(self.lost)
+        self.gate.journal.write_bytes(self.kept)
+        self.compact("--copy")
+
+    def renew(self) -> None:
+        """The third writer has another token of the same holder from now on, and the one before opens nothing."""
+        self.counts["renewed"] += 1
+        self.writers[2].token = f"mia 2 {self.counts['renewed']}"
+        holders = {self.writers[0].token: "Mia", self.writers[2].token: "Mia", self.writers[3].token: "Ann"}
+        self.gate.know("admin", "ann", lines=tuple(token_line(*it) for it in holders.items()))
+        self.wait(lambda: self.writers[2].came == self.writers[2].token, "a renewed token opens nothing")
+
+
 def test_kills_and_repetitions_do_each_request_once(kills: int) -> None:
-    """Killed at random, compacted at times: what writers send again by its name is done exactly once, or told undecided for ever. That is told only of two
-    of one holder by two tokens: while one of them was away the other may have had 64 names."""
+    """What four clients of two holders send again by its name is done exactly once, or told undecided for ever: killed at random, with torn ends, compactions,
+    renewed tokens, and a copy of before in the journal's place. Two are tabs of one token, and a third has another token of the same holder. 102 is told
+    only of that one: while one of its clients was away the others may have had 64 names."""
     with holding() as gate:
         gate.kill()
         gate.words = ("--rows", "1048576")  # a fast host writes more than 65,536
         gate.start()
-        dice, stop = random.Random(6), threading.Event()
-        writers = [Writer(gate, token, number) for number, token in enumerate(["mia 1", "mia 2", "ann"])]
+        stop = threading.Event()
+        writers = [Writer(gate, token, number) for number, token in enumerate(["mia 1", "mia 1", "mia 2", "ann"])]
         threads = [threading.Thread(target=it.run, args=(stop,), daemon=True) for it in writers]
+        trials = Trials(gate, writers, kills)
         for thread in threads:
             thread.start()
-
-        def answered() -> int:
-            return sum(len(it.done) for it in writers)
         try:
             for at in range(kills):
-                before = answered()
-                until(lambda: any(it.fault for it in writers) or answered() > before, "nothing is answered")
-                time.sleep(dice.uniform(0, 0.3))
-                gate.kill()
-                if at % 4 == 3:  # half a line stands behind what is whole
-                    with gate.journal.open("ab") as file:
-                        file.write(b'{"part":"12ab12ab12ab12ab12ab'[:dice.randrange(1, 28)])
-                if at % 10 == 9 and has_viewd():
-                    done = compacted(gate, "--rows", "1048576")
-                    assert done.returncode == 0, done.stderr
-                gate.start()
+                trials.kill(at)
         finally:
             stop.set()
         for thread in threads:
             thread.join()
         assert not [it.fault for it in writers if it.fault], [it.fault for it in writers]
-        there = rows(gate)
-        done, refused, unknown = (set[tuple[int, str]]().union(*(getattr(it, key) for it in writers)) for key in ("done", "refused", "unknown"))
-        print(f"  {kills} kills: {sum(it.sent for it in writers)} messages of {sum(it.at for it in writers)} requests, {sum(it.again for it in writers)} told again, "
-              f"{len(done)} done, {len(refused)} refused, {len(unknown)} undecided", flush=True)
-        assert set(there.values()) <= {1}, "a request was carried out twice"
-        assert done <= set(there) and not refused & set(there) and set(there) <= done | unknown
-        assert not writers[2].unknown, "of a holder whose names are all its own nothing is undecided"
+        there, lost = rows(gate), trials.lost
+        done, refused = (set[Row]().union(*(getattr(it, key) for it in writers)) for key in ("done", "refused"))
+        undecided = {row: number for it in writers for row, number in it.undecided.items()}
+        twice = {row for row, copies in there.items() if copies != 1}
+        gone, come = done - lost - set(there), set(there) - (done - lost) - set(undecided)
+        wrong = twice | gone | come | refused & set(there) | lost & set(there)
+        numbers = collections.Counter(undecided.values())
+        print(f"  {kills} kills ({trials.counts['torn']} with a torn end, {trials.counts['compacted']} compactions, {trials.counts['renewed']} renewed tokens): "
+              f"{sum(it.sent for it in writers)} messages of {sum(it.at for it in writers)} requests, {sum(it.again for it in writers)} told again; "
+              f"{len((done - lost) & set(there))} done exactly once, {len(refused)} refused, {numbers[102]} told 102, {numbers[103]} told 103, "
+              f"{len(done & lost)} done in the journal that went, {len(wrong)} wrong", flush=True)
+        assert not wrong, [*wrong][:10]
+        assert sum(it.at for it in writers) == len(done) + len(refused) + len(undecided)
+        assert set(numbers) <= {102, 103} and (not trials.lost or numbers[103])
+        assert set(writers[3].undecided.values()) <= {103}, "of a holder whose names are all its own nothing is too old"

@@ -1,10 +1,11 @@
 """What tests of the program have in common."""
 import collections
 import contextlib
+import hashlib
 import json
 import resource
 import time
-from collections.abc import Callable, Iterator
+from collections.abc import Callable, Iterable, Iterator
 from typing import Any
 
 from wire import PATIENCE, Ended, Gateway, Line, Wire
@@ -62,3 +63,13 @@ def total(lines: list[str], sub: int = 1) -> Rows:
             for copies, row in it.get("changes", []):
                 rows[tuple(row)] += copies
     return collections.Counter({row: copies for row, copies in rows.items() if copies})
+
+
+def chained(texts: Iterable[tuple[bool, bytes]], epoch: bytes = b"0123456789abcdef" * 2) -> bytes:
+    """A journal of these texts behind a head, as OPERATING describes it. Each is the last of its record, or a part."""
+    before, out = bytes(32), b""
+    for is_last, text in ((True, b'"journal":1,"epoch":"%s","audit":1}' % epoch), *texts):
+        mark = b'{"last":"' if is_last else b'{"part":"'
+        before = hashlib.sha256(before + mark + text).digest()
+        out += b'%s%s",%s\n' % (mark, before.hex().encode(), text)
+    return out

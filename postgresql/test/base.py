@@ -13,7 +13,7 @@ class Base(unittest.TestCase):
 
     @classmethod
     def setUpClass(cls) -> None:
-        cls.server = Server({"wal_level": "logical"})
+        cls.server = Server({"wal_level": "logical", "synchronous_commit": "local", "synchronous_standby_names": "nobody"})  # see `held`
         cls.addClassCleanup(cls.server.__exit__, None, None, None)
         cls.server.__enter__()
 

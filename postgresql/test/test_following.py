@@ -1,4 +1,5 @@
 """A database that is followed while several writers write: what viewd shows to each role is what `SET ROLE; SELECT` shows, as bags."""
+import contextlib
 import random
 import threading
 import time
@@ -15,12 +16,12 @@ import rows
 from base import Base
 from beginning import NotReady
 from catalog import Unsettled
+from cuts import ALL
 from desk import alike
 from following import Anew, Following
 from live import Live
-from pgoutput import lsn_of
 from settings import Settings
-from stream import HEAD, PAGE, Lost, Stream
+from stream import Lost, Stream
 from writers import CHURN, DESK, FIXED, FORMED, SCENES, STRICT, Writer
 
 options = {"seconds": 20.0, "seed": 1, "writers": 3}
@@ -78,17 +79,38 @@ class Follows(Base):
             counts["steps"] += 1
 
     def catch_up(self) -> None:
-        """To where PostgreSQL is now."""
-        self.desk.cursor.execute("select pg_current_wal_insert_lsn()::text")
-        aim = lsn_of((self.desk.cursor.fetchone() or ("0/0",))[0])
+        """To where PostgreSQL is now: what sees a transaction that begins now sees all that was answered before it. (That the stream has come to
+        where the log ends now is not enough: a transaction stands in the log before a snapshot sees it, and one of rights alone is not sent.)"""
+        self.desk.cursor.execute("select pg_current_xact_id()::text from pg_logical_emit_message(true, 'test', '')")
+        last = int((self.desk.cursor.fetchone() or ("",))[0]) % ALL
         end = time.monotonic() + PATIENCE
         while True:
             assert self.following
-            certain = self.following.begun.steps.certain
-            if certain >= aim or certain % PAGE == 0 and aim - certain <= HEAD:
+            if self.following.begun.steps.told.sees(last):
                 return
-            assert time.monotonic() < end, f"not caught up to {aim:X}: {certain:X}"
+            assert time.monotonic() < end, f"not caught up to {last}: {self.following.begun.steps.told}"
             self.step()
+
+    @contextlib.contextmanager
+    def held(self, statement: str) -> Iterator[None]:
+        """What it does has committed meanwhile, and no snapshot sees it: it waits for a standby, and there is none."""
+        connection = psycopg2.connect(self.desk.dsn)
+        connection.autocommit = True
+        cursor = connection.cursor()
+        cursor.execute("set synchronous_commit = on")
+        thread = threading.Thread(target=cursor.execute, args=(statement,))
+        thread.start()
+        try:
+            waits = 0
+            while not waits:
+                self.assertTrue(thread.is_alive())
+                self.desk.do(f"select from pg_stat_activity where pid = {connection.get_backend_pid()} and wait_event = 'SyncRep'")
+                waits = self.desk.cursor.rowcount
+            yield
+        finally:
+            self.desk.do(f"select pg_cancel_backend({connection.get_backend_pid()})")
+            thread.join()
+            connection.close()
 
     def compare(self, roles: tuple[str, ...] = FIXED + CHURN) -> None:
         """While no writer writes."""
@@ -156,6 +178,25 @@ class Follows(Base):
             counts["transactions"] += writer.counts["transactions"]
             self.catch_up()
         self.compare()
+
+    def test_what_has_committed_and_is_not_seen_yet(self) -> None:
+        """It stands in the log, before the places of cuts, and is told when a cut sees it; nor is told before it what committed after it."""
+        self.desk.do(DESK)
+        self.begin()
+        for statement, go_on in (("grant night to mia", self.catch_up), ("revoke night from mia", self.step)):  # the stream has nothing of these
+            with self.held(statement):
+                self.catch_up()
+                self.compare(("mia", "olga"))
+            go_on()
+            self.compare(("mia", "olga"))
+        with self.held("insert into teams values ('first', 'day')"):
+            self.desk.do("insert into teams values ('second', 'day')")
+            assert self.following
+            while len(self.following.begun.steps.waiting) < 2:
+                self.assertEqual(self.following.next(0.02), [])
+            self.assertEqual(self.following.next(0.02), [])
+        self.catch_up()
+        self.compare(("mia", "olga"))
 
     def test_what_needs_a_new_beginning(self) -> None:
         self.desk.do(DESK)

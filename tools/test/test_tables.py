@@ -4,7 +4,7 @@ from typing import Any
 import pytest
 
 from viewd_ci.common import below, crates_in, first_sentence
-from viewd_ci.definitions import definitions_in, has_meaning
+from viewd_ci.definitions import definitions_in, has_meaning, line_of
 from viewd_ci.files import anchors, dead_links, differences, files_of_tests, first_words, laws_in, wrong_with
 from viewd_ci.protocol import cases, in_forms, tables, written
 
@@ -101,6 +101,33 @@ size (fork a b) = size a + size b
     assert [it for it in ("", "  -- a comment", "use Rattle.x", "f = 1") if has_meaning(it)] == ["f = 1"]
 
 
+@pytest.mark.parametrize(("name", "line"), [
+    pytest.param("size", 8, id="a function, by its type"),
+    pytest.param("Pair", 3, id="a record"),
+    pytest.param("Pair.left", 4, id="a field"),
+    pytest.param("Pair.size", None, id="a field that another definition has the name of"),
+    pytest.param("Tree.fork", 13, id="a case"),
+    pytest.param("Tree.left", None, id="a field of another definition"),
+    pytest.param("cells", None, id="a name that is imported"),
+])
+def test_a_question_leads_to_the_line_of_a_definition(name: str, line: int | None) -> None:
+    text = """-- A file.
+
+pub record Pair : Type 0 where
+  pub left : Row
+  right : Row
+
+-- size
+abbrev pub size : Tree → ℕ
+size (leaf r) = 1
+
+pub data Tree : Type 0 where
+  leaf : Row → Tree
+  fork : Tree → Tree → Tree
+use Rattle.iv_rows.specs.Row.{Row, cells}""".split("\n")
+    assert line_of(text, *name.split(".")) == line
+
+
 CRATES = crates_in("# a comment\niv_rows: std\niv_zset: iv_rows std\niv_query: iv_rows\n")
 
 
@@ -153,6 +180,9 @@ def test_files_of_tests_tell_what_they_test() -> None:
         pytest.param("TOWER.md", "which is no file", id="no document"),
         pytest.param("TOUR.md#rihgts", "which is no heading", id="no heading of a document"),
         pytest.param("#there", "which is no heading", id="none of its own"),
+        pytest.param("../crates.txt#L1", "", id="a line"),
+        pytest.param("../crates.txt#L0", "which is no line", id="a line before the first"),
+        pytest.param("../crates.txt#L9999", "which is no line", id="a line after the last"),
     ],
 )
 def test_links_of_documents_lead_somewhere(link: str, lost: str) -> None:

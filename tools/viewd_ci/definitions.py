@@ -1,7 +1,7 @@
 """Counts the lines that a reader has to believe, and compares docs/DEFINITIONS.md with what it counts.
 
 usage: .ci/definitions             fails if they differ
-       .ci/definitions --write     puts the right numbers in their places, and writes the tables of files
+       .ci/definitions --write     puts the right numbers in their places, and writes the tables of files and of questions
 
 Under the headline are the files of specs/ that `answer` (iv_lines) and `AddsUpToView` (iv_machine) are made of: those that these two
 files import, and so on. Two numbers are told: all lines of these files, and those that are neither blank nor imports nor comments.
@@ -12,6 +12,9 @@ says of a file is the first sentence at its head, and the names are those that i
 For the gateway definitions are counted one by one: those that `HoldAlways` (iv_gate) names, that these name, and so on, but for those in
 files under the headline. `next` is what the code does, so its own definition is left out, and what it alone names. `asked` is left out too,
 and the law that says what it is comes in its place. The lines of a definition are those that are neither blank nor comments.
+
+docs/definitions.toml has questions, too, each with its answer and the definitions that answer it, CRATE.FILE.NAME or CRATE.FILE.NAME.FIELD: the page
+leads to the lines at which these are.
 """
 import glob
 import os
@@ -27,6 +30,7 @@ PAGE = "docs/DEFINITIONS.md"
 CLASSES = "docs/definitions.toml"
 HEADLINE = [("iv_lines", "Answer"), ("iv_machine", "Reached")]
 BEGIN, END = "<!-- By .ci/definitions: -->\n", "<!-- The end of what .ci/definitions wrote. -->"
+ASKED, ANSWERED = "<!-- By .ci/definitions, of docs/definitions.toml: -->\n", "<!-- The end of the questions. -->"
 SUMS = re.compile(r"rests on \*\*([\d,]+) lines\*\*, ([\d,]+) of them")
 # a file of specs/ with its crate; a definition that is imported from one, or the whole file
 Place = tuple[str, str]
@@ -118,6 +122,16 @@ def definitions_in(place: Place, text: list[str]) -> tuple[dict[str, Definition]
     return names, imports
 
 
+def line_of(text: list[str], name: str, field: str = "") -> int | None:
+    """The line, counted from 1, at which a definition begins, or one of its fields or cases."""
+    heads = [number for number, line in enumerate(text, 1) if line.strip() and not line.startswith((" ", "}", "--"))]
+    first = next((it for it in heads if HEAD.findall(text[it - 1])[0][1] == name), None)
+    if not first or not field:
+        return first
+    end = next((it for it in heads if it > first), len(text) + 1)
+    return next((it for it in range(first + 1, end) if re.match(rf"\s+(pub )?{field} :", text[it - 1])), None)
+
+
 def table(rows: Iterable[Iterable[str]]) -> str:
     return "".join(f"| {' | '.join(row)} |\n" for row in rows)
 
@@ -125,8 +139,9 @@ def table(rows: Iterable[Iterable[str]]) -> str:
 class Reading:
     """What is read of the files of specs/, and what is wrong with them or with docs/definitions.toml."""
 
-    def __init__(self, classes: dict[str, Any]) -> None:
-        self.classes, self.headline = classes, needed()
+    def __init__(self, kept: dict[str, Any]) -> None:
+        self.questions: list[dict[str, Any]] = kept.get("question", [])
+        self.classes, self.headline = {crate: it for crate, it in kept.items() if crate != "question"}, needed()
         found = glob.glob("crates/*/specs/*.antt", root_dir=TOP)
         self.there = {(it.split(os.sep)[1], os.path.basename(it)[:-5]) for it in found if not it.endswith("/Lib.antt")}
         self.files: dict[Place, tuple[dict[str, Definition], dict[str, Import]]] = {}
@@ -194,6 +209,19 @@ class Reading:
         source = self.classes[place[0]].get("source", {}).get(place[1], "")
         return [f"[{'/'.join(place)}](../{spec(*place)}) {len(lines(*place))}", first_sentence(head), names, source]
 
+    def answer(self, path: str) -> str:
+        """A link to a definition, or to a field of one, at its line."""
+        crate, file, *name = path.split(".")
+        line = line_of(lines(crate, file), *name) if is_there(crate, file) else None
+        if not line:
+            self.failures.append(f"{CLASSES} has a question that {path} answers, which is not there")
+        return f"[{file} {line}](../{spec(crate, file)}#L{line}) `{'.'.join(name)}`"
+
+    def answers(self) -> str:
+        """The table of questions."""
+        rows = [[str(number), it["asks"], it["answer"], ", ".join(map(self.answer, it["by"]))] for number, it in enumerate(self.questions, 1)]
+        return f"\n{table([['', 'a client asks', 'answer', 'by']])}|{'---|' * 4}\n{table(rows)}\n"
+
     def misplaced(self) -> list[str]:
         """What docs/definitions.toml lists in a wrong place, or not at all."""
         listed = [(crate, name) for crate, it in self.classes.items() for kind in ("promises", "skip") for name in it.get(kind, [])]
@@ -242,9 +270,12 @@ def page_of(had: str, reading: Reading, counts: tuple[int, int, int, int]) -> tu
     every, dense, promised, whole = counts
     has = SUMS.sub(f"rests on **{every:,} lines**, {dense:,} of them", had)
     has = GATEWAY_SUMS.sub(f"rest on **{promised:,} lines** of definitions, and with all of `next` and `asked` on {whole:,}", has)
-    lacking = [] if had.count(BEGIN) == had.count(END) == 1 else [f"{PAGE} has no place for the tables"]
-    if not lacking:
-        has = has[: has.index(BEGIN)] + BEGIN + reading.tables() + has[has.index(END) :]
+    lacking = []
+    for begin, end, written in ((BEGIN, END, reading.tables), (ASKED, ANSWERED, reading.answers)):
+        if had.count(begin) == had.count(end) == 1:
+            has = has[: has.index(begin)] + begin + written() + has[has.index(end) :]
+        else:
+            lacking.append(f"{PAGE} has no place for what is between {begin.strip()} and {end}")
     lacking += [] if SUMS.search(had) else [f"{PAGE} does not say how many lines the headline rests on"]
     lacking += [] if GATEWAY_SUMS.search(had) else [f"{PAGE} does not say how many lines the gateway's laws rest on"]
     return has, lacking

@@ -183,13 +183,16 @@ def anchors(text: str) -> set[str]:
 
 
 def dead_links(path: str, text: str) -> list[str]:
-    """The links of a document that lead to no file, or to no heading of one."""
+    """The links of a document that lead to no file, or to no heading of one, or no line of a source."""
     dead = []
     for link in LINK.findall(without_blocks(text)):
         file, _, heading = link.partition("#")
         there = os.path.normpath(os.path.join(os.path.dirname(path), file)) if file else path
         if not os.path.exists(os.path.join(TOP, there)):
             dead.append(f"{path} links {link}, which is no file")
+        elif heading and not there.endswith(".md"):
+            if heading not in {f"L{it}" for it in range(1, len(contents(there).splitlines()) + 1)}:
+                dead.append(f"{path} links {link}, which is no line")
         elif heading and heading not in anchors(contents(there)):
             dead.append(f"{path} links {link}, which is no heading")
     return dead

@@ -1,6 +1,7 @@
 -- What the code keeps of entries that are added: names, positions, lines and the shape.
-use Rattle.std.proofs.Common.{◌≡◌, ◌∙◌, ◌≤◌, ℕ, ◌+◌, Bool, true, false, cond, not, ◌||◌, List, [], ◌∷◌, ◌++◌, length, drop, Option, Some, None, is_some, refl, ap, sym, subst, append-nil, arith, length-append}
+use Rattle.std.proofs.Common.{◌≡◌, ◌∙◌, ◌≤◌, ℕ, ◌+◌, ◌-◌, Bool, true, false, cond, not, ◌||◌, List, [], ◌∷◌, ◌++◌, length, drop, take, Option, Some, None, is_some, refl, ap, sym, subst, append-nil, arith, length-append}
 use Rattle.std.specs.Prelude.{◌&&◌, bytes_eq, option_map, unwrap_or}
+use Rattle.std.proofs.Math.Seq.{take-length}
 use Rattle.std.proofs.lemmas.Bool.{false≢true}
 use Rattle.std.proofs.lemmas.List.{drop-append-le, take-append-le}
 use Rattle.std.proofs.lemmas.List.Concat.{flat_map-append}
@@ -20,6 +21,14 @@ use Rattle.iv_gateway.specs.Speaking.{Asking, lines_entered, request_of}
 use Rattle.iv_gateway.specs.Views.{IsAlive, IsPending}
 use Rattle.iv_gateway.specs.declared.gateway.Gateway.{Gateway}
 use Rattle.iv_gateway.proofs.Shaped.{shape_added}
+
+-- without the last, as the newline of a line
+pub but_last : (xs : List ℕ) (x n : ℕ) → n ≡ length (xs ++ x ∷ []) → take (n - 1) (xs ++ x ∷ []) ≡ xs
+but_last xs x n h = ap (λ k. take k (xs ++ x ∷ [])) (one_less (length xs) n (h ∙ length-append xs (x ∷ [])))
+    ∙ (take-append-le (length xs) xs (x ∷ []) (omega arith) ∙ take-length xs)
+  where
+    one_less : (m n : ℕ) → n ≡ m + 1 → n - 1 ≡ m
+    one_less m n h = omega (arith, h)
 
 -- ---- where names stand
 

@@ -3,3 +3,4 @@ pub mod RoleCounts
 pub mod PageAnswers
 pub mod Fields
 pub mod Roles
+pub mod NamesAtHead

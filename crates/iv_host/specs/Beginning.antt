@@ -6,10 +6,10 @@ use Rattle.iv_once.specs.Runs.{nothing_known}
 use Rattle.iv_gate.specs.Gate.{Head, Log}
 use Rattle.iv_head.specs.Begun.{Begun, Followed, stood}
 
-abbrev place_in : Own → Place
+abbrev pub place_in : Own → Place
 place_in o = record { epoch = o.epoch; count = o.count }
 
-abbrev log_of : Followed → Log
+abbrev pub log_of : Followed → Log
 log_of f = record { name = f.name; epoch = f.epoch }
 
 -- names of holders that had some stand there, and those of others begin in the journal's epoch

@@ -1,14 +1,17 @@
 //! `head_of`: what a gateway begins with, by what its journal says before its first entry.
-ghost use Rattle.std.specs.Prelude.{◌≡◌, IfOk};
+ghost use Rattle.std.specs.Prelude.{◌≡◌, IfOk, option_map};
+ghost use Rattle.iv_rows.specs.Options.{if_some};
 ghost use Rattle.iv_gateway.specs.Views.{IsHead};
-ghost use Rattle.iv_host.specs.Beginning.{head_with};
+ghost use Rattle.iv_host.specs.Beginning.{head_with, log_of};
 
 use iv_gateway::{Head, Log};
 use iv_head::{Begun, Followed, names_in};
 use std::alloc::{AllocError, Global};
 
 /// The log of a journal, and where it stood.
-fn log_of(followed: Option<Followed>) -> (Option<Log>, u64) {
+fn log_of(followed: Option<Followed>) -> (Option<Log>, u64)
+    ensures { result ≡ (option_map log_of followed, if_some followed 0 (λ f. f.position)) }
+{
     match followed {
         None => (None, 0),
         Some(followed) => {

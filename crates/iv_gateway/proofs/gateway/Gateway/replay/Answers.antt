@@ -1,8 +1,10 @@
-use Rattle.std.proofs.Common.{◌≡◌, ◌≤◌, ◌∙◌, arith, drop, length, length-drop, subst}
+use Rattle.std.proofs.Common.{◌≡◌, ◌≤◌, List, Some, None, arith, drop, length, length-drop, subst}
+use Rattle.std.proofs.lemmas.List.{take_rest}
+use Rattle.iv_journal.specs.Journal.{Line}
 use Rattle.iv_once.specs.Views.{names_of}
 use Rattle.iv_gate.specs.Restoring.{IsDamagedAt}
 use Rattle.iv_gate.proofs.Damage.{led}
-use Rattle.iv_gateway.specs.Replays.{behind}
+use Rattle.iv_gateway.specs.Replays.{IsRecordReplayed, behind}
 use Rattle.iv_gateway.proofs.Replayed.{forgiven_here, read_nothing, reads_all, reads_on, stops_here}
 use Rattle.iv_gateway.proofs.gateway.Gateway.replay.Goals as goal
 
@@ -11,7 +13,9 @@ lines-init c = record { within = omega arith; leads = λ g n b. read_nothing g c
 
 pub lines-preserved : goal.lines-preserved
 lines-preserved c =
-    let count : c.in-Ok-Some.count ≤ length (drop c.lines.at c.args.journal.now) = rw c.in-Ok-Some.field-0-is at c.in-Ok-Some.ensures.within in
+    let rest = take_rest c.args.journal.now c.lines.at in
+    let count : c.in-Ok-Some.count ≤ length (drop c.lines.at c.args.journal.now) =
+    subst (λ (ls : List Line). c.in-Ok-Some.count ≤ length ls) rest (rw c.in-Ok-Some.field-0-is at c.in-Ok-Some.ensures.within) in
     let more = length-drop c.lines.at c.args.journal.now in
     let within : c.lines.at ≤ length c.args.journal.now = c.lines.invariant.within in
     record {
@@ -19,7 +23,8 @@ lines-preserved c =
       leads = λ g n b.
           let w = c.lines.invariant.leads g n b in
           reads_on g c.args.journal.now c.lines.at c.in-Ok-Some.count c.lines.self c.replay_record.new.self w
-          (rw c.in-Ok-Some.field-0-is at (c.in-Ok-Some.ensures.replayed g w.entries w.gate));
+          (subst (λ (ls : List Line). IsRecordReplayed g w.entries ls (Some c.in-Ok-Some.count) c.replay_record.new.self) rest
+          (rw c.in-Ok-Some.field-0-is at (c.in-Ok-Some.ensures.replayed g w.entries w.gate)));
     }
 
 pub returns-clause-replayed : goal.returns-clause-replayed
@@ -50,4 +55,5 @@ returns-in-Ok-None-clause-damaged c = λ place e g n b.
     let same : c.lines.at ≡ place = cc e in
     subst (IsDamagedAt g c.args.journal.now) same
     (stops_here g c.args.journal.now c.lines.at c.lines.self c.replay_record.new.self w (omega arith)
-    (rw c.in-Ok-None.field-0-is at (c.in-Ok-None.ensures.replayed g w.entries w.gate)))
+    (subst (λ (ls : List Line). IsRecordReplayed g w.entries ls None c.replay_record.new.self) (take_rest c.args.journal.now c.lines.at)
+    (rw c.in-Ok-None.field-0-is at (c.in-Ok-None.ensures.replayed g w.entries w.gate))))

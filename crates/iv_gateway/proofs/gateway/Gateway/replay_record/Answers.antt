@@ -12,7 +12,7 @@ replay_entry-requires c =
 
 pub returns-in-None-clause-replayed : goal.returns-in-None-clause-replayed
 returns-in-None-clause-replayed c = λ g es w.
-    reads_none c.records_are_read_back.ensures g es c.args.lines.now _
+    reads_none c.records_are_read_back.ensures g es c.args.lines.now c.args.self.now
     (sym (ap (option_map {U = Entry × List Line} (λ p. (p.0, drop p.1 c.args.lines.now))) c.in-None.is) ∙ c.in_ok-read_record.ensures.read)
 
 pub returns-then-branch-clause-replayed : goal.returns-then-branch-clause-replayed
@@ -64,6 +64,6 @@ returns-else-branch-clause-replayed c = λ g es w.
         shape = x.shape;
       };
     }) in
-    reads_bad c.records_are_read_back.ensures g es c.args.lines.now (drop c.in-Some.count c.args.lines.now) c.in-Some.entry c.replay_entry.new.self _
+    reads_bad c.records_are_read_back.ensures g es c.args.lines.now (drop c.in-Some.count c.args.lines.now) c.in-Some.entry c.replay_entry.new.self c.args.self.now
     (sym (ap (option_map {U = Entry × List Line} (λ p. (p.0, drop p.1 c.args.lines.now))) c.in-Some.is) ∙ c.in_ok-read_record.ensures.read)
     (subst (λ b. IsReplayed g es c.in-Some.entry b c.replay_entry.new.self) c.if-branch.false r)

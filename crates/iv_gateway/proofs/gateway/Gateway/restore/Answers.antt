@@ -4,7 +4,7 @@ use Rattle.iv_gateway.proofs.gateway.Gateway.restore.Goals as goal
 pub returns-in-Ok-clause-restored : goal.returns-in-Ok-clause-restored
 returns-in-Ok-clause-restored c = λ g n b.
     let lives = sym b.dead ∙ c.if-self.false in
-    let w = c.in-Ok.ensures g n (b.alive lives) in
+    let w = c.in-Ok.ensures.replayed g n (b.alive lives) in
     let a = w.gate in
     record {
       now = w.now;
