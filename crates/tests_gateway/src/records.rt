@@ -27,17 +27,18 @@ fn a_record_is_read_back(rt: HostRuntime) -> Result<(), Fail> {
         return Ok(());
     };
     assert_eq!(rt; count, 3);
-    assert_eq!(rt; entry.names[0].ask.holder.as_str(), "mia/\"o");
-    assert_eq!(rt;
-        entry.names[0].answer.as_slice(),
-        b"{\"ok\":true}".as_slice()
-    );
-    assert_eq!(rt; entry.requests[0].role.as_str(), "mia");
+    let name = &entry.names[0];
+    let ask = &name.ask;
+    assert_eq!(rt; ask.holder.as_str(), "mia/\"o");
+    assert_eq!(rt; name.answer.as_slice(), b"{\"ok\":true}".as_slice());
+    let request = &entry.requests[0];
+    assert_eq!(rt; request.role.as_str(), "mia");
     let mut again = Vec::new(alloc);
     push_step(alloc, &mut again, &entry.requests, &entry.names, 12)?;
     assert_eq!(rt; again.len(), 3);
     for at in 0..3 {
-        assert!(rt; again[at].text.as_slice() == lines[at].text);
+        let line = &again[at];
+        assert!(rt; line.text.as_slice() == lines[at].text);
     }
     Ok(())
 }
