@@ -30,7 +30,7 @@ class Db {
   state = "connecting";
   /** Why the last connection went, where something is known. */
   why = null;
-  #url; #how; #socket = null; #tries = 0; #since = 0; #heard = 0; #timers = new Set(); #watch = null; #token = null; #again = null;
+  #url; #how; #socket = null; #tries = 0; #since = 0; #heard = 0; #timers = new Set(); #watch = null; #unknown = null; #again = null;
   #next = 1; // the id of the next message
   #asked = []; // messages without a reply, in their order
   #waiting = new Set(); // requests that were never sent, in their order
@@ -122,7 +122,8 @@ class Db {
   }
 
   /** Any request of docs/PROTOCOL.md, without session and id. Its reply, once all that it changed is here. */
-  request(body) {
+  async request(body) {
+    if ("id" in body) throw new ViewdError("a request has its id from the client");
     return this.#request(body, false);
   }
 
@@ -236,10 +237,11 @@ class Db {
     socket.onerror = () => {};
     socket.onclose = ({code, reason}) => {
       if (!is()) return;
-      const fresh = typeof this.#how.token === "function" && token !== this.#token;
-      this.#token = token;
-      if (code === UNKNOWN_TOKEN && !fresh) this.#close(reason || "the token opens no role");
-      else this.#lost(reason || `the connection ended (${code})`);
+      if (code !== UNKNOWN_TOKEN) return this.#lost(reason || `the connection ended (${code})`);
+      const why = reason || "the token opens no role", fresh = typeof this.#how.token === "function" && token !== this.#unknown;
+      this.#unknown = token;
+      if (fresh) this.#lost(why);
+      else this.#close(why);
     };
   }
 

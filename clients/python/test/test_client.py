@@ -198,6 +198,11 @@ async def test_writes_name_columns(fakes):
     assert "no column name" in str(await raised(db.insert("notes", {"id": 1, "name": "mia"})))
     assert "no value for who" in str(await raised(db.insert("notes", {"id": 1})))
     assert (await raised(db.insert("notes", [1, "x" * 65_463]), Refused)).code == 22
+    assert "5 is no row" in str(await raised(db.insert("notes", 5)))
+    assert "'ab' is no row" in str(await raised(db.insert("notes", "ab")))
+    assert "5 is no pair" in str(await raised(db.write([{"on": "notes", "update": 5}])))
+    assert "surrogates" in str(await raised(db.insert("notes", [1, "\ud800"])))
+    assert "has its id from the client" in str(await raised(db.request({"id": 7, "do": "create_role", "name": "c"})))
     assert not socket.sent
     await db.end()
 
@@ -232,7 +237,12 @@ async def test_what_could_not_be_read_is_answered_without_an_id(fakes):
 @run
 async def test_what_raises_harms_nobody(fakes):
     raised_words = []
-    db, socket = await entered(on_error=lambda why: raised_words.append(str(why)))
+
+    def on_error(why):
+        raised_words.append(str(why))
+        raise why
+
+    db, socket = await entered(on_error=on_error)
 
     def fails(words):
         def act(*_):
@@ -241,6 +251,7 @@ async def test_what_raises_harms_nobody(fakes):
 
     db.on_state(fails("state"))
     bad, odd, good = db.live("notes", where=fails("where")), db.live("notes", order="nothing"), db.live("notes")
+    db.live("notes", where={"whom": "mia"})
     good.subscribe(fails("good"))
     await turn()
     await socket.follow(1, [[1, [2, "a"]]])
@@ -256,7 +267,7 @@ async def test_what_raises_harms_nobody(fakes):
     assert [isinstance(it, dict) for it in came] == [bool(at % 3) for at in range(30)]
     assert (len(good.rows), good.rows == odd.rows, bad.rows) == (21, True, [])
     await socket.end()
-    assert db.state == "stale" and {*raised_words} == {"good", "where", "state", "order: there is no column nothing"}
+    assert db.state == "stale" and {*raised_words} == {"good", "where", "state", "order: there is no column nothing", "where: there is no column whom"}
     await db.end()
 
 
@@ -339,6 +350,20 @@ async def test_a_token_that_opens_no_role_closes_the_client(fakes):
     with pytest.raises(NotSent):
         async with db:
             pass
+
+
+@run
+async def test_a_token_that_was_let_in_twice_and_has_run_out_is_asked_for_anew(fakes):
+    tokens = ["old", "old", "new"]
+    db = viewd.connect("ws://gateway/live", token=lambda: tokens.pop(0), shortest=0.002)
+    for token, code in (("old", 1006), ("old", 4401), ("new", None)):
+        await asyncio.sleep(0.02)
+        await fakes.all[-1].event({"role": "mia"})
+        assert (db.state, fakes.all[-1].sent) == ("live", [token])
+        if code:
+            await fakes.all[-1].end(code)
+    assert len(fakes.all) == 3
+    await db.end()
 
 
 @run

@@ -23,7 +23,7 @@ LIMIT, TOO_MANY, TOO_LONG = 17, 20, 22
 WITHOUT_ID = (1, 2, 22)  # refusals of what could not be read, so that its id is not known
 AGAIN = 104  # undecided now, and to be sent again as it is
 OPEN_WRITES = 16  # by name, without an answer, at most: a gateway knows a holder's last 64 names, and one holder may have several clients
-LONGEST = {"id": 2 ** 53, "once": "_" * 22, "at": f"{'0' * 32}.{2 ** 64}"}  # what a message by name may begin with
+LONGEST: dict[str, Any] = {"id": 2 ** 53, "once": "_" * 22, "at": f"{'0' * 32}.{2 ** 64}"}  # what a message by name may begin with
 UNKNOWN_TOKEN = 4401
 ADMIN = "admin"
 OPEN: Callable[..., Awaitable[Any]] = getattr(websockets, "connect")  # which versions make of different modules
@@ -100,8 +100,8 @@ class Db:
         self.protocol: int | None = None  # the number that the gateway tells, or None if nobody is in, or it tells none
         self.state = "connecting"  # at first; `live`; `stale`: what is shown may be old, and another connection is tried; `closed`
         self.why: str | None = None  # why the last connection went, where something is known
-        self._token, self._tried_token, self._tries = token, "", 0
-        self._report = on_error or (lambda why: logging.getLogger("viewd").error("a listener failed", exc_info=why))
+        self._token, self._unknown_token, self._tries = token, "", 0
+        self._on_error = on_error
         self._known: dict[str, Columns] = {on: [*its] for on, its in (columns or {}).items()}
         self._connection: _Connection | None = None
         self._relations: dict[str, Relation] = {}
@@ -170,7 +170,10 @@ class Db:
         By its name it is sent until it is answered, if the gateway knows names, and is done once. Raises Refused, Undecided and NotSent."""
         columns: dict[str, Columns] = {}
         for entry in entries:
-            rows = [entry.get("insert"), entry.get("delete"), *entry.get("update", ())]
+            pair = entry.get("update", ())
+            if isinstance(pair, str) or not isinstance(pair, Sequence):
+                raise ViewdError(f"{entry['on']}: {pair!r} is no pair of rows")
+            rows = [entry.get("insert"), entry.get("delete"), *pair]
             if entry["on"] not in columns and any(isinstance(it, Mapping) for it in rows):
                 columns[entry["on"]] = await self.columns(entry["on"])
         lines = []
@@ -216,10 +219,16 @@ class Db:
         """Any request of docs/PROTOCOL.md, without session and id. Its reply, once all that it changed is here.
 
         Raises Refused, Undecided and NotSent."""
+        if "id" in body:
+            raise ViewdError("a request has its id from the client")
         return await self._request(body, by_name=False)
 
     async def _request(self, body: Mapping[str, Any], by_name: bool) -> Reply:
-        if len(text({**(LONGEST if by_name else {"id": 2 ** 53}), **body}).encode()) > BYTES:
+        try:
+            size = len(text({**(LONGEST if by_name else {"id": 2 ** 53}), **body}).encode())
+        except UnicodeEncodeError:
+            raise ViewdError("a text has half a pair of surrogates") from None
+        if size > BYTES:
             raise Refused({"error": TOO_LONG})
         if self.state == "closed":
             raise NotSent("the client has ended")
@@ -253,15 +262,17 @@ class Db:
                 why = "the connection ended"
             except ConnectionClosed as ended:
                 code, why = (ended.rcvd.code, ended.rcvd.reason) if ended.rcvd else (1006, "")
-                is_fresh = callable(self._token) and token != self._tried_token
-                if code == UNKNOWN_TOKEN and not is_fresh:
-                    return self._close(why or "the token opens no role")
+                if code == UNKNOWN_TOKEN:
+                    why = why or "the token opens no role"
+                    is_fresh = callable(self._token) and token != self._unknown_token
+                    if not is_fresh:
+                        return self._close(why)
+                    self._unknown_token = token or ""
                 why = why or f"the connection ended ({code})"
             except asyncio.TimeoutError:
                 why = "silent"
             except Exception as fault:
                 why = str(fault) or type(fault).__name__
-            self._tried_token = token or ""
             self._lost(why)
             wait = min(self.timing.longest, self.timing.shortest * 2 ** min(self._tries, 20))
             self._tries += 1
@@ -291,6 +302,14 @@ class Db:
     async def _send(self, socket: Any, connection: _Connection) -> None:
         while True:
             await socket.send(await connection.out.get())
+
+    def _report(self, why: BaseException) -> None:
+        try:
+            if self._on_error:
+                return self._on_error(why)
+        except Exception as again:
+            why = again
+        logging.getLogger("viewd").error("a listener failed", exc_info=why)
 
     def _become(self, state: str) -> None:
         self.state = state
