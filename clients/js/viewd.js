@@ -405,6 +405,10 @@ class Db {
     [this.role, this.protocol] = [this.#welcome.role, this.#welcome.protocol ?? null];
     this.#welcome = null;
     this.#since = Date.now();
+    for (const request of this.#waiting) { // for others' answers from here on
+      this.#cancel(request.timer);
+      request.timer = null;
+    }
     for (const relation of this.#relations.values()) this.#subscribe(relation);
     this.#sendAgain();
     this.#flush();

@@ -632,6 +632,30 @@ test("so many writes are under way as the gateway keeps names for", async (t) =>
   assert.equal((await Promise.all([...done, behind])).length, 21);
 });
 
+test("a write that waits for the answers of others does not wait for a connection", async (t) => {
+  const [db, first] = await entered(t, {patience: 1000, silence: 1e9}, place(0));
+  first.end();
+  const done = Array.from({length: 17}, (_, at) => db.insert("notes", [at, "ann"]));
+  await pause(500);
+  Fake.last.enter("mia", place(0));
+  await pause(2000);
+  const said = Fake.last.take().map((it) => JSON.parse(it));
+  assert.equal(said.length, 16);
+  for (const [at, {id}] of said.entries()) Fake.last.event({answer: {ok: true}, at: place(at + 1), id});
+  const [last] = Fake.last.take().map((it) => JSON.parse(it));
+  assert.deepEqual(last.entries, [{on: "notes", insert: [16, "ann"]}]);
+  Fake.last.end(); // and where it goes again, the wait begins anew
+  const other = db.insert("notes", [17, "ann"]).catch((why) => why.name);
+  await pause(999);
+  assert.equal(await Promise.race([other, turn()]), undefined);
+  await pause(2);
+  assert.equal(await other, "NotSent");
+  await pause(60_000);
+  Fake.last.enter("mia", place(17));
+  Fake.last.event({again: true, answer: {ok: true}, at: place(17), id: JSON.parse(Fake.last.take()[0]).id});
+  assert.equal((await Promise.all(done)).length, 17);
+});
+
 test("a gateway that tells no place is told no name, and what another one may have done is undecided", async (t) => {
   const [db, first] = await entered(t, {}, place(0));
   const done = db.insert("notes", [1, "ann"]);

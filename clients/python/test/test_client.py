@@ -1,5 +1,6 @@
 """What the client says and makes of what it is told, over a gateway that a test plays: replies, rows, lost connections, silence, tokens."""
 import asyncio
+import json
 import random
 import re
 from collections import Counter
@@ -517,6 +518,26 @@ async def test_so_many_writes_are_under_way_as_the_gateway_keeps_names_for(fakes
     assert [it for it in socket.sent if f'"at":"{EPOCH}.0"' not in it] == socket.sent[16:]
     assert [f'"at":"{EPOCH}.{count}"' in it for count, it in enumerate(socket.sent[16:], 1)] == [True] * 4
     assert await asyncio.gather(*done) == [{"ok": True}] * 20
+    await db.end()
+
+
+@run
+async def test_a_write_that_waits_for_the_answers_of_others_does_not_wait_for_a_connection(fakes):
+    db, first = await entered(f"{EPOCH}.0", patience=1, silence=1e9)
+    await first.end()
+    works = [asyncio.ensure_future(db.insert("notes", [at, "ann"])) for at in range(17)]
+    await asyncio.sleep(0.5)
+    socket = fakes.all[-1]
+    await socket.event({"role": "mia"}, {"at": f"{EPOCH}.0", "names": 64})
+    await asyncio.sleep(2)
+    said = [json.loads(it) for it in socket.sent[1:]]
+    assert len(said) == 16 and not any(it.done() for it in works)
+    for at, it in enumerate(said):
+        await socket.event({"answer": {"ok": True}, "at": f"{EPOCH}.{at + 1}", "id": it["id"]})
+    last = json.loads(socket.sent[-1])
+    assert last["entries"] == [{"on": "notes", "insert": [16, "ann"]}]
+    await socket.event({"answer": {"ok": True}, "at": f"{EPOCH}.17", "id": last["id"]})
+    assert len(await asyncio.gather(*works)) == 17
     await db.end()
 
 

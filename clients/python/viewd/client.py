@@ -542,6 +542,10 @@ class Db:
     def _entered(self, connection: _Connection, welcome: Reply) -> None:
         connection.welcome = None
         self.role, self.protocol, connection.since, self.why = welcome["role"], welcome.get("protocol"), time.monotonic(), None
+        for asked in self._waiting:  # for others' answers from here on
+            if asked.timer:
+                asked.timer.cancel()
+                asked.timer = None
         for relation in [*self._relations.values()]:
             self._subscribe(relation)
         self._send_again()
