@@ -18,6 +18,7 @@ const LIMIT = 17, TOO_MANY = 20, TOO_LONG = 22;
 const WITHOUT_ID = new Set([1, 2, 22]); // refusals of what could not be read, so that its id is not known
 const AGAIN = 104; // undecided now, and to be sent again as it is
 const OPEN = 16; // writes by name that have no answer, at most: a gateway knows a holder's last 64 names, and one holder may have several clients
+const BEHIND = 32; // names that may come behind a write which waits to be sent again: beyond 64 it would be forgotten
 const UNKNOWN_TOKEN = 4401;
 
 /** A connection to a gateway that is kept: where it goes, another is tried. `connect` makes one. */
@@ -312,12 +313,17 @@ class Db {
   #flush() {
     for (const request of this.#waiting) {
       const byName = request.byName && this.#place !== null;
-      if (byName && this.#asked.filter(({write}) => write).length + this.#kept.size >= OPEN) return;
+      if (byName && (this.#asked.filter(({write}) => write).length + this.#kept.size >= OPEN || this.#isFar())) return;
       this.#waiting.delete(request);
       this.#cancel(request.timer);
       if (byName) this.#askByName(request);
       else this.#ask(request.body, request.resolve, request.reject);
     }
+  }
+
+  #isFar() {
+    const count = (at) => BigInt(at.split(".")[1]);
+    return [...this.#kept].some(({at}) => count(this.#place) - count(at) >= BEHIND);
   }
 
   // What was sent before and has no answer is sent again. A gateway that tells no place would not know it by its name.

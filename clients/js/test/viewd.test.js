@@ -615,6 +615,32 @@ test("a write that has to wait is sent again as it is", async (t) => {
   assert.deepEqual(await done, {ok: true});
 });
 
+test("a write that has to wait is not left so far behind that the gateway would forget it", async (t) => {
+  const [db, socket] = await entered(t, {again: 1000, silence: 1e9}, place(5));
+  const write = async (at) => {
+    const done = db.insert("notes", [at, "ann"]);
+    await turn();
+    return [done, ...socket.take().map((it) => JSON.parse(it))];
+  };
+  const [first, said] = await write(0);
+  socket.event({id: said.id, undecided: 104});
+  for (let at = 1; at <= 32; at++) {
+    const [done, {id}] = await write(at);
+    socket.event({answer: {ok: true}, at: place(5 + at), id});
+    await done;
+  }
+  const [last, ...none] = await write(33);
+  assert.deepEqual(none, []);
+  await pause(1000);
+  const [again] = socket.take().map((it) => JSON.parse(it));
+  assert.deepEqual([again.once, again.at], [said.once, place(5)]);
+  socket.event({answer: {ok: true}, at: place(38), id: again.id});
+  const [behind] = socket.take().map((it) => JSON.parse(it));
+  assert.deepEqual([behind.at, behind.entries], [place(38), [{on: "notes", insert: [33, "ann"]}]]);
+  socket.event({answer: {ok: true}, at: place(39), id: behind.id});
+  await Promise.all([first, last]);
+});
+
 test("so many writes are under way as the gateway keeps names for", async (t) => {
   const [db, socket] = await entered(t, {}, place(0));
   const done = Array.from({length: 20}, (_, at) => db.insert("notes", [at, "ann"]));

@@ -508,6 +508,37 @@ async def test_a_write_that_has_to_wait_is_sent_again_as_it_is(fakes):
 
 
 @run
+async def test_a_write_that_has_to_wait_is_not_left_so_far_behind_that_the_gateway_would_forget_it(fakes):
+    db, socket = await entered(f"{EPOCH}.5", again=1, silence=1e9)
+
+    async def write(at):
+        done = asyncio.ensure_future(db.insert("notes", [at, "ann"]))
+        await turn()
+        said = [json.loads(it) for it in socket.sent]
+        socket.sent.clear()
+        return done, said
+
+    first, [said] = await write(0)
+    await socket.event({"id": said["id"], "undecided": 104})
+    for at in range(1, 33):
+        done, [it] = await write(at)
+        await socket.event({"answer": {"ok": True}, "at": f"{EPOCH}.{5 + at}", "id": it["id"]})
+        assert await done == {"ok": True}
+    last, none = await write(33)
+    assert not none
+    await asyncio.sleep(1)
+    [again] = map(json.loads, socket.sent)
+    assert (again["once"], again["at"]) == (said["once"], f"{EPOCH}.5")
+    socket.sent.clear()
+    await socket.event({"answer": {"ok": True}, "at": f"{EPOCH}.38", "id": again["id"]})
+    [behind] = map(json.loads, socket.sent)
+    assert (behind["at"], behind["entries"]) == (f"{EPOCH}.38", [{"on": "notes", "insert": [33, "ann"]}])
+    await socket.event({"answer": {"ok": True}, "at": f"{EPOCH}.39", "id": behind["id"]})
+    await asyncio.gather(first, last)
+    await db.end()
+
+
+@run
 async def test_so_many_writes_are_under_way_as_the_gateway_keeps_names_for(fakes):
     db, socket = await entered(f"{EPOCH}.0")
     done = [asyncio.ensure_future(db.insert("notes", [at, "ann"])) for at in range(20)]

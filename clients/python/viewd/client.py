@@ -23,6 +23,7 @@ LIMIT, TOO_MANY, TOO_LONG = 17, 20, 22
 WITHOUT_ID = (1, 2, 22)  # refusals of what could not be read, so that its id is not known
 AGAIN = 104  # undecided now, and to be sent again as it is
 OPEN_WRITES = 16  # by name, without an answer, at most: a gateway knows a holder's last 64 names, and one holder may have several clients
+BEHIND = 32  # names that may come behind a write which waits to be sent again: beyond 64 it would be forgotten
 LONGEST: dict[str, Any] = {"id": 2 ** 53, "once": "_" * 22, "at": f"{'0' * 32}.{2 ** 64}"}  # what a message by name may begin with
 UNKNOWN_TOKEN = 4401
 ADMIN = "admin"
@@ -405,7 +406,7 @@ class Db:
         assert connection is not None
         for asked in [*self._waiting]:
             by_name = asked.by_name and connection.place is not None
-            if by_name and sum(it.name is not None for it in connection.asked) + len(self._kept) >= OPEN_WRITES:
+            if by_name and (sum(it.name is not None for it in connection.asked) + len(self._kept) >= OPEN_WRITES or self._is_far(connection)):
                 return
             self._waiting.remove(asked)
             if asked.timer:
@@ -416,6 +417,9 @@ class Db:
                 self._ask_by_name(asked)
             else:
                 self._ask(asked)
+
+    def _is_far(self, connection: _Connection) -> bool:
+        return any(_count(connection.place or "") - _count(it.at) >= BEHIND for it in self._kept)
 
     # What was sent before and has no answer is sent again. A gateway that tells no place would not know it by its name.
     def _send_again(self) -> None:
@@ -599,6 +603,10 @@ def _tell(users: list[User]) -> None:
     """Listeners are called when all relations have applied what is new."""
     for user in users:
         user.tell()
+
+
+def _count(place: str) -> int:
+    return int(place.partition(".")[2])
 
 
 async def _shut(socket: Any) -> None:
