@@ -4,6 +4,7 @@ import csv
 import json
 import os
 import pty
+import re
 import signal
 import subprocess
 import time
@@ -127,6 +128,24 @@ def test_watch(gateway):
             assert process.stdout.readline() == "" and process.wait(PATIENCE) == 1
             assert process.stderr.read() == "viewd-client: notes was ended: privilege\n"
         assert ran(gateway, "watch", "notes")[::2] == (1, "viewd-client: missing privilege (13), on notes, privilege select\n")
+
+
+def test_a_write_goes_on_when_its_gateway_is_there_again(gateway):
+    with subprocess.Popen([CLIENT, "write"], env=env(gateway), stdin=subprocess.PIPE, stderr=subprocess.PIPE, text=True) as process:
+        def put(row):
+            process.stdin.write(json.dumps({"on": "notes", "insert": row}) + "\n")
+            process.stdin.flush()
+
+        put(ROWS[0])
+        with viewd.plain.connect(gateway.url, token="mia-demo") as db, db.live("notes") as notes:
+            until(lambda: notes.rows)
+        gateway.kill()
+        gateway.start()
+        put(ROWS[1])
+        process.stdin.close()
+        assert re.fullmatch(r"viewd-client: stale: .*; trying again\nviewd-client: live again\n", process.stderr.read())
+        assert process.wait(PATIENCE) == 0
+    assert ran(gateway, "export", "notes")[1] == '{"id":2,"who":"mia","done":true}\n{"id":9,"who":"mia","done":false}\n'
 
 
 def test_watch_ends_with_its_reader_and_by_a_signal(gateway):

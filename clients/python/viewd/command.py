@@ -94,7 +94,6 @@ async def view(db: Db, words: argparse.Namespace) -> Live:
 
 async def watch(db: Db, words: argparse.Namespace) -> None:
     """Prints what changes, until it is ended."""
-    db.on_state(lambda state, why: None if state == "closed" else say(f"{state}: {why}; trying again" if why else f"{state} again"))
     if words.table:
         return await table(db, words)
     if words.order or words.limit is not None:
@@ -375,6 +374,7 @@ async def done(words: argparse.Namespace) -> None:
             await asyncio.wait_for(db.__aenter__(), words.wait)
         except asyncio.TimeoutError:
             raise NotSent(f"there is no gateway at {words.url}" + (f": {db.why}" if db.why else "")) from None
+        db.on_state(lambda state, why: None if state == "closed" else say(f"{state}: {why}; trying again" if why else f"{state} again"))
         await words.act(db, words)
         sys.stdout.flush()
     finally:
