@@ -41,7 +41,7 @@ class Timing:
     patience: float = 30  # for which a request waits for a connection
     shortest: float = 0.25  # before a second try; each further one waits twice as long, and chance takes up to a half off
     longest: float = 30
-    again: float = 30  # after which a relation that was too large, or found no room, is tried again
+    again: float = 30  # after which a relation that was too large or found no room, and a write that has to wait (104), are tried again
 
 
 @dataclass
