@@ -1,7 +1,7 @@
 """What the client says and makes of what it is told, over a gateway that a test plays: replies, rows, lost connections, silence, tokens."""
 import asyncio
-import random
 import json
+import random
 import re
 from collections import Counter
 
