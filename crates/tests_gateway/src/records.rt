@@ -38,7 +38,8 @@ fn a_record_is_read_back(rt: HostRuntime) -> Result<(), Fail> {
     assert_eq!(rt; again.len(), 3);
     for at in 0..3 {
         let line = &again[at];
-        assert!(rt; line.text.as_slice() == lines[at].text);
+        let wanted = &lines[at];
+        assert!(rt; line.text.as_slice() == wanted.text);
     }
     Ok(())
 }
