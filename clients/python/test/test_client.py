@@ -73,6 +73,17 @@ async def test_a_reply_counts_once_its_event_is_settled(fakes):
 
 
 @run
+async def test_an_end_that_comes_with_a_message_is_an_end(fakes):
+    for passes in range(5):
+        db, socket = await entered()
+        socket.told.put_nowait('{"alive":true}\n')
+        for _ in range(passes):
+            await asyncio.sleep(0)
+        async with asyncio.timeout(1):
+            await db.end()
+
+
+@run
 async def test_rows_have_column_names_and_an_order(fakes):
     db, socket = await entered()
     notes = db.live("notes")

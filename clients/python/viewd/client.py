@@ -196,8 +196,9 @@ class Db:
         if on not in self._known:
             asking = self.live(on)
             try:
-                await asyncio.wait_for(asking.ready(), self.timing.patience)
-            except asyncio.TimeoutError:
+                async with asyncio.timeout(self.timing.patience):
+                    await asking.ready()
+            except TimeoutError:
                 raise NotSent("there was no connection") from None
             finally:
                 asking.close()
@@ -210,8 +211,9 @@ class Db:
         while self.state != "closed" and not (self._connection and self._connection.is_in):
             self._turned.clear()
             try:
-                await asyncio.wait_for(self._turned.wait(), end - self._loop.time())
-            except asyncio.TimeoutError:
+                async with asyncio.timeout_at(end):
+                    await self._turned.wait()
+            except TimeoutError:
                 raise NotSent("there was no connection") from None
         if self._connection is None:
             raise NotSent(self.why or "the client has ended")
@@ -273,7 +275,7 @@ class Db:
                         return self._close(why)
                     self._unknown_token = token or ""
                 why = why or f"the connection ended ({code})"
-            except asyncio.TimeoutError:
+            except TimeoutError:
                 why = "silent"
             except Exception as fault:
                 why = str(fault) or type(fault).__name__
@@ -292,7 +294,8 @@ class Db:
             await socket.send(token)
             self._connection = connection
             while True:
-                data = await asyncio.wait_for(socket.recv(), self.timing.silence)
+                async with asyncio.timeout(self.timing.silence):  # wait_for of 3.11 loses an end that comes with a message
+                    data = await socket.recv()
                 for line in (data if isinstance(data, str) else data.decode()).split("\n"):
                     if line:
                         self._one(connection, line)
