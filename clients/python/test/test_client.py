@@ -541,6 +541,27 @@ async def test_what_was_sent_once_and_came_too_late_is_sent_by_another_name(fake
 
 
 @run
+async def test_what_came_too_late_waits_until_what_is_under_way_is_answered(fakes):
+    db, socket = await entered(f"{EPOCH}.0")
+    done = [asyncio.ensure_future(it) for it in (db.insert("notes", [1, "ann"]), db.request({"do": "create_role", "name": "eve"}))]
+    await turn()
+    await socket.event({"id": 1, "undecided": 102})
+    done.append(asyncio.ensure_future(db.request({"do": "create_role", "name": "joe"})))
+    await turn()
+    assert len(socket.sent) == 2
+    await socket.event({"id": 2, "ok": True})
+    assert await done[1] == {"id": 2, "ok": True}
+    await asyncio.sleep(0.3)
+    await let_in(fakes.all[-1], f"{EPOCH}.70")
+    await turn()
+    again, last = map(json.loads, fakes.all[-1].sent)
+    assert again["at"] == f"{EPOCH}.70" and last["name"] == "joe"
+    await fakes.all[-1].event({"answer": {"ok": True}, "at": f"{EPOCH}.71", "id": 1}, {"settled": True}, {"id": 2, "ok": True})
+    assert len(await asyncio.gather(*done)) == 3
+    await db.end()
+
+
+@run
 async def test_what_was_sent_twice_and_came_too_late_is_undecided(fakes):
     db, socket = await entered(f"{EPOCH}.0")
     done = asyncio.ensure_future(db.insert("notes", [1, "ann"]))

@@ -414,8 +414,8 @@ class Db:
         assert connection is not None
         for asked in [*self._waiting]:
             by_name = asked.by_name and connection.place is not None
-            if by_name and (connection.late or sum(it.name is not None for it in connection.asked) + len(self._kept) >= OPEN_WRITES
-                            or self._is_far(connection)):
+            if connection.late or by_name and (sum(it.name is not None for it in connection.asked) + len(self._kept) >= OPEN_WRITES
+                                               or self._is_far(connection)):
                 return
             self._waiting.remove(asked)
             if asked.timer:
@@ -607,7 +607,7 @@ class Db:
         for act in replied:
             act()
         # What was sent once, and came too late, was not carried out. Who comes anew is told another place, and sends it by another name.
-        if connection.late and all(it.name is None for it in connection.asked):
+        if connection.late and not connection.asked:
             raise _Lost("others of its holder have had many names")
         if self.role is not None and connection is self._connection:
             self._flush()
