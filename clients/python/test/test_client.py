@@ -519,6 +519,18 @@ async def test_a_write_that_has_to_wait_is_sent_again_as_it_is(fakes):
 
 
 @run
+async def test_a_write_that_has_to_wait_and_is_cancelled_is_not_sent_again(fakes):
+    db, socket = await entered(f"{EPOCH}.0", again=1)
+    done = asyncio.ensure_future(db.insert("notes", [1, "ann"]))
+    await turn()
+    await socket.event({"id": 1, "undecided": 104})
+    done.cancel()
+    await asyncio.sleep(2)
+    assert len(socket.sent) == 1
+    await db.end()
+
+
+@run
 async def test_what_was_sent_once_and_came_too_late_is_sent_by_another_name(fakes):
     db, socket = await entered(f"{EPOCH}.0")
     done = [asyncio.ensure_future(db.insert("notes", [id, "ann"])) for id in (1, 2)]

@@ -447,7 +447,8 @@ class Db:
             self._timers.discard(timer)
             if self.role is not None and asked in self._kept:  # else it was sent again behind another connection
                 self._kept.remove(asked)
-                self._ask_by_name(asked)
+                if not asked.reply.done():  # else nobody waits for it any more
+                    self._ask_by_name(asked)
 
         if asked.sent == 1:
             asked.sent = 0  # it was not carried out
