@@ -182,7 +182,7 @@ export class Viewd {
     else if (said.changes) this.#changes(said);
     else if (said.granted) this.#replied.push(() => this.#again(() => true));
     else if (said.made) this.#made(said.made);
-    else this.#reply(said);
+    else if (said.ok || said.error) this.#reply(said); // any other line is one that a later gateway has
   }
 
   #entered(role) {
