@@ -127,10 +127,10 @@ position_push p (x ∷ xs) e = position_push (unwrap_or x.position p) xs e
 position_stays : (g : Gate) (qs : List Request) (ns : List Named) → position (entered g (entry_with qs ns ∷ [])) ≡ position g
 position_stays g qs ns = position_push g.head.position g.entries (entry_with qs ns)
 
-settled_stays : (g : Gate) (es : List Entry) → g.kept ≤ length g.entries → settled_at (entered g es) ≡ settled_at g
+pub settled_stays : (g : Gate) (es : List Entry) → g.kept ≤ length g.entries → settled_at (entered g es) ≡ settled_at g
 settled_stays g es h = ap (position_of g.head.position) (take-append-le g.kept g.entries es h)
 
-forgiven_more : (g : Gate) (es : List Entry) → g.forgiven ≤ length g.entries → g.forgiven ≤ length (entered g es).entries
+pub forgiven_more : (g : Gate) (es : List Entry) → g.forgiven ≤ length g.entries → g.forgiven ≤ length (entered g es).entries
 forgiven_more g es h = let l = length-append g.entries es in omega (arith, h, l)
 
 -- ---- lines

@@ -14,3 +14,5 @@ pub mod Shaped
 pub mod Entered
 pub mod Replayed
 pub mod Subscribed
+pub mod NewRights
+pub mod Landed

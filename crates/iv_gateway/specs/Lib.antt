@@ -1,4 +1,6 @@
+pub mod Arriving
 pub mod Granting
+pub mod Newly
 pub mod Reading
 pub mod Replays
 pub mod Shaping

@@ -7,6 +7,7 @@
 //! said again later. Each error ends the program. So nobody is told what the journal does not have, and a round's requests share one sync.
 #![tactic(auto)]
 
+mod arriving;
 mod closing;
 mod coming;
 mod events;
@@ -14,6 +15,7 @@ mod gateway;
 mod granting;
 mod journal;
 mod messages;
+mod newly;
 mod opening;
 mod restoring;
 mod seats;
@@ -24,6 +26,7 @@ mod sweeping;
 mod tally;
 mod telling;
 
+pub use arriving::{Step, StepFault};
 pub use gateway::{Gateway, GatewayFault, Head, Log};
 pub use journal::{Journal, JournalFault};
 pub use restoring::RestoreFault;
