@@ -1,5 +1,6 @@
 -- The journal, as the code carries it out again.
 use Rattle.std.proofs.Common.{◌≡◌, ◌∙◌, ℕ, ◌+◌, ◌-◌, ◌<◌, ◌≤◌, Bool, true, false, cond, not, List, [], ◌∷◌, ◌++◌, length, map, drop, Option, Some, None, is_none, is_some, refl, ap, sym, subst, arith, append-nil, append_assoc, length-append, length-drop}
+use Rattle.std.specs.Global.{Vec}
 use Rattle.std.specs.Prelude.{◌&&◌, filter, flat_map, nat_lt, option_and_then, unwrap_or}
 use Rattle.std.proofs.Math.Seq.{drop-length, take-length}
 use Rattle.std.proofs.lemmas.Bool.{false≢true}
@@ -138,13 +139,26 @@ shape_pushed es e q =
     ∙ (sym (shape_as ((es ++ e ∷ []) ++ part (q ∷ []) [] None ∷ []) ∙ ap (λ qs. shape_text (part qs [] None ∷ [])) (flat_map-append (λ (x : Entry). x.requests) (es ++ e ∷ []) (part (q ∷ []) [] None ∷ [])))
     ∙ shape_more (es ++ e ∷ []) (part (q ∷ []) [] None ∷ [])))
 
-pub request_more : (g : Gate) (s : State) (es : List Entry) (e : Entry) (q : Request) (shape : List ℕ) (x : Gateway) → IsAlive (behind g s (es ++ e ∷ [])) x
-    → shape ≡ x.shape.items ++ shape_in q
-    → AreKept (behind g s (es ++ with_request e q ∷ [])) (names_in_code x.names) x.position x.position x.pending.items shape
-request_more g s es e q shape x b h = kept_behind g s s (es ++ e ∷ []) (es ++ with_request e q ∷ []) x (names_in_code x.names) x.position shape b
+pub request_more : (g : Gate) (s : State) (es : List Entry) (e : Entry) (q : Request) (shape : Vec ℕ) (x : Gateway) → IsAlive (behind g s (es ++ e ∷ [])) x
+    → shape.items ≡ x.shape.items ++ shape_in q → IsAlive (behind g s (es ++ with_request e q ∷ [])) (record x { shape = shape })
+request_more g s es e q shape x b h =
+    let k = kept_behind g s s (es ++ e ∷ []) (es ++ with_request e q ∷ []) x (names_in_code x.names) x.position shape.items b
     (b.names ∙ same_names g s s (es ++ e ∷ []) (es ++ with_request e q ∷ []) (names_last es e ∙ sym (names_last es (with_request e q))))
     (b.position ∙ (position_push g.head.position es e ∙ sym (position_push g.head.position es (with_request e q))))
-    (h ∙ (ap (λ z. z ++ shape_in q) b.shape ∙ sym (shape_pushed es e q)))
+    (h ∙ (ap (λ z. z ++ shape_in q) b.shape ∙ sym (shape_pushed es e q))) in record {
+      tokens = b.tokens;
+      machine = b.machine;
+      seats = b.seats;
+      feeds = b.feeds;
+      clients = b.clients;
+      names = k.names;
+      log = b.log;
+      position = k.position;
+      settled = settled_here g s (es ++ e ∷ []) x b ∙ k.settled;
+      forgiven = k.forgiven;
+      pending = k.pending;
+      shape = k.shape;
+    }
 
 -- ---- a name more
 

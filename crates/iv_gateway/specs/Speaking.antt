@@ -4,6 +4,8 @@ use Rattle.serde_json.specs.Data.{Data}
 use Rattle.iv_rows.specs.Options.{if_some}
 use Rattle.iv_access.specs.Rights.{Name}
 use Rattle.iv_machine.specs.Act.{Act, Reply}
+use Rattle.iv_message.specs.Seen.{id_data}
+use Rattle.iv_message.specs.declared.message.Id.{Id}
 use Rattle.iv_clients.specs.Journal.{Request, name_text, record_of}
 use Rattle.iv_clients.specs.Kept.{Kept, may_ask}
 use Rattle.iv_clients.specs.Names.{Claim}
@@ -29,9 +31,12 @@ speaker_in o = option_and_then (λ k. if may_ask k then Some (speaking k) else N
 -- who asks by which id and line
 pub record Asking : Type 0 where
   pub client : ℕ
-  pub id : Option Data
+  pub id : Option Id
   pub role : Name
   pub line : List ℕ
+
+abbrev pub asked_id : Asking → Option Data
+asked_id a = option_map id_data a.id
 
 abbrev pub request_of : Asking → Act → Request
 request_of a act = record { role = a.role; line = a.line; act = act }

@@ -67,7 +67,8 @@ impl Gateway {
         user: String,
         digest: Vec<u8>,
     ) -> Result<(), AllocError>
-        ensures { let t = record { digest = digest.items; role = string_bytes role; user = string_bytes user } in OnOk result ((g : Gate) → IsAlive g self.old
+        ensures { let t : TokenSpec = record { digest = digest.items; role = string_bytes role; user = string_bytes user } in
+            OnOk result ((g : Gate) → IsAlive g self.old
             → IsAlive (record g { clients = slice_set g.clients client (Some (fresh g.entries t (at_text g t))) }) self.new) }
     {
         let holder = holder_of(self.alloc, role.as_str(), user.as_str())?;

@@ -1,5 +1,5 @@
 //! What administrators are told: the requests that make the shape of what is shared, all so far to one that comes in, and then each new one.
-ghost use Rattle.std.specs.Prelude.{◌≡◌, ◌∷◌, ◌++◌, if◌then◌else◌, [], IfOk, OnOk, false, map, true};
+ghost use Rattle.std.specs.Prelude.{◌≡◌, ◌∷◌, ◌++◌, if◌then◌else◌, [], List, IfOk, OnOk, false, map, true};
 ghost use Rattle.iv_rows.specs.Options.{if_some};
 ghost use Rattle.iv_command.specs.Views.{act_of, line_of};
 ghost use Rattle.iv_clients.specs.Clients.{at_all, at_client, client_at};

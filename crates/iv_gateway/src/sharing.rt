@@ -16,7 +16,7 @@ ghost use Rattle.iv_once.specs.Names.{Ask, named, pushed, verdict};
 ghost use Rattle.iv_once.specs.Views.{names_of as names_known};
 ghost use Rattle.iv_gate.specs.Gate.{Gate, answer_text, answering, by_verdict, carries, decides, done_in, entered, entries_of, in_session, is_accepted, names_of, place_of, replies_to, reply_in, shares, tells};
 ghost use Rattle.iv_gateway.specs.Granting.{IsGranting};
-ghost use Rattle.iv_gateway.specs.Speaking.{lines_entered, made_of, request_of};
+ghost use Rattle.iv_gateway.specs.Speaking.{asked_id, lines_entered, made_of, request_of};
 ghost use Rattle.iv_gateway.specs.Views.{IsAlive, IsRun};
 
 use crate::coming::place_text;
@@ -42,13 +42,11 @@ pub(crate) struct Asked<'a> {
 }
 
 impl<'a> Model for Asked<'a> {
-    ghost use Rattle.std.specs.Prelude.{option_map};
-    ghost use Rattle.iv_message.specs.Seen.{id_data};
     ghost use Rattle.iv_gateway.specs.Speaking.{Asking};
 
     ghost Value = { Asking };
 
-    ghost view = { λ a. record { client = a.client; id = option_map id_data a.id.now; role = a.role.now; line = a.line.now } };
+    ghost view = { λ a. record { client = a.client; id = a.id.now; role = a.role.now; line = a.line.now } };
 }
 
 /// What a client asks by a name.
@@ -139,7 +137,7 @@ fn clear_refused(made: &mut Vec<u8>, lines: &[Line])
 impl Gateway {
     /// Has a request told by which rule of the gateway it was not done.
     fn deny(&mut self, asked: &Asked<'_>, number: u64) -> Result<(), AllocError>
-        ensures { OnOk result ((g : Gate) → IsAlive g self.old → IsAlive (tells g asked.now.client (denied asked.now.id number)) self.new) }
+        ensures { OnOk result ((g : Gate) → IsAlive g self.old → IsAlive (tells g asked.now.client (denied (asked_id asked.now) number)) self.new) }
     {
         let mut text = Vec::new(self.alloc);
         push_denied(self.alloc, &mut text, asked.id, number)?;
@@ -149,7 +147,7 @@ impl Gateway {
 
     /// Has a request told that it stays undecided whether it was done.
     fn leave(&mut self, asked: &Asked<'_>, number: u64) -> Result<(), AllocError>
-        ensures { OnOk result ((g : Gate) → IsAlive g self.old → IsAlive (tells g asked.now.client (undecided asked.now.id number)) self.new) }
+        ensures { OnOk result ((g : Gate) → IsAlive g self.old → IsAlive (tells g asked.now.client (undecided (asked_id asked.now) number)) self.new) }
     {
         let mut text = Vec::new(self.alloc);
         push_undecided(self.alloc, &mut text, asked.id, number)?;
@@ -166,7 +164,7 @@ impl Gateway {
         answer: &[u8],
     ) -> Result<(), AllocError>
         ensures { OnOk result ((g : Gate) → IsAlive g self.old
-            → IsAlive (tells g asked.now.client (answered asked.now.id again (place_text (place_of g holder.now)) answer.now)) self.new) }
+            → IsAlive (tells g asked.now.client (answered (asked_id asked.now) again (place_text (place_of g holder.now)) answer.now)) self.new) }
     {
         let at = place_text(self.alloc, &self.names, holder)?;
         let mut text = Vec::new(self.alloc);
@@ -201,7 +199,7 @@ impl Gateway {
         made: &[u8],
     ) -> Result<(), AllocError>
         ensures { OnOk result ((g : Gate) (act : ActSpec) → IsAlive g self.old → is_shared act ≡ true → made.now ≡ made_of asked.now act None (reply_of reply.now)
-            → IsAlive (replies_to g asked.now.client asked.now.id (request_of asked.now act) None (reply_of reply.now)) self.new) }
+            → IsAlive (replies_to g asked.now.client (asked_id asked.now) (request_of asked.now act) None (reply_of reply.now)) self.new) }
     {
         self.enter_request(asked, None, is_done(reply), made)?;
         self.reply(asked.client, asked.id, reply)?;
@@ -217,7 +215,7 @@ impl Gateway {
         made: &[u8],
     ) -> Result<(), AllocError>
         ensures { OnOk result ((g : Gate) (act : ActSpec) → IsAlive g self.old → is_shared act ≡ true → made.now ≡ made_of asked.now act (Some ask) (reply_of reply.now)
-            → IsAlive (replies_to g asked.now.client asked.now.id (request_of asked.now act) (Some ask) (reply_of reply.now)) self.new) }
+            → IsAlive (replies_to g asked.now.client (asked_id asked.now) (request_of asked.now act) (Some ask) (reply_of reply.now)) self.new) }
     {
         let is_accepted = is_done(reply);
         let holder = ask.holder.clone()?;
@@ -242,7 +240,7 @@ impl Gateway {
         made: &[u8],
     ) -> Result<(), AllocError>
         ensures { OnOk result ((g : Gate) (act : ActSpec) → IsAlive g self.old → is_shared act ≡ true → made.now ≡ made_of asked.now act name (reply_of reply.now)
-            → IsAlive (replies_to g asked.now.client asked.now.id (request_of asked.now act) name (reply_of reply.now)) self.new) }
+            → IsAlive (replies_to g asked.now.client (asked_id asked.now) (request_of asked.now act) name (reply_of reply.now)) self.new) }
     {
         match name {
             None => {
@@ -265,7 +263,7 @@ impl Gateway {
         made: &[u8],
     ) -> Result<(), AllocError>
         ensures { OnOk result ((g : Gate) (act : ActSpec) → IsAlive g self.old → is_shared act ≡ true → made.now ≡ made_of asked.now act name (reply_in (map line_of lines.now))
-            → IsAlive (replies_to g asked.now.client asked.now.id (request_of asked.now act) name (reply_in (map line_of lines.now))) self.new) }
+            → IsAlive (replies_to g asked.now.client (asked_id asked.now) (request_of asked.now act) name (reply_in (map line_of lines.now))) self.new) }
     {
         match first_reply(lines) {
             Some(reply) => {
@@ -292,7 +290,7 @@ impl Gateway {
     ) -> Result<(), AllocError>
         ensures { OnOk result ((g : Gate) (act : ActSpec) (n : ℕ) → IsRun g (in_session n act) (map line_of lines.now) self.old → is_shared act ≡ true
             → made.now ≡ made_of asked.now act name (reply_in (map line_of lines.now)) → IsGranting act grants.now
-            → IsAlive (done_in g asked.now.client asked.now.id (request_of asked.now act) name n) self.new) }
+            → IsAlive (done_in g asked.now.client (asked_id asked.now) (request_of asked.now act) name n) self.new) }
     {
         self.answer_first(asked, name, lines, made)?;
         self.hear(lines, grants)?;
@@ -311,7 +309,7 @@ impl Gateway {
         requires well { is_well_act (act_of act) ≡ true }
         requires shared { is_shared (act_of act) ≡ true }
         ensures { OnOk result ((g : Gate) → IsAlive g self.old
-            → IsAlive (done_in g asked.now.client asked.now.id (request_of asked.now (act_of act)) name session) self.new) }
+            → IsAlive (done_in g asked.now.client (asked_id asked.now) (request_of asked.now (act_of act)) name session) self.new) }
     {
         if session == 0 {
             return Err(AllocError);
@@ -333,7 +331,7 @@ impl Gateway {
         refusal: Refusal,
     ) -> Result<(), AllocError>
         ensures { OnOk result ((g : Gate) (act : ActSpec) → IsAlive g self.old → is_shared act ≡ true
-            → IsAlive (replies_to g asked.now.client asked.now.id (request_of asked.now act) name (refused (refusal_of refusal))) self.new) }
+            → IsAlive (replies_to g asked.now.client (asked_id asked.now) (request_of asked.now act) name (refused (refusal_of refusal))) self.new) }
     {
         let reply = Reply::Refused(refusal);
         self.answer_request(asked, name, &reply, &[])?;
@@ -345,7 +343,7 @@ impl Gateway {
         requires well { is_well_act (act_of act) ≡ true }
         requires shared { is_shared (act_of act) ≡ true }
         ensures { OnOk result ((g : Gate) → IsAlive g self.old
-            → IsAlive (carries g asked.now.client asked.now.id (request_of asked.now (act_of act)) name) self.new) }
+            → IsAlive (carries g asked.now.client (asked_id asked.now) (request_of asked.now (act_of act)) name) self.new) }
     {
         if !self.has_shape_room(&act) {
             self.refuse_request(asked, name, Refusal::Limit)?;
@@ -368,7 +366,7 @@ impl Gateway {
         requires well { is_well_act (act_of act) ≡ true }
         requires shared { is_shared (act_of act) ≡ true }
         ensures { OnOk result ((g : Gate) → IsAlive g self.old
-            → IsAlive (decides g asked.now.client asked.now.id (request_of asked.now (act_of act)) name) self.new) }
+            → IsAlive (decides g asked.now.client (asked_id asked.now) (request_of asked.now (act_of act)) name) self.new) }
     {
         if self.log.is_none() {
             self.carry(asked, name, act)?;
@@ -391,7 +389,7 @@ impl Gateway {
         requires well { is_well_act (act_of act) ≡ true }
         requires shared { is_shared (act_of act) ≡ true }
         ensures { OnOk result ((g : Gate) → IsAlive g self.old
-            → IsAlive (by_verdict g asked.now.client asked.now.id (request_of asked.now (act_of act)) ask (verdict (names_of g) ask)) self.new) }
+            → IsAlive (by_verdict g asked.now.client (asked_id asked.now) (request_of asked.now (act_of act)) ask (verdict (names_of g) ask)) self.new) }
     {
         let verdict = self.names.verdict(&ask)?;
         match verdict {
@@ -437,7 +435,7 @@ impl Gateway {
         requires well { is_well_act (act_of act) ≡ true }
         requires shared { is_shared (act_of act) ≡ true }
         ensures { OnOk result ((g : Gate) (c : spec.Client) → IsAlive g self.old → asked.now.role ≡ c.role → user.now ≡ c.user
-            → IsAlive (shares g asked.now.client c asked.now.id (request_of asked.now (act_of act)) claim) self.new) }
+            → IsAlive (shares g asked.now.client c (asked_id asked.now) (request_of asked.now (act_of act)) claim) self.new) }
     {
         match claim {
             None => {

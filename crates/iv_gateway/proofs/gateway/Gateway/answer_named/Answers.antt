@@ -3,7 +3,7 @@ use Rattle.iv_command.specs.Views.{reply_of}
 use Rattle.iv_message.specs.Told.{answered}
 use Rattle.iv_clients.specs.Names.{place_text}
 use Rattle.iv_gate.specs.Gate.{Gate, answer_text, entered, entries_of, place_of, tells}
-use Rattle.iv_gateway.specs.Speaking.{request_of}
+use Rattle.iv_gateway.specs.Speaking.{asked_id, request_of}
 use Rattle.iv_gateway.specs.Views.{IsAlive}
 use Rattle.iv_gateway.proofs.gateway.Gateway.answer_named.Goals as goal
 
@@ -15,5 +15,5 @@ returns c = λ g act b s t.
     let holder : c.as_str.result.now ≡ c.args.ask.holder = search rules in
     let text : c.deref.result.now ≡ answer_text (reply_of c.args.reply.now) = c.deref.ensures.value ∙ c.in_ok-text.ensures in
     subst (λ z. IsAlive z c.tell_answer.new.self)
-    (λ i. tells h c.args.asked.now.client (answered c.args.asked.now.id false (place_text (place_of h (holder i))) (text i)))
+    (λ i. tells h c.args.asked.now.client (answered (asked_id c.args.asked.now) false (place_text (place_of h (holder i))) (text i)))
     (c.in_ok-tell_answer.ensures h waits)

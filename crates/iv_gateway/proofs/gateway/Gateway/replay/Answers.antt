@@ -1,4 +1,4 @@
-use Rattle.std.proofs.Common.{◌≡◌, ◌≤◌, ◌∙◌, List, Option, Some, None, arith, drop, length, length-drop, subst}
+use Rattle.std.proofs.Common.{◌≡◌, ◌≤◌, List, Some, None, arith, drop, length, length-drop, subst}
 use Rattle.std.proofs.lemmas.List.{take_rest}
 use Rattle.iv_journal.specs.Journal.{Line}
 use Rattle.iv_once.specs.Views.{names_of}

@@ -1,4 +1,4 @@
-use Rattle.std.proofs.Common.{◌≡◌, ◌∙◌, false, subst, sym}
+use Rattle.std.proofs.Common.{◌∙◌, false, subst, sym}
 use Rattle.iv_clients.specs.Journal.{Entry, IsEntry}
 use Rattle.iv_gateway.specs.Replays.{IsReplayed, behind}
 use Rattle.iv_gateway.proofs.Replayed.{ends_with_names, some_passed, stops_at_position, stops_at_request}

@@ -10,7 +10,7 @@ use Rattle.iv_gate.specs.Arriving.{fact_of}
 use Rattle.iv_gate.specs.Gate.{Gate}
 use Rattle.iv_gateway.specs.Replays.{IsPassed, behind, with_request}
 use Rattle.iv_gateway.specs.Shaping.{shape_in}
-use Rattle.iv_gateway.proofs.Replayed.{PassesTo, request_more, request_well, runs_out, runs_unaccepted, runs_unbegun, settled_here, some_passed}
+use Rattle.iv_gateway.proofs.Replayed.{PassesTo, request_more, request_well, runs_out, runs_unaccepted, runs_unbegun, some_passed}
 use Rattle.iv_gateway.proofs.gateway.Gateway.replay_request.Goals as goal
 
 pub pass-requires : goal.pass-requires
@@ -28,22 +28,8 @@ returns-then-not-branch c = λ g s es e b.
     let q : Request = record { role = string_bytes c.request.inside.role; line = c.request.inside.line.items; act = act_of c.request.inside.act } in
     let h : Gate = behind g s (es ++ with_request e q ∷ []) in
     let shared = (subst IsRequest (sym c.request.view_is) c.requires).shared in
-    let k = request_more g s es e q c.push_shape.new.text.items c.args.self.now b (c.in_ok-push_shape.ensures
-    ∙ (λ i. c.args.self.now.shape.items ++ shape_in (record { role = c.as_str.ensures.value i; line = c.deref.ensures.value i; act = q.act }))) in
-    let began = c.in_ok-pass.ensures h record {
-      tokens = b.tokens;
-      machine = b.machine;
-      seats = b.seats;
-      feeds = b.feeds;
-      clients = b.clients;
-      names = k.names;
-      log = b.log;
-      position = k.position;
-      settled = settled_here g s _ c.args.self.now b ∙ k.settled;
-      forgiven = k.forgiven;
-      pending = k.pending;
-      shape = k.shape;
-    } in
+    let began = c.in_ok-pass.ensures h (request_more g s es e q c.push_shape.new.text c.args.self.now b (c.in_ok-push_shape.ensures
+    ∙ (λ i. c.args.self.now.shape.items ++ shape_in (record { role = c.as_str.ensures.value i; line = c.deref.ensures.value i; act = q.act })))) in
     subst (λ (r : Request). IsPassed (behind g s (es ++ with_request e r ∷ [])) (carried (fact_of r) s) false c.pass.new.self) c.request.view_is
     (runs_unbegun h q c.in_ok-pass.field-0 c.pass.new.self c.pass.new.self shared began c.if-not-branch.true)
 
@@ -52,22 +38,8 @@ returns-then-not-branch-2 c = λ g s es e b.
     let q : Request = record { role = string_bytes c.request.inside.role; line = c.request.inside.line.items; act = act_of c.request.inside.act } in
     let h : Gate = behind g s (es ++ with_request e q ∷ []) in
     let shared = (subst IsRequest (sym c.request.view_is) c.requires).shared in
-    let k = request_more g s es e q c.push_shape.new.text.items c.args.self.now b (c.in_ok-push_shape.ensures
-    ∙ (λ i. c.args.self.now.shape.items ++ shape_in (record { role = c.as_str.ensures.value i; line = c.deref.ensures.value i; act = q.act }))) in
-    let began = c.in_ok-pass.ensures h record {
-      tokens = b.tokens;
-      machine = b.machine;
-      seats = b.seats;
-      feeds = b.feeds;
-      clients = b.clients;
-      names = k.names;
-      log = b.log;
-      position = k.position;
-      settled = settled_here g s _ c.args.self.now b ∙ k.settled;
-      forgiven = k.forgiven;
-      pending = k.pending;
-      shape = k.shape;
-    } in
+    let began = c.in_ok-pass.ensures h (request_more g s es e q c.push_shape.new.text c.args.self.now b (c.in_ok-push_shape.ensures
+    ∙ (λ i. c.args.self.now.shape.items ++ shape_in (record { role = c.as_str.ensures.value i; line = c.deref.ensures.value i; act = q.act })))) in
     let p : PassesTo h (passed (begin q.role) s) c.pass.new.self =
     some_passed h (passed (begin q.role) s) c.in_ok-pass.field-0 c.pass.new.self began c.if-not-branch.false in
     subst (λ (r : Request). IsPassed (behind g s (es ++ with_request e r ∷ [])) (carried (fact_of r) s) false c.pass-2.new.self) c.request.view_is
@@ -79,22 +51,8 @@ returns c = λ g s es e b.
     let q : Request = record { role = string_bytes c.request.inside.role; line = c.request.inside.line.items; act = act_of c.request.inside.act } in
     let h : Gate = behind g s (es ++ with_request e q ∷ []) in
     let shared = (subst IsRequest (sym c.request.view_is) c.requires).shared in
-    let k = request_more g s es e q c.push_shape.new.text.items c.args.self.now b (c.in_ok-push_shape.ensures
-    ∙ (λ i. c.args.self.now.shape.items ++ shape_in (record { role = c.as_str.ensures.value i; line = c.deref.ensures.value i; act = q.act }))) in
-    let began = c.in_ok-pass.ensures h record {
-      tokens = b.tokens;
-      machine = b.machine;
-      seats = b.seats;
-      feeds = b.feeds;
-      clients = b.clients;
-      names = k.names;
-      log = b.log;
-      position = k.position;
-      settled = settled_here g s _ c.args.self.now b ∙ k.settled;
-      forgiven = k.forgiven;
-      pending = k.pending;
-      shape = k.shape;
-    } in
+    let began = c.in_ok-pass.ensures h (request_more g s es e q c.push_shape.new.text c.args.self.now b (c.in_ok-push_shape.ensures
+    ∙ (λ i. c.args.self.now.shape.items ++ shape_in (record { role = c.as_str.ensures.value i; line = c.deref.ensures.value i; act = q.act })))) in
     let p : PassesTo h (passed (begin q.role) s) c.pass.new.self =
     some_passed h (passed (begin q.role) s) c.in_ok-pass.field-0 c.pass.new.self began c.if-not-branch.false in
     let d : PassesTo (record h { machine = p.state }) (passed q.act p.state) c.pass-2.new.self =
