@@ -94,7 +94,7 @@ known_last k (e ∷ es) n = known_last (learned limits (once.named e) k) es n
 abbrev pub entry_with : List Request → List Named → Entry
 entry_with qs ns = record { requests = qs; names = ns; position = None }
 
-abbrev names_by : Gate → List Named → List Named → Names
+abbrev pub names_by : Gate → List Named → List Named → Names
 names_by g all spent = record { limits = limits; known = known_by (known_at g.head) all; spent = spent_in spent }
 
 -- a name more

@@ -1,6 +1,7 @@
 -- A step that comes: what the journal is to have of it, whether it is taken, and what it leaves.
 use Rattle.std.proofs.Common.{◌≡◌, ◌∙◌, ℕ, ◌+◌, ◌≤◌, ◌<◌, Bool, true, false, cond, not, List, [], ◌∷◌, ◌++◌, length, drop, map, Option, Some, None, is_some, option_map, refl, ap, sym, subst, append-nil, append_assoc, arith}
-use Rattle.std.specs.Prelude.{◌==◌, ◌&&◌, filter, flat_map, nat_le, nat_lt, unwrap_or}
+use Rattle.std.specs.Prelude.{◌==◌, ◌&&◌, Result, Ok, Err, filter, flat_map, nat_le, nat_lt, unwrap_or}
+use Rattle.std.specs.Result.{IsErrAnd}
 use Rattle.std.specs.List.{AllByRecursion, list_all}
 use Rattle.std.proofs.lemmas.Bool.{false≢true}
 use Rattle.std.proofs.lemmas.Bool.Decides.{nat_tests}
@@ -31,20 +32,35 @@ use Rattle.iv_gateway.specs.Views.{IsAlive}
 use Rattle.iv_gateway.specs.declared.arriving.StepFault.{StepFault}
 use Rattle.iv_gateway.specs.declared.arriving.StepFault.TheVariants as fault
 use Rattle.iv_gateway.specs.declared.gateway.Gateway.{Gateway}
-use Rattle.iv_gateway.proofs.Entered.{AreKept, forgiven_more, one_pushed, pends_more, position_push, settled_stays}
+use Rattle.iv_gateway.proofs.Entered.{AreKept, forgiven_more, names_by, one_pushed, pends_more, position_push, settled_stays}
 use Rattle.iv_gateway.proofs.Replayed.{request_well}
 use Rattle.iv_gateway.proofs.Shaped.{no_shape, one_shape, shape_added}
 
 -- ---- names are learned
 
-abbrev names_by : Gate → List Named → List Named → Names
-names_by g all spent = record { limits = limits; known = known_by (known_at g.head) all; spent = spent_in spent }
-
 all_more : (g : Gate) (all spent ns : List Named) → names_by g (all ++ ns) (spent ++ ns) ≡ all_pushed (names_by g all spent) ns
 all_more g all spent [] = λ i. names_by g (append-nil all i) (append-nil spent i)
 all_more g all spent (n ∷ ns) =
-    (λ i. names_by g (append_assoc all (n ∷ []) ns (~ i)) (append_assoc spent (n ∷ []) ns (~ i)))
+    (λ i. names_by g (sym (append_assoc all (n ∷ []) ns) i) (sym (append_assoc spent (n ∷ []) ns) i))
     ∙ (all_more g (all ++ n ∷ []) (spent ++ n ∷ []) ns ∙ ap (λ z. all_pushed z ns) (one_pushed g all spent n))
+
+-- one after another: as long as each is new
+pub learns_on : (place : ℕ) (n : Named) (rest : List Named) (known now : Names) (is : Bool) → known.limits ≡ limits
+    → is ≡ once.is_new known.limits known.known n.ask → is ≡ true → now ≡ pushed known (once.named n)
+    → first_known (place + 1) (n ∷ rest) known.known ≡ first_known (place + 1 + 1) rest now.known
+learns_on place n rest known now is l e t m = λ i. cond (new i) (first_known (place + 1 + 1) rest (learn i)) (Some (not_new (place + 1)))
+  where
+    new : is_new known.known n.ask ≡ true
+    new = ap (λ z. once.is_new z known.known n.ask) (sym l) ∙ (sym e ∙ t)
+
+    learn : learned limits (once.named n) known.known ≡ now.known
+    learn = ap (λ z. learned z (once.named n) known.known) (sym l) ∙ sym (ap (λ (z : Names). z.known) m)
+
+pub stops_at : (place : ℕ) (n : Named) (rest : List Named) (known : Names) (is : Bool) → known.limits ≡ limits
+    → is ≡ once.is_new known.limits known.known n.ask → is ≡ false → first_known (place + 1) (n ∷ rest) known.known ≡ Some (not_new (place + 1))
+stops_at place n rest known is l e t =
+    ap (λ b. cond b (first_known (place + 1 + 1) rest (learned limits (once.named n) known.known)) (Some (not_new (place + 1))))
+    (ap (λ z. once.is_new z known.known n.ask) (sym l) ∙ (sym e ∙ t))
 
 -- those of an entry
 names_all : (g : Gate) (e : Entry) → g.forgiven ≤ length g.entries → names_of (entered g (e ∷ [])) ≡ all_pushed (names_of g) e.names
@@ -60,9 +76,6 @@ text_of_all : (qs : List Request) → flat_map told_text (map (λ (q : Request).
 text_of_all [] = refl
 text_of_all (q ∷ qs) = by (is_shape q.act) refl
   where
-    rest : List ℕ
-    rest = flat_map told_text (map (λ (x : Request). made x.role x.line) (filter (λ (x : Request). is_shape x.act) qs))
-
     by : (b : Bool) → is_shape q.act ≡ b
         → flat_map told_text (map (λ (x : Request). made x.role x.line) (cond b (q ∷ filter (λ (x : Request). is_shape x.act) qs) (filter (λ (x : Request). is_shape x.act) qs)))
         ≡ shape_in q ++ flat_map shape_in qs
@@ -71,6 +84,17 @@ text_of_all (q ∷ qs) = by (is_shape q.act) refl
 
 pub entry_shape : (e : Entry) → flat_map shape_in e.requests ≡ shape_text (e ∷ [])
 entry_shape e = sym (ap (λ qs. flat_map told_text (map (λ (q : Request). made q.role q.line) (filter (λ (q : Request). is_shape q.act) qs))) (append-nil e.requests) ∙ text_of_all e.requests)
+
+-- the requests in their order: their facts, and what they make of the shape
+pub facts_on : (all rest : List Request) (q r : Request) (facts now : List Fact) → q ≡ r → map fact_of all ≡ facts ++ map fact_of (r ∷ rest)
+    → now ≡ facts ++ fact_of q ∷ [] → map fact_of all ≡ now ++ map fact_of rest
+facts_on all rest q r facts now v h n =
+    h ∙ (sym (append_assoc facts (fact_of r ∷ []) (map fact_of rest)) ∙ ap (λ z. z ++ map fact_of rest) (ap (λ z. facts ++ fact_of z ∷ []) (sym v) ∙ sym n))
+
+pub makes_on : (all rest : List Request) (q r : Request) (start old now : List ℕ) → q ≡ r
+    → start ++ flat_map shape_in all ≡ old ++ flat_map shape_in (r ∷ rest) → now ≡ old ++ shape_in q → start ++ flat_map shape_in all ≡ now ++ flat_map shape_in rest
+makes_on all rest q r start old now v h n =
+    h ∙ (sym (append_assoc old (shape_in r) (flat_map shape_in rest)) ∙ ap (λ z. z ++ flat_map shape_in rest) (ap (λ z. old ++ shape_in z) (sym v) ∙ sym n))
 
 -- ---- what the code keeps of it
 
@@ -118,6 +142,11 @@ refused_lands g s es facts (fault.NotAccepted q why) n e h = (n, ap (λ fs. firs
 refused_lands g s es facts (fault.NotNew p) n e h = absurd h
 refused_lands g s es facts fault.Memory n e h = h
 refused_lands g s es facts fault.Dead n e h = h
+
+-- what follows from each error follows from the one that came
+pub err_gives : {A E : Type 0} (r : Result A E) (P : E → Type 0) (Q : Result A E → Type 0) → IsErrAnd r P → ((x : E) → P x → Q (Err x)) → Q r
+err_gives (Ok a) P Q h k = absurd h
+err_gives (Err x) P Q h k = k x h
 
 -- ---- whether it is taken
 

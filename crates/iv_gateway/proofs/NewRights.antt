@@ -1,8 +1,9 @@
 -- What roles may read newly by a step, as the code finds and tells it.
-use Rattle.std.proofs.Common.{◌≡◌, ◌∙◌, ℕ, zero, suc, ◌+◌, ◌<◌, ◌≤◌, Bool, true, false, cond, not, List, [], ◌∷◌, ◌++◌, length, take, get_or, map, find, Option, Some, None, is_some, option_map, refl, ap, sym, subst, append-nil, append_assoc, arith}
-use Rattle.std.specs.Prelude.{◌==◌, ◌&&◌, bytes_eq, filter, flat_map, slice_get, option_and_then}
+use Rattle.std.proofs.Common.{◌≡◌, ◌∙◌, ℕ, zero, suc, ◌+◌, ◌<◌, ◌≤◌, Bool, true, false, cond, not, ◌||◌, List, [], ◌∷◌, ◌++◌, length, take, get_or, map, find, Option, Some, None, is_some, option_map, refl, ap, sym, subst, append-nil, append_assoc, arith}
+use Rattle.std.specs.Prelude.{◌==◌, ◌&&◌, bytes_eq, filter, flat_map, nat_lt, slice_get, option_and_then}
 use Rattle.std.specs.List.{AllByRecursion, list_all, list_any}
-use Rattle.std.proofs.lemmas.Bool.{false≢true}
+use Rattle.std.proofs.lemmas.Bool.{false≢true, eqb-true}
+use Rattle.std.proofs.lemmas.Bool.Decides.{nat_tests}
 use Rattle.std.proofs.lemmas.List.{map_more, map-append}
 use Rattle.std.proofs.lemmas.List.Concat.{flat_map-append}
 use Rattle.std.proofs.lemmas.List.Elements.{filter-append}
@@ -41,21 +42,20 @@ pub all_more : (f : Frame) (rs : List Readable) (r : Readable) → AllByRecursio
 all_more f [] r w h = (h, tt)
 all_more f (x ∷ rs) r w h = (w.0, all_more f rs r w.1 h)
 
+either : (a b : Bool) → b ≡ true → (a || b) ≡ true
+either true b h = refl
+either false b h = h
+
 -- one more is among them, and nobody is not any more
 pub among_more : (rs : List Readable) (r : Readable) (role : Name) → r.role ≡ role → is_among (rs ++ r ∷ []) role ≡ true
-among_more [] r role h = ap (λ b. cond b true false) ((bytes_eq-Decides r.role role).1 h)
-among_more (x ∷ rs) r role h = by (bytes_eq x.role role) (among_more rs r role h)
-  where
-    by : (b : Bool) → is_among (rs ++ r ∷ []) role ≡ true → cond b true (is_among (rs ++ r ∷ []) role) ≡ true
-    by true h = refl
-    by false h = h
+among_more [] r role h = ap (λ b. b || false) ((bytes_eq-Decides r.role role).1 h)
+among_more (x ∷ rs) r role h = either (bytes_eq x.role role) (is_among (rs ++ r ∷ []) role) (among_more rs r role h)
 
 pub among_still : (rs : List Readable) (r : Readable) (role : Name) → is_among rs role ≡ true → is_among (rs ++ r ∷ []) role ≡ true
 among_still [] r role h = absurd (false≢true h)
 among_still (x ∷ rs) r role h = by (bytes_eq x.role role) (λ k. among_still rs r role k) h
   where
-    by : (b : Bool) → (is_among rs role ≡ true → is_among (rs ++ r ∷ []) role ≡ true) → cond b true (is_among rs role) ≡ true
-        → cond b true (is_among (rs ++ r ∷ []) role) ≡ true
+    by : (b : Bool) → (is_among rs role ≡ true → is_among (rs ++ r ∷ []) role ≡ true) → (b || is_among rs role) ≡ true → (b || is_among (rs ++ r ∷ []) role) ≡ true
     by true later h = refl
     by false later h = later h
 
@@ -66,7 +66,41 @@ nobody_there places m k h e = some_not_none (sym (ap (option_and_then (λ x. x))
     some_not_none : None ≡ Some k → ⊥
     some_not_none = cc
 
+less : (m n : ℕ) → m < n + 1 → (m == n) ≡ false → m < n
+less m n h e = grind (arith, nat_tests)
+
+-- the roles of clients up to a number
+pub more_roles : (before now : List Readable) (places : Places) (n : ℕ)
+    → ((m : ℕ) (k : Kept) → m < n → client_at places m ≡ Some k → is_among before k.role ≡ true)
+    → ((k : Kept) → client_at places n ≡ Some k → is_among now k.role ≡ true) → ((role : Name) → is_among before role ≡ true → is_among now role ≡ true)
+    → (m : ℕ) (k : Kept) → m < n + 1 → client_at places m ≡ Some k → is_among now k.role ≡ true
+more_roles before now places n old one still m k lt there = by (m == n) refl
+  where
+    by : (b : Bool) → (m == n) ≡ b → is_among now k.role ≡ true
+    by true e = one k (subst (λ j. client_at places j ≡ Some k) (eqb-true m n e) there)
+    by false e = still k.role (old m k (less m n lt e) there)
+
+within : (m n : ℕ) → nat_lt m n ≡ true → m < n
+within m n e = grind (arith, nat_tests)
+
+beyond : (l m n : ℕ) → l ≤ n → nat_lt m n ≡ false → l ≤ m
+beyond l m n h e = grind (arith, nat_tests)
+
+pub all_roles : (rs : List Readable) (places : Places) (n : ℕ) → length places ≤ n
+    → ((m : ℕ) (k : Kept) → m < n → client_at places m ≡ Some k → is_among rs k.role ≡ true)
+    → (m : ℕ) (k : Kept) → client_at places m ≡ Some k → is_among rs k.role ≡ true
+all_roles rs places n h old m k there = by (nat_lt m n) refl
+  where
+    by : (b : Bool) → nat_lt m n ≡ b → is_among rs k.role ≡ true
+    by true e = old m k (within m n e) there
+    by false e = absurd (nobody_there places m k (beyond (length places) m n h e) there)
+
 -- ---- the names of relations
+
+-- one more of what was gathered
+pub one_gathered : {A B : Type 0} (read : A → B) (xs : List A) (i : ℕ) (d : A) (before now : List B) (one : B) → i < length xs → before ≡ map read (take i xs)
+    → now ≡ before ++ one ∷ [] → one ≡ read (get_or xs i d) → now ≡ map read (take (i + 1) xs)
+one_gathered read xs i d before now one lt b n o = n ∙ ((λ j. b j ++ o j ∷ []) ∙ sym (map_more read xs i d lt))
 
 -- one more of a list
 pub rel_next : {A : Type 0} (read : A → Name) (r : Readable) (xs : List A) (i : ℕ) (d : A) (start before now : List ℕ) → i < length xs
@@ -119,9 +153,9 @@ empty_for (n ∷ ns) role h = by (bytes_eq n.role role) (length n.text == 0) ref
   where
     by : (b e : Bool) → (length n.text == 0) ≡ e → (e && list_all (λ x. length x.text == 0) ns) ≡ true
         → (length (if_some (cond b (Some n) (find (λ x. bytes_eq x.role role) ns)) [] (λ x. x.text)) == 0) ≡ true
-    by true true e h = e
-    by false true e h = empty_for ns role h
-    by b false e h = absurd (false≢true h)
+    by true true p h = p
+    by false true p h = empty_for ns role h
+    by b false p h = absurd (false≢true h)
 
 pub nobody_hears : (ns : List Newly) (places : Places) → list_all (λ n. length n.text == 0) ns ≡ true → places ≡ at_all (hearing_newly ns) places
 nobody_hears ns places h =
@@ -135,15 +169,10 @@ named_there [] rel e h = cc
 named_there (d ∷ es) rel e h = by (bytes_eq rel d.name) refl h
   where
     by : (b : Bool) → bytes_eq rel d.name ≡ b → cond b (Some d) (named es rel) ≡ Some e
-        → cond (bytes_eq d.name rel) true (list_any (λ x. bytes_eq x rel) (map (λ (c : CatalogEntry). c.name) es)) ≡ true
-    by true k h = ap (λ t. cond t true (list_any (λ x. bytes_eq x rel) (map (λ (c : CatalogEntry). c.name) es)))
+        → (bytes_eq d.name rel || list_any (λ x. bytes_eq x rel) (map (λ (c : CatalogEntry). c.name) es)) ≡ true
+    by true k h = ap (λ t. t || list_any (λ x. bytes_eq x rel) (map (λ (c : CatalogEntry). c.name) es))
         ((bytes_eq-Decides d.name rel).1 (sym ((bytes_eq-Decides rel d.name).0 k)))
-    by false k h = later (bytes_eq d.name rel) (named_there es rel e h)
-
-    later : (t : Bool) → list_any (λ x. bytes_eq x rel) (map (λ (c : CatalogEntry). c.name) es) ≡ true
-        → cond t true (list_any (λ x. bytes_eq x rel) (map (λ (c : CatalogEntry). c.name) es)) ≡ true
-    later true h = refl
-    later false h = h
+    by false k h = either (bytes_eq d.name rel) (list_any (λ x. bytes_eq x rel) (map (λ (c : CatalogEntry). c.name) es)) (named_there es rel e h)
 
 -- a relation on which a role has a privilege has a name
 some_there : (f : Frame) (role rel : Name) → has_some f role rel ≡ true → list_any (λ x. bytes_eq x rel) (map (λ e. e.name) f.catalog) ≡ true
@@ -184,7 +213,7 @@ text_is : (f g : Frame) (rs : List Readable) (role : Name) → AllByRecursion (I
 text_is f g [] role w h = absurd (false≢true h)
 text_is f g (r ∷ rs) role w h = by (bytes_eq r.role role) refl h
   where
-    by : (b : Bool) → bytes_eq r.role role ≡ b → cond b true (is_among rs role) ≡ true
+    by : (b : Bool) → bytes_eq r.role role ≡ b → (b || is_among rs role) ≡ true
         → if_some (cond b (Some (newly_in g r)) (find (λ n. bytes_eq n.role role) (map (newly_in g) rs))) [] (λ n. n.text) ≡ text_granted (newly f g role)
     by true e h = ap text_granted (newly_is f g r w.0 ∙ ap (newly f g) ((bytes_eq-Decides r.role role).0 e))
     by false e h = text_is f g rs role w.1 h

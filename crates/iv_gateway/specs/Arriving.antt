@@ -35,9 +35,8 @@ all_pushed n [] = n
 all_pushed n (e ∷ es) = all_pushed (pushed n (once.named e)) es
 
 -- the journal is to have the step, whose names are new
-pub record IsEntered (g : Gate) (s : Step) (facts : List Fact) (made : List ℕ) (x : Gateway) : Type 0 where
+pub record IsEntered (g : Gate) (s : Step) (made : List ℕ) (x : Gateway) : Type 0 where
   pub new : first_known 1 s.names (known_of g) ≡ None
-  pub facts_are : facts ≡ map fact_of s.requests
   pub makes : made ≡ shape_text (entry_of s ∷ [])
   pub gate : IsAlive (entered g (entry_of s ∷ [])) x
 

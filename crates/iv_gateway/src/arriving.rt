@@ -1,18 +1,18 @@
 //! `take_step`: a step of the log that is followed is taken whole, or the gateway is dead. Each client is told once what differs after it.
-ghost use Rattle.std.specs.Prelude.{◌≡◌, ◌==◌, ◌&&◌, ◌++◌, ◌∷◌, [], IfErr, IfOk, OnErr, OnOk, None, Option, Some, false, flat_map, map, nat_le, nat_lt, option_map, true};
+ghost use Rattle.std.specs.Prelude.{◌≡◌, ◌++◌, ◌∷◌, [], IfErr, IfOk, None, OnErr, OnOk, false, flat_map, map, option_map, true};
 ghost use Rattle.std.specs.List.{list_all};
-ghost use Rattle.iv_rows.specs.Options.{if_some};
 ghost use Rattle.iv_command.specs.Views.{act_of, line_of};
 ghost use Rattle.iv_machine.specs.Machine.{Outcome};
 ghost use Rattle.iv_clients.specs.Clients.{own_lines};
 ghost use Rattle.iv_clients.specs.Journal.{Entry};
 ghost use Rattle.iv_clients.specs.Kept.{kept_slots};
 ghost use Rattle.iv_clients.specs.Names.{limits};
+ghost use Rattle.iv_once.specs.Names.{is_new};
 ghost use Rattle.iv_once.specs.Views.{names_of};
 ghost use Rattle.iv_steps.specs.Steps.{is_well_fact};
 ghost use Rattle.iv_engine.specs.Stepped.{is_write};
 ghost use Rattle.iv_message.specs.Told.{granted};
-ghost use Rattle.iv_gate.specs.Arriving.{fact_of, first_known, is_log, newly, not_new, position, takes};
+ghost use Rattle.iv_gate.specs.Arriving.{fact_of, first_known, newly, not_new, takes};
 ghost use Rattle.iv_gate.specs.Events.{IsWell, arrived, failed, next};
 ghost use Rattle.iv_gate.specs.Gate.{Gate, informs, settles, shape_text, went_on};
 ghost use Rattle.iv_gateway.specs.Arriving.{IsCarried, IsEntered, IsFaultOf, IsLanded, IsNotLanded, IsRefusedBy, IsTakenBy, all_pushed};
@@ -20,9 +20,10 @@ ghost use Rattle.iv_gateway.specs.Newly.{AreBefore, AreNewly};
 ghost use Rattle.iv_gateway.specs.Shaping.{shape_in};
 ghost use Rattle.iv_gateway.specs.Views.{IsAlive, IsGate};
 
-use crate::gateway::{Gateway, Log};
+use crate::gateway::Gateway;
 use crate::newly::{Readable, all_readable, hear_newly};
 use crate::shaping::push_shape;
+use crate::steps::Step;
 use iv_clients::{Request, drop_ended, push_step};
 use iv_command::{Act, Line, Refusal};
 use iv_engine::{Fact, StepFault as EngineFault};
@@ -31,30 +32,6 @@ use iv_once::{Named, Names};
 use iv_request::laws::requests_are_well;
 use iv_steps::laws::refusals_are_found;
 use std::alloc::{AllocError, Global};
-use std::marker::Model;
-
-/// A step of a log: what was done there between two positions, and the names that have an answer by it.
-#[derive(Drop)]
-pub struct Step {
-    /// Which log it is of.
-    pub log: Log,
-    /// The position behind which it comes.
-    pub from: u64,
-    /// The position to which it leads.
-    pub to: u64,
-    /// What was done.
-    pub requests: Vec<Request>,
-    /// The names.
-    pub names: Vec<Named>,
-}
-
-impl Model for Step {
-    ghost use Rattle.iv_gate.specs.Arriving.{Step as StepSpec};
-
-    ghost Value = { StepSpec };
-
-    ghost view = { λ s. record { log = s.log; from = s.from; to = s.to; requests = s.requests.items; names = s.names.items } };
-}
 
 /// Why a step is not taken. The gateway is dead then.
 #[derive(Drop)]
@@ -84,31 +61,6 @@ impl From<AllocError> for StepFault {
     }
 }
 
-impl Log {
-    /// Whether it is the other: by name and epoch.
-    fn is(&self, other: &Log) -> bool
-        ensures { result ≡ is_log self.now other.now }
-    {
-        self.name.as_str() == other.name.as_str() && self.epoch.as_str() == other.epoch.as_str()
-    }
-}
-
-impl Step {
-    /// Whether it begins at a position, and leads on.
-    fn is_next(&self, position: u64) -> bool
-        ensures { result ≡ ((self.now.from == position) && nat_lt self.now.from self.now.to) }
-    {
-        self.from == position && self.from < self.to
-    }
-
-    /// Whether it leads no further than a position.
-    fn is_past(&self, position: u64) -> bool
-        ensures { result ≡ nat_le self.now.to position }
-    {
-        self.to <= position
-    }
-}
-
 /// Whether an act writes rows, and does nothing else.
 fn is_write(act: &Act) -> bool
     ensures { result ≡ is_write (act_of act.now) }
@@ -123,6 +75,13 @@ fn are_writes(requests: &[Request]) -> bool
     requests.iter().all(|request| is_write(&request.act))
 }
 
+/// Whether a name that has its answer has none here yet.
+fn is_new(known: &Names, name: &Named) -> bool
+    ensures { result ≡ is_new (names_of known.now).limits (names_of known.now).known name.now.ask }
+{
+    known.is_new(&name.ask)
+}
+
 /// Learns names that have their answers; or which of them, counted from 1, may have one already.
 fn learn(known: &mut Names, names: Vec<Named>) -> Result<Option<usize>, AllocError>
     ensures first { IfOk result (λ o. (names_of known.old).limits ≡ limits → first_known 1 names.items (names_of known.old).known ≡ option_map not_new o) }
@@ -131,7 +90,7 @@ fn learn(known: &mut Names, names: Vec<Named>) -> Result<Option<usize>, AllocErr
     let mut place = 0usize;
     for name in names {
         place += 1;
-        if !known.is_new(&name.ask) {
+        if !is_new(known, &name) {
             return Ok(Some(place));
         }
         known.push(name)?;
@@ -152,7 +111,8 @@ fn facts_of(
     for request in requests {
         let Request { role, line, act } = request;
         push_shape(alloc, made, role.as_str(), &line, &act)?;
-        facts.push(Fact { role, act })?;
+        let fact = Fact { role, act };
+        facts.push(fact)?;
     }
     Ok(facts)
 }
@@ -161,8 +121,7 @@ impl Gateway {
     /// Takes a step of the log that is followed: all of it is done, and each client is told once what differs after it; where it was taken
     /// before nothing happens. Whether it was not.
     ///
-    /// Its requests and names have to be as a journal has them, and their texts such as a journal holds: `read_record` of iv_clients reads
-    /// such entries, and `is_text` of iv_journal tests a text.
+    /// Its requests and names have to be as a journal has them, and their texts such as a journal holds: `read_step` reads such steps.
     ///
     /// A step that writes rows alone costs what it writes, and the clients who are told of it. Where it has other requests, all clients are
     /// looked at: once before it for their roles, of which is asked what each may read, and once after it if a role may read more.
@@ -192,23 +151,13 @@ impl Gateway {
         }
     }
 
-    /// Whether it is the log that is followed.
-    fn is_followed(&self, log: &Log) -> bool
-        ensures { (g : Gate) → IsAlive g self.now → result ≡ if_some g.head.log false (is_log log.now) }
-    {
-        match &self.log {
-            None => false,
-            Some(own) => log.is(own),
-        }
-    }
-
     /// Takes a step where it is the next one, or was taken before. Whether it was not.
     fn follow_step(&mut self, step: Step) -> Result<bool, StepFault>
         requires { IsWell (arrived step) }
         ensures gate { IfOk result (λ is. (g : Gate) → IsAlive g self.old → IsTakenBy g step is × IsAlive (takes g step) self.new) }
         ensures fault { IfErr result (λ f. (g : Gate) → IsAlive g self.old → IsFaultOf g step f) }
     {
-        if !self.is_followed(&step.log) {
+        if !step.is_of(&self.log) {
             drop(step);
             return Err(StepFault::OtherLog);
         }
@@ -255,7 +204,8 @@ impl Gateway {
     /// The journal is to have a step, whose names are learned. Its facts; what it makes of the shape is appended.
     fn enter_step(&mut self, step: Step, made: &mut Vec<u8>) -> Result<Vec<Fact>, StepFault>
         requires { made.old.items ≡ [] }
-        ensures entered { IfOk result (λ facts. (g : Gate) → IsAlive g self.old → IsEntered g step facts.items made.new.items self.new) }
+        ensures facts { IfOk result (λ facts. facts.items ≡ map fact_of step.requests) }
+        ensures entered { OnOk result ((g : Gate) → IsAlive g self.old → IsEntered g step made.new.items self.new) }
         ensures fault { IfErr result (λ f. (g : Gate) → IsAlive g self.old → IsNotLanded g step f) }
     {
         push_step(

@@ -21,13 +21,15 @@ mod restoring;
 mod seats;
 mod shaping;
 mod sharing;
+mod steps;
 mod subscribing;
 mod sweeping;
 mod tally;
 mod telling;
 
-pub use arriving::{Step, StepFault};
+pub use arriving::StepFault;
 pub use gateway::{Gateway, GatewayFault, Head, Log};
 pub use journal::{Journal, JournalFault};
 pub use restoring::RestoreFault;
+pub use steps::{Step, read_step};
 pub use tally::{KINDS, Tally};

@@ -1,5 +1,5 @@
 //! What roles of clients may read before a step, and what of it they may read newly after it: each is told that once.
-ghost use Rattle.std.specs.Prelude.{◌≡◌, ◌==◌, length, ◌++◌, ℕ, List, [], IfOk, OnOk, Some, bytes_eq, false, map, string_bytes, true};
+ghost use Rattle.std.specs.Prelude.{◌≡◌, ◌==◌, ◌∷◌, ◌++◌, [], IfOk, OnOk, Some, bytes_eq, false, find, length, map, option_map, string_bytes, true};
 ghost use Rattle.std.specs.List.{AllByRecursion, list_all};
 ghost use Rattle.iv_rows.specs.Options.{if_some};
 ghost use Rattle.iv_access.specs.Rights.{Name};
@@ -64,7 +64,8 @@ fn owned(alloc: Global, names: &[&str]) -> Result<Vec<String>, AllocError>
 {
     let mut owned = Vec::new(alloc);
     for name in names {
-        owned.push(String::from_str(alloc, name)?)?;
+        let own = String::from_str(alloc, name)?;
+        owned.push(own)?;
     }
     Ok(owned)
 }
@@ -78,11 +79,9 @@ fn readable_to(alloc: Global, engine: &Engine, role: &str) -> Result<Readable, A
     match engine.relations_with(alloc, role) {
         Err(error) => Err(error),
         Ok(names) => {
+            let role = String::from_str(alloc, role)?;
             let rels = owned(alloc, &names)?;
-            Ok(Readable {
-                role: String::from_str(alloc, role)?,
-                rels,
-            })
+            Ok(Readable { role, rels })
         }
     }
 }
@@ -114,6 +113,16 @@ fn add_role(
     Ok(())
 }
 
+/// The role of a client, if the number has one.
+fn role_at(clients: &[Option<Client>], client: u32) -> Option<&str>
+    ensures { option_map (λ r. r.now) result ≡ option_map (λ (k : Kept). k.role) (client_at clients.now client) }
+{
+    match clients.get(client as usize) {
+        Some(Some(it)) => Some(it.role()),
+        _ => None,
+    }
+}
+
 /// Adds the role of a client, if the number has one.
 fn add_role_of(
     alloc: Global,
@@ -127,12 +136,12 @@ fn add_role_of(
     ensures added { OnOk result ((k : Kept) → client_at clients.now client ≡ Some k → is_among all.new.items k.role ≡ true) }
     ensures others { OnOk result ((other : Name) → is_among all.old.items other ≡ true → is_among all.new.items other ≡ true) }
 {
-    match clients.get(client as usize) {
-        Some(Some(it)) => {
-            add_role(alloc, all, engine, it.role())?;
+    match role_at(clients, client) {
+        None => Ok(()),
+        Some(role) => {
+            add_role(alloc, all, engine, role)?;
             Ok(())
         }
-        _ => Ok(()),
     }
 }
 
@@ -200,10 +209,8 @@ fn newly_told(alloc: Global, engine: &Engine, before: &Readable) -> Result<Newly
         Ok(rels) => {
             let mut text = Vec::new(alloc);
             push_new(alloc, &mut text, before, &rels)?;
-            Ok(Newly {
-                role: before.role.clone()?,
-                text,
-            })
+            let role = before.role.clone()?;
+            Ok(Newly { role, text })
         }
     }
 }
@@ -215,28 +222,36 @@ fn all_newly(alloc: Global, engine: &Engine, before: &[Readable]) -> Result<Vec<
 {
     let mut all = Vec::new(alloc);
     for one in before {
-        all.push(newly_told(alloc, engine, one)?)?;
+        let told = newly_told(alloc, engine, one)?;
+        all.push(told)?;
     }
     Ok(all)
 }
 
-/// What a role is told.
+/// What is told to a role, if it is among these.
+fn newly_of<'a>(all: &'a [Newly], role: &str) -> Option<&'a Newly>
+    ensures { option_map (λ n. n.now) result ≡ find (λ n. bytes_eq n.role role.now) all.now }
+{
+    all.iter().find(|one| one.role.as_str() == role)
+}
+
+/// The text that a role is told.
 fn text_for<'a>(all: &'a [Newly], role: &str) -> &'a [u8]
     ensures { result.now ≡ text_for all.now role.now }
 {
-    match all.iter().find(|one| one.role.as_str() == role) {
+    match newly_of(all, role) {
         None => &[],
         Some(one) => &one.text,
     }
 }
 
-/// What the role of a client is told, if the number has one.
+/// The text that the role of a client is told, if the number has one.
 fn text_at<'a>(all: &'a [Newly], clients: &[Option<Client>], client: u32) -> &'a [u8]
     ensures { result.now ≡ if_some (client_at clients.now client) [] (λ (k : Kept). text_for all.now k.role) }
 {
-    match clients.get(client as usize) {
-        Some(Some(it)) => text_for(all, it.role()),
-        _ => &[],
+    match role_at(clients, client) {
+        None => &[],
+        Some(role) => text_for(all, role),
     }
 }
 

@@ -5,6 +5,8 @@
 #[cfg(test)]
 mod conversations;
 #[cfg(test)]
+mod following;
+#[cfg(test)]
 mod out;
 #[cfg(test)]
 mod playing;
@@ -12,5 +14,7 @@ mod playing;
 mod records;
 #[cfg(test)]
 mod slow;
+#[cfg(test)]
+mod steps;
 #[cfg(test)]
 mod viewd;
