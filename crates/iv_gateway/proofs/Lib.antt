@@ -16,3 +16,4 @@ pub mod Replayed
 pub mod Subscribed
 pub mod NewRights
 pub mod Landed
+pub mod StepLines

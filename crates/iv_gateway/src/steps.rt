@@ -1,5 +1,5 @@
 //! `Step`: a step of a log, as it comes; `read_step` reads one of the lines of its record.
-ghost use Rattle.std.specs.Prelude.{◌≡◌, ◌==◌, ◌&&◌, ◌||◌, IfOk, IfSome, false, nat_le, nat_lt};
+ghost use Rattle.std.specs.Prelude.{◌≡◌, ◌==◌, ◌&&◌, ◌||◌, IfOk, IfSome, drop, false, length, nat_le, nat_lt};
 ghost use Rattle.std.specs.List.{list_all, list_any};
 ghost use Rattle.iv_rows.specs.Options.{if_some};
 ghost use Rattle.iv_journal.specs.Journal.{is_text};
@@ -114,6 +114,13 @@ fn are_answers(alloc: Global, names: &[Named], scratch: &mut Scratch) -> Result<
     Ok(true)
 }
 
+/// Whether there are no more lines than that.
+fn are_all(lines: &[Line<'_>], count: usize) -> bool
+    ensures { result ≡ (length (drop count lines.now) == 0) }
+{
+    lines.len() <= count
+}
+
 /// The step of an entry that has a position.
 fn step_of(log: Log, from: u64, entry: Entry) -> Option<Step>
     ensures { result ≡ step_of log from entry }
@@ -157,7 +164,7 @@ pub fn read_step(
     match read_record(alloc, lines, scratch)? {
         None => Ok(None),
         Some((entry, count)) => {
-            if count < lines.len() {
+            if !are_all(lines, count) {
                 return Ok(None);
             }
             if !are_answers(alloc, &entry.names, scratch)? {
