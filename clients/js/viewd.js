@@ -16,6 +16,7 @@ export {compare, NotSent, parse, Refused, text, Undecided, ViewdError} from "./v
 const BYTES = 65_463; // of a message, at most
 const LIMIT = 17, TOO_MANY = 20, TOO_LONG = 22;
 const WITHOUT_ID = new Set([1, 2, 22]); // refusals of what could not be read, so that its id is not known
+const LATE = 102; // undecided: the holder has had more names since its place than are kept
 const AGAIN = 104; // undecided now, and to be sent again as it is
 const OPEN = 16; // writes by name that have no answer, at most: a gateway knows a holder's last 64 names, and one holder may have several clients
 const UNKNOWN_TOKEN = 4401;
@@ -35,6 +36,7 @@ class Db {
   #asked = []; // messages without a reply, in their order
   #waiting = new Set(); // requests that were never sent, in their order
   #kept = new Set(); // writes by name that were sent, and are to be sent again, as the connection went before the answer, or it was no answer yet
+  #late = []; // writes by name that were told in this connection that their place is too old
   #place = null; // where names of the holder stand, as the gateway told it last; null if it tells none
   #welcome = null; // the role, until the line behind it is here
   #replied = []; // what is done when the event is settled
@@ -259,6 +261,7 @@ class Db {
       if (write) this.#kept.add(write);
       else reject(new Undecided());
     }
+    if (this.#late.length) this.#waiting = new Set([...this.#late.splice(0), ...this.#waiting]);
   }
 
   #lost(why) {
@@ -300,7 +303,8 @@ class Db {
 
   // By the name and the place that it had when it was first sent, and by the same bytes.
   #askByName(write) {
-    if (write.name === null) Object.assign(write, {name: newName(), at: this.#place, rest: text(write.body).slice(1)});
+    if (write.name === null) Object.assign(write, {name: newName(), at: this.#place, rest: text(write.body).slice(1), sent: 0});
+    write.sent++;
     const id = this.#next++;
     this.#asked.push({id, write, resolve: write.resolve, reject: write.reject, first: () => {}});
     this.#socket.send(`{"id":${id},"once":"${write.name}","at":"${write.at}",${write.rest}`);
@@ -310,7 +314,7 @@ class Db {
   #flush() {
     for (const request of this.#waiting) {
       const byName = request.byName && this.#place !== null;
-      if (byName && this.#asked.filter(({write}) => write).length + this.#kept.size >= OPEN) return;
+      if (byName && (this.#late.length || this.#asked.filter(({write}) => write).length + this.#kept.size >= OPEN)) return;
       this.#waiting.delete(request);
       this.#cancel(request.timer);
       if (byName) this.#askByName(request);
@@ -428,6 +432,7 @@ class Db {
     this.#asked.shift();
     if (said.at !== undefined) this.#place = said.at;
     if (said.undecided === AGAIN && asked.write) return this.#keep(asked.write);
+    if (said.undecided === LATE && asked.write?.sent === 1) return void this.#late.push(Object.assign(asked.write, {name: null, timer: null}));
     if ("undecided" in said) return void this.#replied.push(() => asked.reject(new Undecided(said.undecided)));
     const reply = said.answer ?? said;
     if (reply.ok) asked.first(reply);
@@ -435,6 +440,7 @@ class Db {
   }
 
   #keep(write) {
+    if (write.sent === 1) write.sent = 0; // it was not carried out
     this.#kept.add(write);
     this.#later(this.#how.again, () => {
       if (!this.role || !this.#kept.delete(write)) return; // it was sent again behind another connection
@@ -447,6 +453,8 @@ class Db {
     this.#changed.clear();
     this.#tell(changed.flatMap((relation) => relation.show()));
     for (const act of this.#replied.splice(0)) act();
+    // What was sent once, and came too late, was not carried out. Who comes anew is told another place, and sends it by another name.
+    if (this.#late.length && !this.#asked.some(({write}) => write)) this.#lost("others of its holder have had many names");
     if (this.role) this.#flush();
   }
 

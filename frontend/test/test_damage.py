@@ -8,7 +8,7 @@ from collections.abc import Iterator
 
 from test_names import GONE, answer, by_name, holding, place_of, rows
 from trial import chained, insert, until
-from wire import PATIENCE, TOP, Gateway, http
+from wire import TOP, Gateway, http
 
 sys.path.insert(0, str(TOP / "frontend"))
 
@@ -72,7 +72,9 @@ def tell(gate: Gateway, data: bytes, line: int, what: object) -> None:
     """It does not start with this journal, says in which line that is damaged, and leaves it as it is."""
     gate.journal.write_bytes(data)
     place = len(b"".join(data.splitlines(keepends=True)[:line - 1]))
-    assert gate.launch().wait(PATIENCE) == 1, what
+    gate.launch()
+    until(lambda: gate.process.poll() is not None or is_ready(gate), "it neither listens nor ends")
+    assert gate.process.poll() == 1, what
     said = gate.logs[-1].read_text()
     assert f"damaged: {gate.journal}: line {line}, at byte {place}, is no entry that is accepted" in said and gate.journal.read_bytes() == data, (what, said)
 
@@ -86,7 +88,7 @@ def test_each_damaged_byte_is_told_with_its_place(every: int = 19) -> None:
         torn = 0
         for at in sorted({*range(0, len(whole), every), *(end - 1 for end in ends)}):
             for data in damages(whole, at):
-                if not data.endswith(b"\n"):  # the end of its last line alone may look torn
+                if data[-1:] not in b"\n\0":  # the end of its last line alone may look torn
                     gate.journal.write_bytes(data)
                     gate.launch()
                     until(lambda: gate.process.poll() is not None or is_ready(gate), "it neither listens nor ends")
@@ -98,7 +100,7 @@ def test_each_damaged_byte_is_told_with_its_place(every: int = 19) -> None:
                     more = data.count(b"\n") > whole.count(b"\n")  # behind a newline more is a line more
                     tell(gate, data, sum(end <= at for end in ends) + more + 1, at)
         print(f"  {len(whole)} bytes: {torn} of the changes looked torn, and were cut")
-        assert torn == 3
+        assert torn == 2
         lines = whole.splitlines(keepends=True)
         for data, number in ((b"".join(lines[:3] + lines[4:]), 4), (b"".join(lines[:3] + lines[2:]), 4), (b"".join(lines[:2] + [lines[3], lines[2]] + lines[4:]), 3),
                              (whole + b"\0" * 512 + b"\n", len(lines) + 1), (whole + b"\0" * 512, len(lines) + 1), (b"".join(lines[1:]), 1)):
@@ -133,15 +135,13 @@ def test_records_that_lead_nowhere_are_told_with_their_place() -> None:
             "a name of 21 letters": ((False, role), (True, again.replace(b"A" * 22, b"A" * 21))),
             "a name without its digest": ((False, role), (True, again.replace(b'"digest":"', b'"digest":"0'))),
             "a name with a blank": ((False, role), (True, again.replace(b',"by"', b', "by"'))),
-            "a name with a note": ((False, role), (True, b'"at":1764489601,"by":"Mia",' + again)),
             "what is no request": ((False, b'"as":"mia","do":"subscribe","on":"notes"}'), (True, again)),
             "nothing": ((False, role), (True, b"")),
             "a second head": ((True, b'"journal":1,"epoch":"%s","audit":1}' % epoch),)}
         for what, record in nowhere.items():
             tell(gate, chained([*texts, *record], epoch), len(texts) + 2, what)
             tell(gate, chained([*texts, *record, (True, role)], epoch), len(texts) + 2, what)
-        for what, other in (("where a holder stands without a place", b'"holder":"mia/Eve"}'), ("a place of another form", stands.replace(b".1", b".01")),
-                            ("where a holder stands with a note", b'"at":1764489601,"by":"",' + stands)):
+        for what, other in (("where a holder stands without a place", b'"holder":"mia/Eve"}'), ("a place of another form", stands.replace(b".1", b".01"))):
             tell(gate, chained([(True, other), *texts], epoch), 2, what)
         gate.journal.write_bytes(chained([*texts, (False, role), (True, again), (False, role)], epoch))
         gate.start()

@@ -155,6 +155,23 @@ def test_what_is_too_old_is_told_so() -> None:
         assert rows(gate) == {(at, "ann"): 1 for at in [*range(MOST), 1000]}
 
 
+def test_who_was_idle_comes_anew() -> None:
+    """While a client is there and says nothing, another one of its holder has more names than are kept: what it says by its place is not carried out, and by the
+    place that it is told as it comes anew it is."""
+    with holding() as gate:
+        idle, tab = gate.knock("mia 1"), gate.knock("mia 1")
+        for at in range(MOST + 1):
+            assert answer(tab, by_name(tab.place, insert(at, "ann")))["answer"] == {"ok": True}
+        for at in (100, 101):
+            assert answer(idle, by_name(idle.place, insert(at, "ann"))) == {"undecided": 102}
+        idle.shut()
+        idle = gate.knock("mia 1")
+        assert idle.place == tab.place
+        for at in (100, 101):
+            assert answer(idle, by_name(idle.place, insert(at, "ann")))["answer"] == {"ok": True}
+        assert rows(gate) == {(at, "ann"): 1 for at in [*range(MOST + 1), 100, 101]}
+
+
 def test_who_is_refused_often_has_to_wait() -> None:
     """And nobody else. What is told 104 may be sent again as it is; a restart forgives."""
     with holding() as gate:
@@ -237,15 +254,17 @@ Row = tuple[Any, ...]
 
 
 class Writer:
-    """Sends each request by the same name, place and bytes until it is answered, over lost connections."""
+    """Sends each request by the same name, place and bytes until it is answered, over lost connections. What it sent once, and is told that it came too late, was
+    not carried out: it comes anew, and sends it by another name."""
 
     def __init__(self, gate: Gateway, token: str, number: int):
         self.gate, self.token, self.number, self.at = gate, token, number, 0
         self.came = ""  # the token by which it came in last
-        self.open: dict[Row, str] = {}  # of each row the message that has no answer
+        self.open: dict[Row, str] = {}  # of each row the message that has no answer: none if it is to have another name
+        self.times = collections.Counter[Row]()  # how often that was sent
         self.done, self.refused = set[Row](), set[Row]()
         self.undecided: dict[Row, int] = {}
-        self.sent = self.again = 0
+        self.sent = self.again = self.late = 0
         self.fault: Exception | None = None
 
     def run(self, stop: threading.Event) -> None:
@@ -263,39 +282,49 @@ class Writer:
         wire = self.gate.knock(token)
         if wire.role is None:  # it was renewed, and is not known yet
             raise Ended(wire.code)
-        self.came = token
+        self.came, late = token, self.late
         asked = [*self.open]
         for row in asked:
-            wire.say(self.open[row])
-            self.sent += 1
+            self.say(wire, row)
         while asked or not stop.is_set():
-            while len(asked) < 6 and not stop.is_set():
-                asked.append(self.next(wire))
+            while len(asked) < 6 and not stop.is_set() and late == self.late:
+                self.at += 1
+                asked.append((self.number * 10_000_000 + self.at, "ann"))
+                self.open[asked[-1]] = ""
+                self.say(wire, asked[-1])
+            if not asked:
+                break
             row = asked.pop(0)
             reply = json.loads(next(it for it in wire.event() if '"answer"' in it or '"undecided"' in it))
             wire.place = reply.get("at", wire.place)
-            if reply.get("undecided") == 104:
-                wire.say(self.open[row])
-                asked.append(row)
-                continue
-            self.again += "again" in reply
+            self.hear(wire, row, reply, asked)
+        wire.shut()
+
+    def say(self, wire: Wire, row: Row) -> None:
+        if not self.open[row]:
+            request = insert(*row)
+            if row[0] % 40 == 0:  # it is refused whole
+                request["entries"] += GONE["entries"]
+            self.open[row], self.times[row] = by_name(wire.place, request), 0  # it is kept before it is sent
+        self.times[row] += 1
+        self.sent += 1
+        wire.say(self.open[row])
+
+    def hear(self, wire: Wire, row: Row, reply: Line, asked: list[Row]) -> None:
+        self.again += "again" in reply
+        if reply.get("undecided") == 104:
+            self.times[row] -= 1
+            self.say(wire, row)
+            asked.append(row)
+        elif reply.get("undecided") == 102 and self.times[row] == 1:
+            self.late += 1
+            self.open[row] = ""
+        else:
             if "undecided" in reply:
                 self.undecided[row] = reply["undecided"]
             else:
                 (self.done if "ok" in reply["answer"] else self.refused).add(row)
             del self.open[row]
-        wire.shut()
-
-    def next(self, wire: Wire) -> Row:
-        self.at += 1
-        row = (self.number * 10_000_000 + self.at, "ann")
-        request = insert(*row)
-        if self.at % 40 == 0:  # it is refused whole
-            request["entries"] += GONE["entries"]
-        self.open[row] = by_name(wire.place, request)  # it is kept before it is sent
-        self.sent += 1
-        wire.say(self.open[row])
-        return row
 
 
 class Trials:
@@ -383,7 +412,8 @@ def test_kills_and_repetitions_do_each_request_once(kills: int) -> None:
         wrong = twice | gone | come | refused & set(there) | lost & set(there)
         numbers = collections.Counter(undecided.values())
         print(f"  {kills} kills ({trials.counts['torn']} with a torn end, {trials.counts['compacted']} compactions, {trials.counts['renewed']} renewed tokens): "
-              f"{sum(it.sent for it in writers)} messages of {sum(it.at for it in writers)} requests, {sum(it.again for it in writers)} told again; "
+              f"{sum(it.sent for it in writers)} messages of {sum(it.at for it in writers)} requests, {sum(it.again for it in writers)} told again, "
+              f"{sum(it.late for it in writers)} sent by another name; "
               f"{len((done - lost) & set(there))} done exactly once, {len(refused)} refused, {numbers[102]} told 102, {numbers[103]} told 103, "
               f"{len(done & lost)} done in the journal that went, {len(wrong)} wrong", flush=True)
         assert not wrong, [*wrong][:10]

@@ -173,7 +173,7 @@ def take_all(wires: list[Wire]) -> list[float]:
         assert ready, f"{len(waiting)} are told nothing"
         for it in ready:
             waiting[it].more()
-            if waiting[it].input.endswith(b'{"settled":true}\n'):
+            if b'{"settled":true}\n' in waiting[it].input:  # a line that says that the gateway is there may be behind it
                 took.append(time.monotonic() - start)
                 del waiting[it]
     return took
@@ -236,6 +236,55 @@ def test_many_are_sent_one_message_in_10_ms() -> None:
         messages = reader.messages - count
         assert set(rows.values()) == {1} and messages <= spent * 100 + 5, (messages, spent)
     print(f"  400 writes in {spent:.2f} s, {sorted(took)[200] * 1000:.1f} ms each; the last reader had {messages} messages", flush=True)
+    gate.end()
+
+
+def is_readable(*sockets: socket.socket, seconds: float = 0) -> int:
+    """At how many something has come."""
+    poll = select.poll()
+    for it in sockets:
+        poll.register(it, select.POLLIN)
+    return len(poll.poll(seconds * 1000))
+
+
+def stopped(gate: Gateway, readers: list[Wire]) -> int:
+    """Stops the gateway as soon as the first of them has something. How many have."""
+    is_readable(readers[0].socket, seconds=PATIENCE)
+    gate.process.send_signal(signal.SIGSTOP)
+    until(lambda: pathlib.Path(f"/proc/{gate.process.pid}/stat").read_text().rsplit(")", 1)[1].split()[0] == "T", "it goes on")
+    return is_readable(*(it.socket for it in readers))
+
+
+def test_who_asks_waits_for_a_part_of_the_others() -> None:
+    """Figures are asked for while a line is sent to many: of what still waits for sockets then they tell to how many it was sent meanwhile."""
+    size, part = 2048, 512
+    gate = Gateway(words=("--clients", "2100"), start=False)
+    gate.know("admin", lines=tuple(f'"{digest(f"mia {at}")}" = "mia"' for at in range(size // 64)))
+    gate.start()
+    admin = gate.enter("admin")
+    for it in BASE:
+        admin.ask(it)
+    readers = [gate.knock(f"mia {at // 64}") for at in range(size)]
+    for reader in readers:
+        reader.ask({"do": "subscribe", "on": "notes"})
+    ask = b"GET /metrics HTTP/1.1\r\nHost: localhost\r\nAuthorization: Bearer admin-demo\r\n\r\n"
+    for number in itertools.count(1000):
+        assert number < 2000, "it is never stopped between the first and the last"
+        late = socket.create_connection(("127.0.0.1", gate.port), PATIENCE)
+        assert http(gate.port, "/healthz")[0] == 200  # so the other was accepted before
+        admin.say(insert(number, "ann"))
+        sent = stopped(gate, readers)
+        late.sendall(ask)
+        gate.process.send_signal(signal.SIGCONT)
+        figures = b"".join(iter(lambda: late.recv(1 << 16), b""))
+        late.close()
+        told = {"".join(it.event()) for it in readers}
+        assert admin.event() == ['{"ok":true}'] and told == {f'{{"changes":[[1,[{number},"ann"]]],"sub":1}}'}
+        [pending] = re.findall(rb"\ngateway_pending_bytes (\d+)\n", figures)
+        left, rest = divmod(int(pending), 2 + len(told.pop() + '\n{"settled":true}\n'))  # in a frame
+        assert rest == 0 and left >= size - sent - part, (pending, sent)
+        if sent < size - 2 * part:
+            break
     gate.end()
 
 
@@ -451,6 +500,10 @@ def test_plain_requests_are_answered() -> None:
         assert state["ready"] and state["clients"] == 1 and state["journal"] == len(BASE) and state["bytes"] == gate.journal.stat().st_size
         figures = http(gate.port, "/metrics", "admin-demo")[2].decode()
         assert 'gateway_clients{role="admin"} 1\n' in figures and f"gateway_journal_entries_total {len(BASE)}\n" in figures, figures
+        times = dict(re.findall(r'(?m)^gateway_sync_seconds_(bucket{le="[^"]+"}|sum|count) (\d+(?:\.\d{6})?)$', figures))
+        bounds = [f'bucket{{le="{it}"}}' for it in ("0.0003", "0.001", "0.003", "0.01", "0.03", "0.1", "1", "+Inf")]
+        counts = [int(times[it]) for it in (*bounds, "count")]
+        assert [*times] == [*bounds, "sum", "count"] and counts == sorted(counts) and counts[-2] == counts[-1] > 0 and 0 < float(times["sum"]) < counts[-1] * PATIENCE
         for data, status in [(b"GET / HTTP/1.1\r\nHost: x\r\n\r\n", b"404"), (b"POST /healthz HTTP/1.1\r\nHost: x\r\n\r\n", b"405"),
                              (b"nonsense\r\n\r\n", b"400"), (b"GET / HTTP/2.0\r\n\r\n", b"505"), (b"GET /" + b"x" * 9000 + b" HTTP/1.1\r\n\r\n", b"414"),
                              (b"GET / HTTP/1.1\r\n" + b"a: b\r\n" * 2000 + b"\r\n", b"431"), (b"GET / HTTP/1.1\r\n\r\n", b"400"),

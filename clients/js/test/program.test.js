@@ -1,7 +1,7 @@
 // The client over a gateway that runs: what roles see, revokes, kills, a gateway that stands still, and a token that is taken away.
 import assert from "node:assert/strict";
 import {test} from "node:test";
-import {connect, NotSent, Refused, Undecided} from "../viewd.js";
+import {connect, NotSent, Refused} from "../viewd.js";
 import {Gateway, IS_BUILT, until} from "./gateway.js";
 import {Socket} from "./socket.js";
 
@@ -80,30 +80,34 @@ test("the seventeenth relation finds room when another is given back", {skip}, a
   await until(() => refused[0].state === "live");
 });
 
-test("behind a kill each write that was answered is there once", {skip}, async (t) => {
+test("over kills each write is answered, and done once", {skip}, async (t) => {
   const {gateway, ann, mia} = await serving(t);
-  const all = ann.live("notes"), done = new Set(), undecided = new Set();
+  const all = ann.live("notes"), done = new Set();
   await all.ready;
-  let at = 0;
   for (let round = 0; round < 3; round++) {
-    const writes = Array.from({length: 200}, () => at++).map((id) => mia.insert("notes", [id, "mia", false])
-      .then(() => done.add(id), (why) => {
-        assert.ok(why instanceof Undecided, why);
-        undecided.add(id);
-      }));
-    await until(() => done.size > 30 * (round + 1), "answers");
+    const ids = Array.from({length: 200}, (_, at) => 200 * round + at);
+    const writes = ids.map((id) => mia.insert("notes", [id, "mia", false]).then(() => done.add(id)));
+    await until(() => done.size > 200 * round + 30, "answers");
     await gateway.kill();
-    await Promise.all(writes);
     await until(() => ann.state === "stale" && all.state === "stale", "stale");
     await gateway.start();
+    await Promise.all(writes);
     await until(() => all.state === "live" && mia.state === "live", "live again");
   }
-  const there = new Set(all.rows.map((it) => it.id));
-  assert.deepEqual([...done].filter((id) => !there.has(id)), []);
-  assert.deepEqual([...there].filter((id) => !done.has(id) && !undecided.has(id)), []);
+  await until(() => all.rows.length === 600, "all rows");
+  assert.deepEqual(all.rows.map((it) => it.id).sort((one, other) => one - other), [...done].sort((one, other) => one - other));
   assert.ok(all.rows.every((it) => all.copies(it) === 1));
-  assert.ok(done.size > 90);
-  t.diagnostic(`${done.size} were answered, ${undecided.size} undecided, ${there.size} are there`);
+});
+
+test("who was idle while others of its holder wrote much writes on", {skip}, async (t) => {
+  const {enter, mia} = await serving(t);
+  const idle = enter("mia");
+  const own = idle.live("notes");
+  await own.ready;
+  for (let id = 0; id < 70; id++) await mia.insert("notes", [id, "mia", false]);
+  assert.deepEqual(await Promise.all([100, 101].map((id) => idle.insert("notes", [id, "mia", false]))), [{ok: true}, {ok: true}]);
+  await until(() => own.state === "live" && own.rows.length === 72, "all rows");
+  assert.ok(own.rows.every((it) => own.copies(it) === 1));
 });
 
 test("a gateway that stands still is told of, and left", {skip}, async (t) => {

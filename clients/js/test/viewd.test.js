@@ -557,7 +557,7 @@ test("a write is sent by the same name, place and bytes until it is answered", a
 
 test("what the gateway does not know any more is the page's", async (t) => {
   const [db, socket] = await entered(t, {}, place(0));
-  for (const code of [100, 101, 102, 103]) {
+  for (const code of [100, 101, 103]) {
     const done = db.insert("notes", [code, "ann"]);
     await turn();
     const {id} = JSON.parse(socket.take()[0]);
@@ -581,6 +581,38 @@ test("a write that has to wait is sent again as it is", async (t) => {
   assert.equal(withoutId(again), withoutId(said));
   socket.event({answer: {ok: true}, at: place(1), id: JSON.parse(again).id});
   assert.deepEqual(await done, {ok: true});
+});
+
+test("what was sent once and came too late is sent by another name, behind another connection", async (t) => {
+  const [db, socket] = await entered(t, {silence: 1e9}, place(0));
+  const done = [1, 2].map((id) => db.insert("notes", [id, "ann"]));
+  await turn();
+  const said = socket.take().map((it) => JSON.parse(it));
+  socket.event({id: said[0].id, undecided: 102});
+  const waits = db.insert("notes", [3, "ann"]);
+  await turn();
+  assert.deepEqual(socket.take(), []); // its place is old, too
+  socket.event({id: said[1].id, undecided: 102});
+  await pause(300);
+  Fake.last.enter("mia", place(70));
+  const again = Fake.last.take().map((it) => JSON.parse(it));
+  assert.deepEqual(again.map(({at, entries}) => [at, entries[0].insert[0]]), [[place(70), 1], [place(70), 2], [place(70), 3]]);
+  assert.equal(new Set([...said, ...again].map(({once}) => once)).size, 5);
+  for (const [at, {id}] of again.entries()) Fake.last.event({answer: {ok: true}, at: place(71 + at), id});
+  assert.deepEqual(await Promise.all([...done, waits]), [{ok: true}, {ok: true}, {ok: true}]);
+});
+
+test("what was sent twice and came too late is undecided", async (t) => {
+  const [db, socket] = await entered(t, {silence: 1e9}, place(0));
+  const done = db.insert("notes", [1, "ann"]);
+  await turn();
+  socket.take();
+  socket.end();
+  await pause(300);
+  Fake.last.enter("mia", place(70));
+  const [again] = Fake.last.take();
+  Fake.last.event({id: JSON.parse(again).id, undecided: 102});
+  await assert.rejects(done, {name: "Undecided", code: 102});
 });
 
 test("so many writes are under way as the gateway keeps names for", async (t) => {

@@ -1,6 +1,7 @@
 """What the client says and makes of what it is told, over a gateway that a test plays: replies, rows, lost connections, silence, tokens."""
 import asyncio
 import random
+import json
 import re
 from collections import Counter
 
@@ -455,13 +456,13 @@ async def test_a_write_is_sent_by_the_same_name_place_and_bytes_until_it_is_answ
 @run
 async def test_what_the_gateway_does_not_know_any_more_is_the_applications(fakes):
     db, socket = await entered(f"{EPOCH}.0")
-    for id, code in enumerate((100, 101, 102, 103), 1):
+    for id, code in enumerate((100, 101, 103), 1):
         done = asyncio.ensure_future(db.insert("notes", [code, "ann"]))
         await turn()
         await socket.event({"id": id, "undecided": code})
         assert (await raised(done, Undecided)).code == code
     await asyncio.sleep(20)
-    assert len(socket.sent) == 4
+    assert len(socket.sent) == 3
     await db.end()
 
 
@@ -478,6 +479,42 @@ async def test_a_write_that_has_to_wait_is_sent_again_as_it_is(fakes):
     assert without_id(again) == without_id(said)
     await socket.event({"answer": {"ok": True}, "at": f"{EPOCH}.1", "id": 2})
     assert await done == {"ok": True}
+    await db.end()
+
+
+@run
+async def test_what_was_sent_once_and_came_too_late_is_sent_by_another_name(fakes):
+    db, socket = await entered(f"{EPOCH}.0")
+    done = [asyncio.ensure_future(db.insert("notes", [id, "ann"])) for id in (1, 2)]
+    await turn()
+    await socket.event({"id": 1, "undecided": 102})
+    done.append(asyncio.ensure_future(db.insert("notes", [3, "ann"])))
+    await turn()
+    assert len(socket.sent) == 2  # its place is old, too
+    await socket.event({"id": 2, "undecided": 102})
+    await asyncio.sleep(0.3)
+    await let_in(fakes.all[-1], f"{EPOCH}.70")
+    await turn()
+    again = [json.loads(it) for it in fakes.all[-1].sent]
+    assert [(it["at"], it["entries"][0]["insert"][0]) for it in again] == [(f"{EPOCH}.70", id) for id in (1, 2, 3)]
+    assert len({it["once"] for it in [*map(json.loads, socket.sent), *again]}) == 5
+    for id in (1, 2, 3):
+        await fakes.all[-1].event({"answer": {"ok": True}, "at": f"{EPOCH}.{70 + id}", "id": id})
+    assert await asyncio.gather(*done) == [{"ok": True}] * 3
+    await db.end()
+
+
+@run
+async def test_what_was_sent_twice_and_came_too_late_is_undecided(fakes):
+    db, socket = await entered(f"{EPOCH}.0")
+    done = asyncio.ensure_future(db.insert("notes", [1, "ann"]))
+    await turn()
+    await socket.end()
+    await asyncio.sleep(0.3)
+    await let_in(fakes.all[-1], f"{EPOCH}.70")
+    await turn()
+    await fakes.all[-1].event({"id": 1, "undecided": 102})
+    assert (await raised(done, Undecided)).code == 102
     await db.end()
 
 

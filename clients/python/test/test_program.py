@@ -8,7 +8,7 @@ import pytest
 
 import viewd
 from conftest import PATIENCE
-from viewd import Change, NotSent, Refused, Undecided
+from viewd import Change, NotSent, Refused
 
 
 def enter(gateway, role, **how):
@@ -54,18 +54,15 @@ def test_each_role_has_its_rows_as_they_change(gateway):
     asyncio.run(test())
 
 
-def test_behind_a_kill_each_write_that_was_answered_is_there_once(gateway):
+def test_over_kills_each_write_is_answered_and_done_once(gateway):
     async def test():
         async with enter(gateway, "ann") as ann, enter(gateway, "mia") as mia:
-            notes, done, undecided, seen = ann.live("notes"), set(), set(), {}
+            notes, done, seen = ann.live("notes"), set(), {}
             await notes.ready()
 
             async def write(number):
-                try:
-                    await mia.insert("notes", [number, "mia", False])
-                    done.add(number)
-                except Undecided:
-                    undecided.add(number)
+                await mia.insert("notes", [number, "mia", False])
+                done.add(number)
 
             async def follow():
                 async for changes in ann.changes("notes"):
@@ -75,17 +72,29 @@ def test_behind_a_kill_each_write_that_was_answered_is_there_once(gateway):
             following = asyncio.ensure_future(follow())
             for turn in range(3):
                 writes = [asyncio.ensure_future(write(turn * 200 + at)) for at in range(200)]
-                await until(lambda: len(done) > 30 * (turn + 1))
+                await until(lambda: len(done) > 200 * turn + 30)
                 gateway.kill()
-                await asyncio.gather(*writes)
                 await until(lambda: "live" not in (notes.state, ann.state, mia.state))
                 gateway.start()
+                await asyncio.gather(*writes)
                 await until(lambda: notes.state == "live" and ann.state == "live" and mia.state == "live")
-            there = {it["id"] for it in notes.rows}
-            assert done <= there <= done | undecided and all(notes.copies(it) == 1 for it in notes.rows)
-            await until(lambda: seen == {it: 1 for it in there})
+            await until(lambda: seen == {it: 1 for it in range(600)})
+            assert {it["id"] for it in notes.rows} == done == {*range(600)} and all(notes.copies(it) == 1 for it in notes.rows)
             following.cancel()
-            assert len(done) > 90
+
+    asyncio.run(test())
+
+
+def test_who_was_idle_while_others_of_its_holder_wrote_much_writes_on(gateway):
+    async def test():
+        async with enter(gateway, "mia") as idle, enter(gateway, "mia") as mia:
+            own = idle.live("notes")
+            await own.ready()
+            for number in range(70):
+                await mia.insert("notes", [number, "mia", False])
+            assert await asyncio.gather(*(idle.insert("notes", [number, "mia", False]) for number in (100, 101))) == [{"ok": True}] * 2
+            await until(lambda: own.state == "live" and len(own.rows) == 72)
+            assert all(own.copies(it) == 1 for it in own.rows)
 
     asyncio.run(test())
 

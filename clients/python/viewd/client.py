@@ -21,6 +21,7 @@ from .rows import Changes, Columns, Live, Relation, Report, User, Value, Where, 
 BYTES = 65_463  # of a message, at most
 LIMIT, TOO_MANY, TOO_LONG = 17, 20, 22
 WITHOUT_ID = (1, 2, 22)  # refusals of what could not be read, so that its id is not known
+LATE = 102  # undecided: the holder has had more names since its place than are kept
 AGAIN = 104  # undecided now, and to be sent again as it is
 OPEN_WRITES = 16  # by name, without an answer, at most: a gateway knows a holder's last 64 names, and one holder may have several clients
 LONGEST = {"id": 2 ** 53, "once": "_" * 22, "at": f"{'0' * 32}.{2 ** 64}"}  # what a message by name may begin with
@@ -57,6 +58,7 @@ class Asked:
     name: str | None = None
     at: str = ""
     rest: str = ""  # of the message, behind these
+    sent: int = 0  # how often it was, and may have been carried out
 
     def come(self, came: Reply | ViewdError) -> None:
         if self.timer:
@@ -86,6 +88,7 @@ class _Connection:
     made: list[Reply] = field(default_factory=list)  # lines of what made the shape, which an administrator is told
     welcome: Reply | None = None  # the role, until the line behind it is here
     place: str | None = None  # where names of the holder stand, as the gateway told it last; None if it tells none
+    late: list[Asked] = field(default_factory=list)  # writes by name that were told that their place is too old
     is_in: bool = False  # all that is told of the entry is here
     next_id: int = 1
     since: float = 0
@@ -315,6 +318,7 @@ class Db:
                 asked.come(Undecided())
             else:
                 self._kept.append(asked)
+        self._waiting[:0] = connection.late
 
     def _lost(self, why: str) -> None:
         if self.state == "closed":
@@ -377,7 +381,8 @@ class Db:
     def _ask_by_name(self, asked: Asked) -> None:
         connection = self._enlisted(asked)
         if asked.name is None:
-            asked.name, asked.at, asked.rest = secrets.token_urlsafe(16), connection.place or "", text(asked.body)[1:]
+            asked.name, asked.at, asked.rest, asked.sent = secrets.token_urlsafe(16), connection.place or "", text(asked.body)[1:], 0
+        asked.sent += 1
         connection.out.put_nowait(f'{{"id":{asked.id},"once":"{asked.name}","at":"{asked.at}",{asked.rest}')
 
     # Sends what was never sent, in its order, as far as it may be.
@@ -386,7 +391,7 @@ class Db:
         assert connection is not None
         for asked in [*self._waiting]:
             by_name = asked.by_name and connection.place is not None
-            if by_name and sum(it.name is not None for it in connection.asked) + len(self._kept) >= OPEN_WRITES:
+            if by_name and (connection.late or sum(it.name is not None for it in connection.asked) + len(self._kept) >= OPEN_WRITES):
                 return
             self._waiting.remove(asked)
             if asked.timer:
@@ -417,6 +422,8 @@ class Db:
                 self._kept.remove(asked)
                 self._ask_by_name(asked)
 
+        if asked.sent == 1:
+            asked.sent = 0  # it was not carried out
         self._kept.append(asked)
         timer = self._loop.call_later(self.timing.again, act)
         self._timers.add(timer)
@@ -553,6 +560,9 @@ class Db:
             code = said["undecided"]
             if code == AGAIN and asked.name is not None:
                 return self._keep_for_later(asked)
+            if code == LATE and asked.name is not None and asked.sent == 1:
+                asked.name = asked.timer = None
+                return connection.late.append(asked)
             return connection.replied.append(lambda: asked.come(Undecided(code)))
         reply = said.get("answer", said)
         if reply.get("ok"):
@@ -565,6 +575,9 @@ class Db:
         replied, connection.replied = connection.replied, []
         for act in replied:
             act()
+        # What was sent once, and came too late, was not carried out. Who comes anew is told another place, and sends it by another name.
+        if connection.late and all(it.name is None for it in connection.asked):
+            raise _Lost("others of its holder have had many names")
         if self.role is not None and connection is self._connection:
             self._flush()
         if not connection.is_in:

@@ -61,6 +61,8 @@ pub struct Hall {
     pub swept: u64,
     /// Some of those may wait to be sent to.
     pub gathering: bool,
+    /// The number at which the next round goes on to send to them; 0 if no part of them is left.
+    pub next: u32,
     /// Milliseconds since the start.
     pub now: u64,
     /// The lines on standard error.
@@ -103,24 +105,66 @@ fn elder(found: Option<(u64, u32)>, until: Option<u64>, at: u32) -> Option<(u64,
     }
 }
 
-impl Hall {
-    /// Places for as many.
+/// A place for each number below this, which no connection has.
+fn no_sockets(alloc: Global, most: u32) -> Result<Vec<Option<Socket>>, AllocError> {
+    let mut sockets = Vec::new(alloc);
+    for _ in 0..most {
+        sockets.push(None)?;
+    }
+    Ok(sockets)
+}
+
+/// The numbers below this, from the last to the first.
+fn all_numbers(alloc: Global, most: u32) -> Result<Vec<u32>, AllocError> {
+    let mut numbers = Vec::new(alloc);
+    for at in 0..most {
+        numbers.push(most - 1 - at)?;
+    }
+    Ok(numbers)
+}
+
+/// What a hall has before there are doors.
+#[derive(Drop)]
+pub struct Places {
+    /// The numbers are below this.
+    most: u32,
+    /// The folder of pages, if there is one.
+    pages: Option<String>,
+    /// The numbers that no connection has.
+    free: Vec<u32>,
+    /// A place for each number.
+    sockets: Vec<Option<Socket>>,
+}
+
+impl Places {
+    /// As many, which no connection has.
     ///
     /// # Errors
     /// `AllocError` if a growth of memory was refused.
-    pub fn new(
-        alloc: Global,
-        most: u32,
-        doors: Doors,
-        pages: Option<String>,
-    ) -> Result<Hall, AllocError> {
-        let mut sockets = Vec::new(alloc);
-        let mut free = Vec::new(alloc);
-        for at in 0..most {
-            sockets.push(None)?;
-            free.push(most - 1 - at)?;
+    pub fn new(alloc: Global, most: u32, pages: Option<String>) -> Result<Places, AllocError> {
+        let free = all_numbers(alloc, most)?;
+        match no_sockets(alloc, most) {
+            Err(error) => Err(error),
+            Ok(sockets) => Ok(Places {
+                most,
+                pages,
+                free,
+                sockets,
+            }),
         }
-        Ok(Hall {
+    }
+}
+
+impl Hall {
+    /// One with these places and doors, in which nobody is.
+    pub fn new(alloc: Global, places: Places, doors: Doors) -> Hall {
+        let Places {
+            most,
+            pages,
+            free,
+            sockets,
+        } = places;
+        Hall {
             alloc,
             most,
             sockets,
@@ -133,12 +177,13 @@ impl Hall {
             again: false,
             swept: 0,
             gathering: false,
+            next: 0,
             now: 0,
             log: Log::new(),
             counts: Counts::new(),
             doors,
             pages,
-        })
+        }
     }
 
     /// Milliseconds to wait for something to come, at most.
@@ -390,6 +435,7 @@ impl Hall {
         self.note_all(events)?;
         self.accept(rt, desk, poll, listener)?;
         self.read_all(rt, desk, journal)?;
+        self.send_before(desk)?;
         journal.note(mem::replace(&mut self.shares, Vec::new(self.alloc)));
         settle(desk, journal)?;
         self.send_all(desk)?;

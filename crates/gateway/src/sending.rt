@@ -1,4 +1,5 @@
-//! What a round sends: first to those who asked in it, then to all others, at most so often if they are many; and whom it lets go.
+//! What a round sends: first to those who asked in it, then to the others, to so many at most, and at most so often if they are many; and whom
+//! it lets go.
 ghost use Rattle.gateway.specs.Running.{Leads};
 
 use crate::fault::Fault;
@@ -11,6 +12,9 @@ use std::mem;
 
 /// Writes to a socket in a round, at most.
 const WRITES: u32 = 64;
+
+/// Others who are sent to in a round, at most: those who ask meanwhile wait for no more than these.
+const OTHERS: u32 = 512;
 
 /// Milliseconds for the other end to close, at most.
 const ENDING: u64 = 2_000;
@@ -131,14 +135,27 @@ impl Hall {
         }
     }
 
-    /// Sends to a number, if it may be sent something now.
-    fn send_owed(&mut self, desk: &mut Desk, at: u32) -> Result<(), Fault>
+    /// Sends to a number, if it may be sent something now. Whether it may.
+    fn send_owed(&mut self, desk: &mut Desk, at: u32) -> Result<bool, Fault>
         ensures { Leads desk.old desk.new }
     {
         if !self.is_owed(desk, at) {
-            return Ok(());
+            return Ok(false);
         }
-        self.send(desk, at)
+        self.send(desk, at)?;
+        Ok(true)
+    }
+
+    /// Sends to those who asked in this round what they were offered before. Who has taken that is offered the reply in this round, too.
+    pub fn send_before(&mut self, desk: &mut Desk) -> Result<(), Fault>
+        ensures { Leads desk.old desk.new }
+    {
+        let asked = mem::replace(&mut self.asked, Vec::new(self.alloc));
+        for at in asked.iter() {
+            self.send_owed(desk, *at)?;
+        }
+        self.asked = asked;
+        Ok(())
     }
 
     /// Sends to those who asked in this round.
@@ -152,32 +169,46 @@ impl Hall {
         Ok(())
     }
 
-    /// Sends to all who may be sent something now.
-    fn sweep(&mut self, desk: &mut Desk) -> Result<(), Fault>
+    /// Sends to those who may be sent something now, from the number on at which the round before has stopped, until so many were sent to.
+    /// Whether anybody was.
+    fn sweep(&mut self, desk: &mut Desk) -> Result<bool, Fault>
         ensures { Leads desk.old desk.new }
     {
-        for at in 0..self.most {
-            self.send_owed(desk, at)?;
+        let mut count: u32 = 0;
+        for at in self.next..self.most {
+            if count == OTHERS {
+                self.next = at;
+                return Ok(true);
+            }
+            if self.send_owed(desk, at)? {
+                count = count.saturating_add(1);
+            }
         }
-        Ok(())
+        self.next = 0;
+        Ok(count > 0)
     }
 
-    /// Sends first to those who asked in this round, then to all others, if it is time for these. What they are told before is offered to them
-    /// once they have taken the last message, so it is one message.
+    /// Sends first to those who asked in this round, then to a part of the others, if it is time for these; the next round goes on at once
+    /// with those who are left. What they are told before is offered to them once they have taken the last message, so it is one message.
     pub fn send_all(&mut self, desk: &mut Desk) -> Result<(), Fault>
         ensures { Leads desk.old desk.new }
     {
         self.send_asked(desk)?;
-        let is_gathered = self.gathering;
-        self.gathering = !self.may_sweep();
-        if self.gathering {
-            return Ok(());
+        let was_left = self.next > 0;
+        if !was_left {
+            if !self.may_sweep() {
+                self.gathering = true;
+                return Ok(());
+            }
+            self.swept = self.now;
         }
-        self.swept = self.now;
-        if is_gathered {
+        let is_sent = self.sweep(desk)?;
+        let is_part = was_left || self.next > 0;
+        self.gathering = is_part || self.gathering && is_sent;
+        if self.gathering {
             self.again = true;
         }
-        self.sweep(desk)
+        Ok(())
     }
 
     /// Lets go who is gone.

@@ -4,7 +4,7 @@ ghost use Rattle.gateway.specs.Running.{Leads};
 
 use crate::doors::Doors;
 use crate::fault::Fault;
-use crate::hall::{Hall, LISTENER};
+use crate::hall::{Hall, LISTENER, Places};
 use crate::opening::{come_back, open_journal};
 use crate::said::{SYSTEM, UNUSABLE, failed, no_secret, out_of_memory, say_tokens};
 use crate::steps::{forgive, tick};
@@ -209,12 +209,6 @@ fn copied(text: &Option<String>) -> Result<Option<String>, AllocError> {
     }
 }
 
-/// The hall that the settings ask for.
-fn new_hall(alloc: Global, settings: &Settings, doors: Doors) -> Result<Hall, AllocError> {
-    let pages = copied(&settings.pages)?;
-    Hall::new(alloc, settings.clients, doors, pages)
-}
-
 /// Opens the file of tokens, or says why it is not taken.
 fn open_tokens(rt: &HostRuntime, path: String) -> Result<(TokenFile, Vec<Entry>), u8> {
     match TokenFile::open(rt, path) {
@@ -252,8 +246,48 @@ fn new_doors(
     }
 }
 
-/// Brings a new desk to where the journal leads, and serves, with the tokens of these entries.
+/// Brings a new desk that knows these tokens to where the journal leads, and serves.
 fn serve_anew(
+    rt: &HostRuntime,
+    settings: &Settings,
+    file: &mut TokenFile,
+    hall: &mut Hall,
+    tokens: Vec<Token>,
+) -> Result<(), u8>
+    requires { AreValid settings.now }
+{
+    let (found, bytes) = open_journal(rt, settings)?;
+    let (mut desk, mut journal) = come_back(rt, settings, tokens, found, bytes)?;
+    open(rt, &mut desk, hall, settings, &mut journal, file)
+}
+
+/// The places that the settings ask for.
+fn new_places(alloc: Global, settings: &Settings) -> Result<Places, AllocError> {
+    let pages = copied(&settings.pages)?;
+    Places::new(alloc, settings.clients, pages)
+}
+
+/// Serves behind these doors, over a new desk that knows these tokens.
+fn serve_behind(
+    rt: &HostRuntime,
+    settings: &Settings,
+    file: &mut TokenFile,
+    doors: Doors,
+    tokens: Vec<Token>,
+) -> Result<(), u8>
+    requires { AreValid settings.now }
+{
+    match new_places(rt.alloc(), settings) {
+        Err(_) => Err(out_of_memory(rt)),
+        Ok(places) => {
+            let mut hall = Hall::new(rt.alloc(), places, doors);
+            serve_anew(rt, settings, file, &mut hall, tokens)
+        }
+    }
+}
+
+/// Serves by the tokens of these entries.
+fn serve_by(
     rt: &HostRuntime,
     settings: &Settings,
     file: &mut TokenFile,
@@ -261,13 +295,10 @@ fn serve_anew(
 ) -> Result<(), u8>
     requires { AreValid settings.now }
 {
-    let (doors, tokens) = new_doors(rt, settings, entries)?;
-    let Ok(mut hall) = new_hall(rt.alloc(), settings, doors) else {
-        return Err(out_of_memory(rt));
-    };
-    let (found, bytes) = open_journal(rt, settings)?;
-    let (mut desk, mut journal) = come_back(rt, settings, tokens, found, bytes)?;
-    open(rt, &mut desk, &mut hall, settings, &mut journal, file)
+    match new_doors(rt, settings, entries) {
+        Err(status) => Err(status),
+        Ok((doors, tokens)) => serve_behind(rt, settings, file, doors, tokens),
+    }
 }
 
 /// Serves as the settings say.
@@ -281,5 +312,5 @@ pub fn work(rt: &HostRuntime, settings: &Settings) -> Result<(), u8>
         return Err(out_of_memory(rt));
     };
     let (mut file, entries) = open_tokens(rt, path)?;
-    serve_anew(rt, settings, &mut file, entries)
+    serve_by(rt, settings, &mut file, entries)
 }

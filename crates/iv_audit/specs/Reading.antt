@@ -1,6 +1,6 @@
 -- Which lines of a journal are the gateway's.
-use Rattle.std.specs.Prelude.{◌≡◌, ◌⊎◌, ℕ, ◌==◌, Bool, true, false, if◌then◌else◌, List, [], ◌∷◌, ◌++◌, Option, None, Some, bytes_eq, drop, map, option_map, take}
-use Rattle.std.specs.List.{AllByRecursion, list_any}
+use Rattle.std.specs.Prelude.{◌≡◌, ◌⊎◌, ℕ, ◌+◌, ◌==◌, Bool, true, false, if◌then◌else◌, List, [], ◌∷◌, ◌++◌, Option, None, Some, bytes_eq, drop, length, map, option_map, take}
+use Rattle.std.specs.List.{AllByRecursion, list_any, sum_by}
 use Rattle.iv_journal.specs.Journal.{Line, journal_of, is_text, mark}
 use Rattle.iv_journal.specs.Reading.{IsReading, Reading}
 use Rattle.iv_journal.specs.Ends.{AreEnded}
@@ -83,7 +83,8 @@ plain_text (b ∷ line) = if b == 123 then line else []
 abbrev pub plain_line : List ℕ → Line
 plain_line line = record { is_last = true; text = plain_text line }
 
--- these are its lines, and after them is none that has its end
+-- these are its lines, which have so many bytes with their ends, and after them is none that has its end
 pub record IsPlain (bytes : List ℕ) (p : Plain) : Type 0 where
   pub lines : p.lines.items ≡ map plain_line (ended_lines [] bytes)
   pub rest : list_any (λ b. b == 10) (drop p.length bytes) ≡ false
+  pub length : p.length ≡ sum_by (λ line. length line + 1) (ended_lines [] bytes)

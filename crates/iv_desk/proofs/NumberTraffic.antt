@@ -332,11 +332,11 @@ admitted_lives s t d token h k e m n = record {
 -- the token that is found has the digest by which it is looked for
 digest_of : (ts : List Token) (digest : List ℕ) (t : Token) → token_of ts digest ≡ Some t → t.digest ≡ digest
 digest_of [] digest t h = absurd (none_some t h)
-digest_of (x ∷ ts) digest t h = by (bytes_eq x.digest digest) refl h
+digest_of (x ∷ ts) digest t h = by (bytes_eq x.digest digest) refl (digest_of ts digest t) h
   where
-    by : (b : Bool) → bytes_eq x.digest digest ≡ b → cond b (Some x) (token_of ts digest) ≡ Some t → t.digest ≡ digest
-    by true e k = ap (λ (y : Token). y.digest) (sym (one_some x t k)) ∙ (bytes_eq-Decides x.digest digest).0 e
-    by false e k = digest_of ts digest t k
+    by : (b : Bool) → bytes_eq x.digest digest ≡ b → (token_of ts digest ≡ Some t → t.digest ≡ digest) → cond b (Some x) (token_of ts digest) ≡ Some t → t.digest ≡ digest
+    by true e rest k = ap (λ (y : Token). y.digest) (sym (one_some x t k)) ∙ (bytes_eq-Decides x.digest digest).0 e
+    by false e rest k = rest k
 
 token_lives : Laws → (cap : ℕ) (g : Gate) (m : ℕ) (s t : Socket) (token : List ℕ) → Runs cap g → g.dead ≡ false → Hears s (Some token) t
     → has_presented s ≡ false

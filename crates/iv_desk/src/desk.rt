@@ -239,7 +239,7 @@ impl Desk {
 
     /// Forgives names that were refused: once a minute. A dead desk does nothing.
     pub fn forgive(&mut self)
-        ensures front { (d : Front) → IsDesk d self.old → IsDesk (by_event forgave d) self.new }
+        ensures { (d : Front) → IsDesk d self.old → IsDesk (by_event forgave d) self.new }
     {
         events_leave_their_marks();
         if self.dead {

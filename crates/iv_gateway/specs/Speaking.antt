@@ -8,9 +8,8 @@ use Rattle.iv_message.specs.Seen.{id_data}
 use Rattle.iv_message.specs.declared.message.Id.{Id}
 use Rattle.iv_clients.specs.Journal.{Request, name_text, record_of}
 use Rattle.iv_clients.specs.Kept.{Kept, may_ask}
-use Rattle.iv_clients.specs.Names.{Claim}
 use Rattle.iv_clients.specs.Parsed.{text_of_request}
-use Rattle.iv_gate.specs.Gate.{Gate, entries_of, shape_text}
+use Rattle.iv_gate.specs.Gate.{entries_of, shape_text}
 use Rattle.iv_journal.specs.Journal.{Line}
 use Rattle.iv_once.specs.Names.{Ask, Named}
 

@@ -1,6 +1,7 @@
 -- The lines before the first entry, and those after them.
 use Rattle.std.proofs.Common.{◌≡◌, ℕ, suc, Bool, true, false, cond, List, [], ◌∷◌, ◌++◌, ◌+◌, ◌<◌, ◌≤◌, append_assoc, append-nil, drop, drop-drop, drop_of_length-le, get_or, length, map, Option, Some, None, is_some, refl, ap, ◌∙◌, sym, arith}
-use Rattle.std.specs.Prelude.{bytes_eq}
+use Rattle.std.specs.Prelude.{IfSome, bytes_eq}
+use Rattle.std.specs.Int.{from_bool}
 use Rattle.std.specs.List.{AllByRecursion}
 use Rattle.std.proofs.lemmas.Bool.{false≢true}
 use Rattle.std.proofs.lemmas.List.{at_drop_more}
@@ -8,7 +9,7 @@ use Rattle.std.proofs.lemmas.Slice.Eq.{bytes_eq-Decides}
 use Rattle.iv_rows.specs.Options.{if_some}
 use Rattle.iv_journal.specs.Journal.{Line}
 use Rattle.iv_clients.proofs.Cuts.{passed}
-use Rattle.iv_head.specs.Begun.{Begun, Followed, IsBegun, IsReadBack, IsStanding, SaysNothing, Standing, begun_in, followed_in, line, lines_of, log_in, log_text, said_log, said_standing, standing_in, standing_text, standings_in}
+use Rattle.iv_head.specs.Begun.{Begun, Followed, IsBegun, IsFollowed, IsReadBack, IsStanding, SaysNothing, Standing, begun_in, followed_in, line, lines_of, log_in, log_text, said_log, said_standing, standing_in, standing_text, standings_in}
 use Rattle.iv_head.proofs.Entries.{entries_say}
 use Rattle.iv_head.proofs.WrittenThere.{log_back, standing_back}
 
@@ -31,22 +32,26 @@ no_log : (ss : List Standing) (ls : List Line) → log_in ls ≡ None → log_in
 no_log [] ls n = n
 no_log (s ∷ ss) ls n = refl
 
+-- a log, standings, and the lines after as many as these
+abbrev told : Option Followed → List Standing → List Line → Begun × List Line
+told log ss ls = (record { log = log; standings = ss }, drop (length ss) ls)
+
 abbrev with_log : Option Followed → List Line → Begun × List Line
-with_log log ls = let rest = cond (is_some log) (drop 1 ls) ls in
-    (record { log = log; standings = standings_in rest }, drop (length (standings_in rest)) rest)
+with_log log ls = told log (standings_in (cond (is_some log) (drop 1 ls) ls)) (cond (is_some log) (drop 1 ls) ls)
+
+abbrev pair : Begun → List Line → Begun × List Line
+pair b ls = (b, ls)
 
 rest_back : (log : Option Followed) (ss : List Standing) (ls : List Line) → AllByRecursion IsStanding ss → standings_in ls ≡ []
-    → (record { log = log; standings = standings_in (said ss ++ ls) }, drop (length (standings_in (said ss ++ ls))) (said ss ++ ls))
-    ≡ (record { log = log; standings = ss }, ls)
+    → told log (standings_in (said ss ++ ls)) (said ss ++ ls) ≡ pair (record { log = log; standings = ss }) ls
 rest_back log ss ls a n =
-    ap (λ z. (record { log = log; standings = z }, drop (length z) (said ss ++ ls))) (standings_back ss ls a n)
-    ∙ ap (λ z. (record { log = log; standings = ss }, z)) (behind_said ss ls)
+    ap (λ z. told log z (said ss ++ ls)) (standings_back ss ls a n) ∙ ap (pair (record { log = log; standings = ss })) (behind_said ss ls)
 
 begun_back : (b : Begun) (ls : List Line) → IsBegun b → SaysNothing ls → begun_in (lines_of b ++ ls) ≡ (b, ls)
 begun_back b ls w n = by b.log b.standings w.log w.standings
   where
-    by : (log : Option Followed) (ss : List Standing) → (IsBegun (record { log = log; standings = ss })).log → AllByRecursion IsStanding ss
-        → begun_in (lines_of (record { log = log; standings = ss }) ++ ls) ≡ (record { log = log; standings = ss }, ls)
+    by : (log : Option Followed) (ss : List Standing) → IfSome log IsFollowed → AllByRecursion IsStanding ss
+        → begun_in (lines_of (record { log = log; standings = ss }) ++ ls) ≡ pair (record { log = log; standings = ss }) ls
     by None ss f a = ap (λ o. with_log o (said ss ++ ls)) (no_log ss ls n.0) ∙ rest_back None ss ls a n.1
     by (Some f) ss is a = ap (λ o. with_log o (line (log_text f) ∷ (said ss ++ ls))) (log_back f is) ∙ rest_back (Some f) ss ls a n.1
 
@@ -66,15 +71,15 @@ AreWritten ls ss = ls ≡ said ss ++ drop (length ss) ls
 
 standings_written : (ls : List Line) → AreWritten ls (standings_in ls)
 standings_written [] = refl
-standings_written (l ∷ ls) = by l.is_last refl
+standings_written (l ∷ ls) = by l.is_last refl (standings_written ls)
   where
-    some : l.is_last ≡ true → (o : Option Standing) → standing_in l.text ≡ o → AreWritten (l ∷ ls) (if_some o [] (λ s. s ∷ standings_in ls))
-    some e None h = refl
-    some e (Some s) h = λ i. one_line l (standing_text s) e (standing_sound l.text s h) i ∷ standings_written ls i
+    some : l.is_last ≡ true → (o : Option Standing) → standing_in l.text ≡ o → AreWritten ls (standings_in ls) → AreWritten (l ∷ ls) (if_some o [] (λ s. s ∷ standings_in ls))
+    some e None h more = refl
+    some e (Some s) h more = λ i. one_line l (standing_text s) e (standing_sound l.text s h) i ∷ more i
 
-    by : (b : Bool) → l.is_last ≡ b → AreWritten (l ∷ ls) (cond b (if_some (standing_in l.text) [] (λ s. s ∷ standings_in ls)) [])
-    by false e = refl
-    by true e = some e (standing_in l.text) refl
+    by : (b : Bool) → l.is_last ≡ b → AreWritten ls (standings_in ls) → AreWritten (l ∷ ls) (cond b (if_some (standing_in l.text) [] (λ s. s ∷ standings_in ls)) [])
+    by false e more = refl
+    by true e more = some e (standing_in l.text) refl more
 
 abbrev IsWrittenSo : List Line → Option Followed → Type 0
 IsWrittenSo ls log = ls ≡ lines_of (with_log log ls).0 ++ (with_log log ls).1
@@ -132,26 +137,21 @@ standings_short (l ∷ ls) = by l.is_last (standing_in l.text) (standings_short 
     by true None h = omega arith
     by true (Some s) h = omega (arith, h)
 
--- with the line of a log, if there is one
-abbrev first : Bool → ℕ
-first has = cond has 1 0
-
-pub said_within : (ls : List Line) (has : Bool) (count : ℕ) → has ≡ is_some (log_in ls) → count ≡ first has + length (standings_in (cond has (drop 1 ls) ls)) → count ≤ length ls
+pub said_within : (ls : List Line) (has : Bool) (count : ℕ) → has ≡ is_some (log_in ls) → count ≡ from_bool has + length (standings_in (cond has (drop 1 ls) ls)) → count ≤ length ls
 said_within ls false count h e = let short = standings_short ls in omega (arith, short, e)
 said_within [] true count h e = absurd (false≢true (sym h))
 said_within (l ∷ ls) true count h e = let short = standings_short ls in omega (arith, short, e)
 
-behind_all : (ls : List Line) (has : Bool) (n count : ℕ) → count ≡ first has + n → drop count ls ≡ drop n (cond has (drop 1 ls) ls)
-behind_all ls false n count e = ap (λ m. drop m ls) e
+behind_all : (ls : List Line) (has : Bool) (n count : ℕ) → count ≡ from_bool has + n → drop count ls ≡ drop n (cond has (drop 1 ls) ls)
+behind_all ls false n count e = ap (λ m. drop m ls) (let k : count ≡ 0 + n = e in let same : count ≡ n = omega (arith, k) in same)
 behind_all ls true n count e = ap (λ m. drop m ls) e ∙ sym (drop-drop n 1 ls)
 
 pub begun_is : (ls : List Line) (log : Option Followed) (has : Bool) (ss : List Standing) (count : ℕ) → log ≡ log_in ls → has ≡ is_some log → ss ≡ standings_in (cond has (drop 1 ls) ls)
-    → count ≡ first has + length ss → (record { log = log; standings = ss }, drop count ls) ≡ begun_in ls
+    → count ≡ from_bool has + length ss → pair (record { log = log; standings = ss }) (drop count ls) ≡ begun_in ls
 begun_is ls log has ss count l h s e =
-    ap (λ z. (record { log = log; standings = ss }, z)) (behind_all ls has (length ss) count e)
-    ∙ (ap (λ z. (record { log = log; standings = z }, drop (length z) (cond has (drop 1 ls) ls))) s
-    ∙ (ap (λ b. (record { log = log; standings = standings_in (cond b (drop 1 ls) ls) }, drop (length (standings_in (cond b (drop 1 ls) ls))) (cond b (drop 1 ls) ls))) h
-    ∙ ap (λ o. with_log o ls) l))
+    ap (pair (record { log = log; standings = ss })) (behind_all ls has (length ss) count e)
+    ∙ (ap (λ z. told log z (cond has (drop 1 ls) ls)) s
+    ∙ (ap (λ b. told log (standings_in (cond b (drop 1 ls) ls)) (cond b (drop 1 ls) ls)) h ∙ ap (λ o. with_log o ls) l))
 
 pub read_back : IsReadBack
 read_back = record { back = begun_back; entries = entries_say; written = log_written }

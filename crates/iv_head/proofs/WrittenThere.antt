@@ -1,5 +1,5 @@
 -- What is written of where names stand, and of a log, is read back.
-use Rattle.std.proofs.Common.{◌≡◌, ℕ, Bool, true, false, cond, ◌&&◌, ◌||◌, List, [], ◌∷◌, ◌++◌, length, Option, Some, None, option_map, refl, ap, ◌∙◌, append_assoc}
+use Rattle.std.proofs.Common.{◌≡◌, ℕ, Bool, true, false, cond, ◌&&◌, ◌||◌, List, [], ◌∷◌, ◌++◌, length, Some, None, option_map, refl, ap, ◌∙◌, append_assoc}
 use Rattle.std.specs.Prelude.{◌==◌, bytes_eq, codes, decimal, option_and_then}
 use Rattle.std.specs.List.{list_all}
 use Rattle.std.specs.Str.{is_utf8}
@@ -7,9 +7,8 @@ use Rattle.std.proofs.lemmas.Slice.Eq.{bytes_eq-Decides}
 use Rattle.json.specs.Print.{escape}
 use Rattle.iv_once.specs.Names.{Place}
 use Rattle.iv_request.specs.Request.{passing}
-use Rattle.iv_clients.specs.Names.{count_in, is_between, is_count, is_epoch, place_text}
-use Rattle.iv_clients.specs.Parsed.{cut_quote, string_in}
-use Rattle.iv_clients.specs.Tokens.{cut_at}
+use Rattle.iv_clients.specs.Names.{is_between, is_count, is_epoch, place_text}
+use Rattle.iv_clients.specs.Parsed.{cut_quote}
 use Rattle.iv_clients.proofs.Cuts.{HasNo, both_true, cut_there, let_pass, none_in_both, none_passes, string_cut}
 use Rattle.iv_clients.proofs.Spelling.{count_read, decimal_no_brace, decimal_no_quote, string_read}
 use Rattle.iv_head.specs.Begun.{Followed, IsFollowed, IsStanding, Standing, followed_in, log_behind, log_parts, log_text, log_with, place_by, place_in, standing_in, standing_parts, standing_text, standing_with}

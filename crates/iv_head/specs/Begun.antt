@@ -1,5 +1,5 @@
 -- What a journal says between its head and its first entry.
-use Rattle.std.specs.Prelude.{◌≡◌, ℕ, ◌+◌, ◌&&◌, Bool, true, false, if◌then◌else◌, List, [], ◌∷◌, ◌++◌, bytes_eq, codes, decimal, drop, length, map, Option, None, Some, is_some, option_and_then, option_map}
+use Rattle.std.specs.Prelude.{◌≡◌, ℕ, ◌&&◌, true, false, if◌then◌else◌, List, [], ◌∷◌, ◌++◌, bytes_eq, codes, decimal, drop, length, map, Option, None, IfSome, is_some, option_and_then, option_map}
 use Rattle.std.specs.List.{AllByRecursion}
 use Rattle.std.specs.Str.{is_utf8}
 use Rattle.serde_json.specs.Data.{string}
@@ -113,7 +113,7 @@ abbrev pub IsFollowed : Followed → Type 0
 IsFollowed f = (is_utf8 f.name && (is_epoch f.epoch && is_count f.position)) ≡ true
 
 pub record IsBegun (b : Begun) : Type 0 where
-  pub log : if_some b.log (⊤) IsFollowed
+  pub log : IfSome b.log IsFollowed
   pub standings : AllByRecursion IsStanding b.standings
 
 -- no line says where names stand, or which log is followed

@@ -526,11 +526,10 @@ fn log_in(
 fn behind_log<'l, 'a>(lines: &'l [Line<'a>], has_log: bool) -> &'l [Line<'a>]
     ensures { result.now ≡ (if has_log then drop 1 lines.now else lines.now) }
 {
-    if has_log {
-        lines.get(1..).unwrap_or(&[])
-    } else {
-        lines
+    if has_log && !lines.is_empty() {
+        return &lines[1..];
     }
+    lines
 }
 
 /// What a journal's lines after its head say before its first entry, and how many of them say it.

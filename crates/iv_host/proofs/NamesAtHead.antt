@@ -1,5 +1,5 @@
 -- What is known of names by where they stand is what a head says of them.
-use Rattle.std.proofs.Common.{◌≡◌, ℕ, Bool, true, false, cond, List, [], ◌∷◌, Option, Some, None, option_map, refl}
+use Rattle.std.proofs.Common.{◌≡◌, ℕ, Bool, true, false, cond, List, [], ◌∷◌, Option, Some, option_map, refl}
 use Rattle.std.specs.Prelude.{bytes_eq}
 use Rattle.iv_once.specs.Names.{Known, Own, begun}
 use Rattle.iv_once.specs.Runs.{nothing_known}

@@ -30,8 +30,16 @@ impl Why {
     }
 }
 
-/// Bounds of the time of a sync, in microseconds.
-pub const BOUNDS: [u64; 7] = [300, 1_000, 3_000, 10_000, 30_000, 100_000, 1_000_000];
+/// Bounds of the time of a sync, in microseconds, and the same in seconds.
+pub const BOUNDS: [(u64, &str); 7] = [
+    (300, "0.0003"),
+    (1_000, "0.001"),
+    (3_000, "0.003"),
+    (10_000, "0.01"),
+    (30_000, "0.03"),
+    (100_000, "0.1"),
+    (1_000_000, "1"),
+];
 
 /// What the program counts since its start.
 #[derive(Clone, Copy)]

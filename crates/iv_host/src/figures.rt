@@ -7,7 +7,7 @@ ghost use Rattle.iv_host.specs.Roles.{by_role, first_at, more_at};
 use crate::counts::{BOUNDS, Counts, raise};
 use crate::journal::{FileJournal, Syncs};
 use iv_gateway::{KINDS, Tally};
-use iv_pages::{Label, Metric, push_counter, push_gauge, push_histogram, push_sample};
+use iv_pages::{Bucket, Label, Metric, push_counter, push_gauge, push_histogram, push_sample};
 use std::alloc::{AllocError, Global};
 use std::fs;
 
@@ -262,10 +262,13 @@ fn push_refused(out: &mut Vec<u8>, tally: &Tally) -> Result<(), AllocError> {
 }
 
 /// Bounds of times of syncs, each with how many syncs took at most so long.
-fn buckets_of(alloc: Global, syncs: &Syncs) -> Result<Vec<(u64, u64)>, AllocError> {
+fn buckets_of(alloc: Global, syncs: &Syncs) -> Result<Vec<Bucket<'static>>, AllocError> {
     let mut buckets = Vec::new(alloc);
     for at in 0..7 {
-        buckets.push((BOUNDS[at], syncs.within[at]))?;
+        buckets.push(Bucket {
+            bound: BOUNDS[at].1,
+            count: syncs.within[at],
+        })?;
     }
     Ok(buckets)
 }
@@ -287,7 +290,7 @@ fn push_journal(out: &mut Vec<u8>, journal: &FileJournal) -> Result<(), AllocErr
     let syncs = journal.syncs();
     let buckets = buckets_of(*out.allocator(), syncs)?;
     let metric = Metric {
-        name: "gateway_sync_microseconds",
+        name: "gateway_sync_seconds",
         help: "Time of a write and sync of the journal",
     };
     push_histogram(out, &metric, &[], &buckets, syncs.count, syncs.time)

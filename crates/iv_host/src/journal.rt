@@ -53,7 +53,7 @@ pub struct Syncs {
 /// Counts one that took as many microseconds, at each bound that is not less.
 fn note_within(within: &mut [u64; 7], micros: u64) {
     for at in 0..7 {
-        if micros <= BOUNDS[at] {
+        if micros <= BOUNDS[at].0 {
             raise(&mut within[at], 1);
         }
     }

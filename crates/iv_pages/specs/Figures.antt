@@ -1,5 +1,5 @@
 -- Figures as text (Prometheus: Exposition formats, text format 0.0.4).
-use Rattle.std.specs.Prelude.{ℕ, ◌==◌, if◌then◌else◌, List, [], ◌∷◌, ◌++◌, flat_map, codes, decimal}
+use Rattle.std.specs.Prelude.{ℕ, ◌==◌, ◌+◌, ◌/◌, ◌%◌, if◌then◌else◌, List, [], ◌∷◌, ◌++◌, drop, flat_map, codes, decimal}
 
 -- a name and a value
 abbrev pub Labelled : Type 0
@@ -27,6 +27,10 @@ labels_text (l ∷ ls) = codes "{" ++ (label_text l ++ (further_labels ls ++ cod
 abbrev pub end_line : ℕ → List ℕ
 end_line value = codes " " ++ (decimal value ++ codes "\n")
 
+-- millionths as a decimal fraction
+abbrev pub end_of_millionths : ℕ → List ℕ
+end_of_millionths n = codes " " ++ (decimal (n / 1000000) ++ (codes "." ++ (drop 1 (decimal (1000000 + n % 1000000)) ++ codes "\n")))
+
 abbrev pub named_line : (name ending : List ℕ) → List Labelled → ℕ → List ℕ
 named_line name ending labels value = name ++ (ending ++ (labels_text labels ++ end_line value))
 
@@ -50,13 +54,20 @@ abbrev pub bucket_line : (name : List ℕ) → List Labelled → (bound : List �
 bucket_line name labels bound count =
     name ++ (codes "_bucket{le=\"" ++ (bound ++ (codes "\"" ++ (further_labels labels ++ (codes "}" ++ end_line count)))))
 
--- a bound and a count
-abbrev pub counted_line : (name : List ℕ) → List Labelled → ℕ × ℕ → List ℕ
-counted_line name labels bucket = bucket_line name labels (decimal bucket.0) bucket.1
+-- a bound, as text, and a count
+abbrev pub Counted : Type 0
+Counted = List ℕ × ℕ
 
-abbrev pub histogram_text : (name help : List ℕ) → List Labelled → (buckets : List (ℕ × ℕ)) → (count sum : ℕ) → List ℕ
+abbrev pub counted_line : (name : List ℕ) → List Labelled → Counted → List ℕ
+counted_line name labels bucket = bucket_line name labels bucket.0 bucket.1
+
+-- the sum is in millionths
+abbrev pub sum_line : (name : List ℕ) → List Labelled → ℕ → List ℕ
+sum_line name labels sum = name ++ (codes "_sum" ++ (labels_text labels ++ end_of_millionths sum))
+
+abbrev pub histogram_text : (name help : List ℕ) → List Labelled → List Counted → (count sum : ℕ) → List ℕ
 histogram_text name help labels buckets count sum =
     heading name help (codes "histogram")
     ++ (flat_map (counted_line name labels) buckets
     ++ (bucket_line name labels (codes "+Inf") count
-    ++ (named_line name (codes "_sum") labels sum ++ named_line name (codes "_count") labels count)))
+    ++ (sum_line name labels sum ++ named_line name (codes "_count") labels count)))

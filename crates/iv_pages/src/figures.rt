@@ -1,7 +1,7 @@
 //! Figures in the text form of Prometheus: `push_counter`, `push_gauge`, `push_histogram`, and `push_sample` for more of one name.
-ghost use Rattle.std.specs.Prelude.{◌≡◌, ◌++◌, ◌∷◌, codes, decimal, flat_map, map, OnOk};
-ghost use Rattle.iv_pages.specs.Figures.{bucket_line, counted_line, counter_text, end_line, further_labels, gauge_text, heading, help_byte, histogram_text, label_byte, label_text, labels_text, named_line, sample_line};
-ghost use Rattle.iv_pages.specs.Shown.{label_of, labels_of};
+ghost use Rattle.std.specs.Prelude.{◌≡◌, ◌++◌, ◌∷◌, codes, decimal, drop, flat_map, map, OnOk};
+ghost use Rattle.iv_pages.specs.Figures.{bucket_line, counted_line, counter_text, end_line, end_of_millionths, further_labels, gauge_text, heading, help_byte, histogram_text, label_byte, label_text, labels_text, named_line, sample_line, sum_line};
+ghost use Rattle.iv_pages.specs.Shown.{bucket_of, label_of, labels_of};
 
 use itoa::Buffer;
 use std::alloc::AllocError;
@@ -13,6 +13,15 @@ pub struct Label<'a> {
     pub name: &'a str,
     /// Any text.
     pub value: &'a str,
+}
+
+/// A bucket of a histogram.
+#[derive(Clone, Copy)]
+pub struct Bucket<'a> {
+    /// A number, in the unit of the name.
+    pub bound: &'a str,
+    /// How many values are at most that.
+    pub count: u64,
 }
 
 /// What the figures of one name are.
@@ -113,6 +122,32 @@ fn push_number(out: &mut Vec<u8>, value: u64) -> Result<(), AllocError>
 {
     out.push(b' ')?;
     out.extend_from_slice(Buffer::new().format(value).as_bytes())?;
+    out.push(b'\n')?;
+    Ok(())
+}
+
+/// Appends what is behind the first byte.
+fn push_rest(out: &mut Vec<u8>, bytes: &[u8]) -> Result<(), AllocError>
+    ensures { OnOk result (out.new.items ≡ out.old.items ++ drop 1 bytes.now) }
+{
+    match bytes {
+        [] => Ok(()),
+        [_, rest @ ..] => {
+            out.extend_from_slice(rest)?;
+            Ok(())
+        }
+    }
+}
+
+/// Appends a space, millionths as a decimal fraction, and a newline.
+fn push_millionths(out: &mut Vec<u8>, value: u64) -> Result<(), AllocError>
+    ensures { OnOk result (out.new.items ≡ out.old.items ++ end_of_millionths value) }
+{
+    out.push(b' ')?;
+    out.extend_from_slice(Buffer::new().format(value / 1_000_000).as_bytes())?;
+    out.push(b'.')?;
+    let digits = 1_000_000 + value % 1_000_000;
+    push_rest(out, Buffer::new().format(digits).as_bytes())?;
     out.push(b'\n')?;
     Ok(())
 }
@@ -219,22 +254,16 @@ fn push_bound(
     Ok(())
 }
 
-/// Appends the line of a bucket, a bound and a count.
+/// Appends the line of a bucket.
 fn push_bucket(
     out: &mut Vec<u8>,
     name: &str,
     labels: &[Label<'_>],
-    bucket: &(u64, u64),
+    bucket: &Bucket<'_>,
 ) -> Result<(), AllocError>
-    ensures { OnOk result (out.new.items ≡ out.old.items ++ counted_line name.now (labels_of labels.now) bucket.now) }
+    ensures { OnOk result (out.new.items ≡ out.old.items ++ counted_line name.now (labels_of labels.now) (bucket_of bucket.now)) }
 {
-    push_bound(
-        out,
-        name,
-        labels,
-        Buffer::new().format(bucket.0).as_bytes(),
-        bucket.1,
-    )?;
+    push_bound(out, name, labels, bucket.bound.as_bytes(), bucket.count)?;
     Ok(())
 }
 
@@ -243,9 +272,9 @@ fn push_buckets(
     out: &mut Vec<u8>,
     name: &str,
     labels: &[Label<'_>],
-    buckets: &[(u64, u64)],
+    buckets: &[Bucket<'_>],
 ) -> Result<(), AllocError>
-    ensures { OnOk result (out.new.items ≡ out.old.items ++ flat_map (counted_line name.now (labels_of labels.now)) buckets.now) }
+    ensures { OnOk result (out.new.items ≡ out.old.items ++ flat_map (counted_line name.now (labels_of labels.now)) (map bucket_of buckets.now)) }
 {
     for bucket in buckets {
         push_bucket(out, name, labels, bucket)?;
@@ -253,8 +282,19 @@ fn push_buckets(
     Ok(())
 }
 
+/// Appends the line of a sum, which is in millionths.
+fn push_sum(out: &mut Vec<u8>, name: &str, labels: &[Label<'_>], sum: u64) -> Result<(), AllocError>
+    ensures { OnOk result (out.new.items ≡ out.old.items ++ sum_line name.now (labels_of labels.now) sum) }
+{
+    out.extend_from_slice(name.as_bytes())?;
+    out.extend_from_slice(b"_sum")?;
+    push_labels(out, labels)?;
+    push_millionths(out, sum)?;
+    Ok(())
+}
+
 /// Appends what a histogram is, and one of it: of each bound, in rising order, how many values are at most that; how many there are, and
-/// their sum.
+/// their sum, which is given in millionths of the name's unit.
 ///
 /// # Errors
 /// As of `push_sample`.
@@ -262,17 +302,17 @@ pub fn push_histogram(
     out: &mut Vec<u8>,
     metric: &Metric<'_>,
     labels: &[Label<'_>],
-    buckets: &[(u64, u64)],
+    buckets: &[Bucket<'_>],
     count: u64,
     sum: u64,
 ) -> Result<(), AllocError>
     ensures { OnOk result (out.new.items ≡ out.old.items
-        ++ histogram_text metric.now.name.now metric.now.help.now (labels_of labels.now) buckets.now count sum) }
+        ++ histogram_text metric.now.name.now metric.now.help.now (labels_of labels.now) (map bucket_of buckets.now) count sum) }
 {
     push_heading(out, metric, b"histogram")?;
     push_buckets(out, metric.name, labels, buckets)?;
     push_bound(out, metric.name, labels, b"+Inf", count)?;
-    push_named(out, metric.name, b"_sum", labels, sum)?;
+    push_sum(out, metric.name, labels, sum)?;
     push_named(out, metric.name, b"_count", labels, count)?;
     Ok(())
 }

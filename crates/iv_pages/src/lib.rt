@@ -11,6 +11,6 @@ mod places;
 
 pub use answers::{Page, Refusal, etag_of, push_page, push_refusal};
 pub use asking::{Ask, Wish, asked};
-pub use figures::{Label, Metric, push_counter, push_gauge, push_histogram, push_sample};
+pub use figures::{Bucket, Label, Metric, push_counter, push_gauge, push_histogram, push_sample};
 pub use kinds::{FIGURES_KIND, kind_of};
 pub use places::place_of;

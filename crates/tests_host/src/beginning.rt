@@ -94,8 +94,16 @@ fn what_came_before_is_read_back(rt: HostRuntime) -> Result<(), Fail> {
         assert_eq!(rt; line.text.as_slice(), LINES[at], "line {at}");
     }
     assert_eq!(rt; read(alloc, &LINES)?, (3, true), "read back");
-    assert_eq!(rt; read(alloc, &[LINES[1], LINES[2], OTHERS[0]])?, (2, true), "without a log");
-    assert_eq!(rt; read(alloc, &[OTHERS[0], LINES[1]])?, (0, true), "behind an entry");
+    assert_eq!(rt;
+        read(alloc, &[LINES[1], LINES[2], OTHERS[0]])?,
+        (2, true),
+        "without a log"
+    );
+    assert_eq!(rt;
+        read(alloc, &[OTHERS[0], LINES[1]])?,
+        (0, true),
+        "behind an entry"
+    );
     Ok(())
 }
 
@@ -112,10 +120,22 @@ fn names_stand_there(rt: HostRuntime) -> Result<(), Fail> {
     let alloc = rt.alloc();
     let other = "f123456789abcdef0123456789abcdef";
     let names = names_in(alloc, other, &begun(alloc)?.standings)?;
-    assert_eq!(rt; (names.epoch("bob/"), names.count("bob/")), (EPOCH, 0), "one that had none");
+    assert_eq!(rt;
+        (names.epoch("bob/"), names.count("bob/")),
+        (EPOCH, 0),
+        "one that had none"
+    );
     let mia = "mia/Ann \"Lee\" \\ \u{f6}";
-    assert_eq!(rt; (names.epoch(mia), names.count(mia)), (EPOCH, 17), "one that had some");
-    assert_eq!(rt; (names.epoch("eve/"), names.count("eve/")), (other, 0), "another one");
+    assert_eq!(rt;
+        (names.epoch(mia), names.count(mia)),
+        (EPOCH, 17),
+        "one that had some"
+    );
+    assert_eq!(rt;
+        (names.epoch("eve/"), names.count("eve/")),
+        (other, 0),
+        "another one"
+    );
     assert!(rt; epoch_in(alloc, b"0123")?.is_none(), "a short epoch");
     Ok(())
 }

@@ -1,8 +1,8 @@
 //! `heads_are_read`, `places_are_named`, `pages_are_answered`, `figures_are_text`: what a port is asked, and what it answers.
 use crate::texts::{bytes_of, cell, is_comment};
 use iv_pages::{
-    Ask, Label, Metric, Page, Refusal, Wish, asked, etag_of, kind_of, place_of, push_counter,
-    push_gauge, push_histogram, push_page, push_refusal, push_sample,
+    Ask, Bucket, Label, Metric, Page, Refusal, Wish, asked, etag_of, kind_of, place_of,
+    push_counter, push_gauge, push_histogram, push_page, push_refusal, push_sample,
 };
 use std::alloc::{AllocError, Global};
 use std::test::Fail;
@@ -371,7 +371,7 @@ fn refusals_are_answered(rt: HostRuntime) {
     }
 }
 
-/// Prometheus: Exposition formats, its example of escapes and its histogram, with whole numbers.
+/// Prometheus: Exposition formats, its example of escapes and its histogram, with whole numbers but for times.
 const FIGURES: &str = "# HELP msdos_file_access_time_seconds A \\\\ and a\\n\"line\".
 # TYPE msdos_file_access_time_seconds gauge
 msdos_file_access_time_seconds{path=\"C:\\\\DIR\\\\FILE.TXT\",error=\"Cannot find file:\\n\\\"FILE.TXT\\\"\"} 1458255915
@@ -382,13 +382,13 @@ http_requests_total{method=\"post\",code=\"400\"} 3
 # HELP lines_total 
 # TYPE lines_total counter
 lines_total 18446744073709551615
-# HELP wait_milliseconds A histogram.
-# TYPE wait_milliseconds histogram
-wait_milliseconds_bucket{le=\"50\",who=\"a\"} 24054
-wait_milliseconds_bucket{le=\"1000\",who=\"a\"} 133988
-wait_milliseconds_bucket{le=\"+Inf\",who=\"a\"} 144320
-wait_milliseconds_sum{who=\"a\"} 53423
-wait_milliseconds_count{who=\"a\"} 144320
+# HELP wait_seconds A histogram.
+# TYPE wait_seconds histogram
+wait_seconds_bucket{le=\"0.05\",who=\"a\"} 24054
+wait_seconds_bucket{le=\"1\",who=\"a\"} 133988
+wait_seconds_bucket{le=\"+Inf\",who=\"a\"} 144320
+wait_seconds_sum{who=\"a\"} 53423.000070
+wait_seconds_count{who=\"a\"} 144320
 ";
 
 fn push_escapes(out: &mut Vec<u8>) -> Result<(), AllocError> {
@@ -439,16 +439,24 @@ fn push_waits(out: &mut Vec<u8>) -> Result<(), AllocError> {
         value: "a",
     };
     let metric = Metric {
-        name: "wait_milliseconds",
+        name: "wait_seconds",
         help: "A histogram.",
+    };
+    let short = Bucket {
+        bound: "0.05",
+        count: 24_054,
+    };
+    let long = Bucket {
+        bound: "1",
+        count: 133_988,
     };
     push_histogram(
         out,
         &metric,
         &[who],
-        &[(50, 24_054), (1000, 133_988)],
+        &[short, long],
         144_320,
-        53_423,
+        53_423_000_070,
     )
 }
 

@@ -1,12 +1,15 @@
 use Rattle.std.proofs.Common.{◌+◌, List, ◌≡◌, ◌++◌, [], ◌∷◌, true, ap, ◌∙◌, sym, subst, arith, ℕ}
 use Rattle.iv_journal.specs.Journal.{Line}
-use Rattle.iv_audit.proofs.PlainLines.{IsReadTo, byte_more, line_more, read_all}
+use Rattle.iv_audit.proofs.PlainLines.{IsReadTo, begins, byte_more, line_more, read_all}
 use Rattle.iv_audit.proofs.reading.read_plain.Goals as goal
 use Rattle.iv_audit.proofs.reading.read_plain.Goals.{then-bytes-at-eq10+in_ok-push, else-bytes-at-eq10}
 
 moved : (bytes : List ℕ) (lines grown : List Line) (start begin at : ℕ) → grown ≡ lines → begin ≡ start → IsReadTo bytes lines start at → IsReadTo bytes grown begin at
 moved bytes lines grown start begin at e f h =
     subst (λ (ls : List Line). IsReadTo bytes ls begin at) (sym e) (subst (λ (n : ℕ). IsReadTo bytes lines n at) (sym f) h)
+
+pub loop-at-init : goal.loop-at-init
+loop-at-init c = begins c.args.bytes.now _ c.new-lines.ensures.items
 
 pub loop-at-preserved : goal.loop-at-preserved
 loop-at-preserved c =

@@ -1,4 +1,4 @@
-use Rattle.std.proofs.Common.{◌≡◌, ◌∙◌, ◌++◌, ◌-◌, None, ap, arith, length, take}
+use Rattle.std.proofs.Common.{◌≡◌, ◌∙◌, ◌++◌, ◌-◌, None, ap, length, take}
 use Rattle.iv_command.specs.Views.{reply_of}
 use Rattle.iv_message.specs.Told.{replied, told_text}
 use Rattle.iv_gate.specs.Gate.{answer_text}

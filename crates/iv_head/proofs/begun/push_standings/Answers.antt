@@ -1,4 +1,4 @@
-use Rattle.std.proofs.Common.{◌++◌, ◌∙◌, List, [], ◌∷◌, ap, append_assoc, map, sym, take}
+use Rattle.std.proofs.Common.{◌++◌, ◌∙◌, [], ◌∷◌, ap, append_assoc, map, sym, take}
 use Rattle.std.proofs.lemmas.List.{map_more}
 use Rattle.iv_journal.specs.Journal.{Line}
 use Rattle.iv_head.specs.Begun.{Standing, line, standing_text}

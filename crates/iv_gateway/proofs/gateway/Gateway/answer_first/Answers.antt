@@ -1,5 +1,4 @@
 use Rattle.std.proofs.Common.{◌≡◌, ◌∙◌, ap, map, subst, sym}
-use Rattle.iv_rows.specs.Options.{if_some}
 use Rattle.iv_command.specs.Views.{line_of, reply_of}
 use Rattle.iv_machine.specs.Act.{Reply, no_session, refused}
 use Rattle.iv_gate.specs.Gate.{replies_to, reply_in}

@@ -17,7 +17,7 @@ returns c = λ g b.
     let at : string_bytes c.in_ok-at.at ≡ at_text g t =
     c.in_ok-at.ensures ∙ place_known g c.args.self.now _ _ b.names (search rules) in
     let text : c.in_ok-text.text.items ≡ greeting_text t.role (at_text g t) (shape_text g.entries) =
-    c.in_ok-text.ensures ∙ (λ i. greeting_text (c.as_str-3.ensures.value i) ((c.as_str-4.ensures.value ∙ at) i) ((c.deref.ensures.value ∙ b.shape) i)) in
+    c.in_ok-text.ensures ∙ (λ i. greeting_text (c.as_str-4.ensures.value i) ((c.as_str-5.ensures.value ∙ at) i) ((c.deref.ensures.value ∙ b.shape) i)) in
     record {
       tokens = b.tokens;
       machine = b.machine;
