@@ -74,13 +74,13 @@ names_all g e f =
 
 text_of_all : (qs : List Request) → flat_map told_text (map (λ (q : Request). made q.role q.line) (filter (λ (q : Request). is_shape q.act) qs)) ≡ flat_map shape_in qs
 text_of_all [] = refl
-text_of_all (q ∷ qs) = by (is_shape q.act) refl
+text_of_all (q ∷ qs) = by (text_of_all qs) (is_shape q.act) refl
   where
-    by : (b : Bool) → is_shape q.act ≡ b
+    by : flat_map told_text (map (λ (x : Request). made x.role x.line) (filter (λ (x : Request). is_shape x.act) qs)) ≡ flat_map shape_in qs → (b : Bool) → is_shape q.act ≡ b
         → flat_map told_text (map (λ (x : Request). made x.role x.line) (cond b (q ∷ filter (λ (x : Request). is_shape x.act) qs) (filter (λ (x : Request). is_shape x.act) qs)))
         ≡ shape_in q ++ flat_map shape_in qs
-    by true e = λ i. one_shape q e i ++ text_of_all qs i
-    by false e = text_of_all qs ∙ ap (λ z. z ++ flat_map shape_in qs) (sym (no_shape q e))
+    by later true e = λ i. one_shape q e i ++ later i
+    by later false e = later ∙ ap (λ z. z ++ flat_map shape_in qs) (sym (no_shape q e))
 
 pub entry_shape : (e : Entry) → flat_map shape_in e.requests ≡ shape_text (e ∷ [])
 entry_shape e = sym (ap (λ qs. flat_map told_text (map (λ (q : Request). made q.role q.line) (filter (λ (q : Request). is_shape q.act) qs))) (append-nil e.requests) ∙ text_of_all e.requests)

@@ -25,7 +25,7 @@ use Rattle.iv_clients.specs.Clients.{at_all, at_client, client_at, own_lines}
 use Rattle.iv_clients.specs.Feeds.{Feed}
 use Rattle.iv_clients.specs.Journal.{Request}
 use Rattle.iv_clients.specs.Kept.{Kept, Places, holding, holding_all}
-use Rattle.iv_clients.proofs.Slots.{one_some}
+use Rattle.iv_clients.proofs.Slots.{one_some, some_is_none}
 use Rattle.iv_hall.specs.Hearing.{hearing_lines}
 use Rattle.iv_engine.specs.Known.{has_any, has_some, relations_with}
 use Rattle.iv_engine.specs.Stepped.{is_write}
@@ -41,6 +41,11 @@ use Rattle.iv_gateway.proofs.Keeping.{nonempty}
 pub all_more : (f : Frame) (rs : List Readable) (r : Readable) → AllByRecursion (IsReadable f) rs → IsReadable f r → AllByRecursion (IsReadable f) (rs ++ r ∷ [])
 all_more f [] r w h = (h, tt)
 all_more f (x ∷ rs) r w h = (w.0, all_more f rs r w.1 h)
+
+-- of what is read of each
+pub any_read : {A B : Type 0} (read : A → B) (p : B → Bool) (xs : List A) → list_any (λ x. p (read x)) xs ≡ list_any p (map read xs)
+any_read read p [] = refl
+any_read read p (x ∷ xs) = ap (λ b. p (read x) || b) (any_read read p xs)
 
 either : (a b : Bool) → b ≡ true → (a || b) ≡ true
 either true b h = refl
@@ -61,10 +66,7 @@ among_still (x ∷ rs) r role h = by (bytes_eq x.role role) (λ k. among_still r
 
 -- nobody is at a number beyond the last
 pub nobody_there : {C : Type 0} (places : List (Option C)) (m : ℕ) (k : C) → length places ≤ m → client_at places m ≡ Some k → ⊥
-nobody_there places m k h e = some_not_none (sym (ap (option_and_then (λ x. x)) (slice_get_past places m h)) ∙ e)
-  where
-    some_not_none : None ≡ Some k → ⊥
-    some_not_none = cc
+nobody_there places m k h e = some_is_none k (sym e ∙ ap (option_and_then (λ x. x)) (slice_get_past places m h))
 
 less : (m n : ℕ) → m < n + 1 → (m == n) ≡ false → m < n
 less m n h e = grind (arith, nat_tests)
@@ -149,13 +151,14 @@ not_heard_at ns (suc n) (o ∷ os) h = ap (λ z. o ∷ z) (not_heard_at ns n os 
 -- where all texts are empty nobody is told anything
 empty_for : (ns : List Newly) (role : Name) → list_all (λ n. length n.text == 0) ns ≡ true → (length (text_for ns role) == 0) ≡ true
 empty_for [] role h = refl
-empty_for (n ∷ ns) role h = by (bytes_eq n.role role) (length n.text == 0) refl h
+empty_for (n ∷ ns) role h = by (λ k. empty_for ns role k) (bytes_eq n.role role) (length n.text == 0) refl h
   where
-    by : (b e : Bool) → (length n.text == 0) ≡ e → (e && list_all (λ x. length x.text == 0) ns) ≡ true
+    by : (list_all (λ x. length x.text == 0) ns ≡ true → (length (text_for ns role) == 0) ≡ true) → (b e : Bool) → (length n.text == 0) ≡ e
+        → (e && list_all (λ x. length x.text == 0) ns) ≡ true
         → (length (if_some (cond b (Some n) (find (λ x. bytes_eq x.role role) ns)) [] (λ x. x.text)) == 0) ≡ true
-    by true true p h = p
-    by false true p h = empty_for ns role h
-    by b false p h = absurd (false≢true h)
+    by later true true p h = p
+    by later false true p h = later h
+    by later b false p h = absurd (false≢true h)
 
 pub nobody_hears : (ns : List Newly) (places : Places) → list_all (λ n. length n.text == 0) ns ≡ true → places ≡ at_all (hearing_newly ns) places
 nobody_hears ns places h =
@@ -166,13 +169,13 @@ nobody_hears ns places h =
 -- a relation that has a name is among the names
 named_there : (es : List CatalogEntry) (rel : Name) (e : CatalogEntry) → named es rel ≡ Some e → list_any (λ x. bytes_eq x rel) (map (λ (d : CatalogEntry). d.name) es) ≡ true
 named_there [] rel e h = cc
-named_there (d ∷ es) rel e h = by (bytes_eq rel d.name) refl h
+named_there (d ∷ es) rel e h = by (λ k. named_there es rel e k) (bytes_eq rel d.name) refl h
   where
-    by : (b : Bool) → bytes_eq rel d.name ≡ b → cond b (Some d) (named es rel) ≡ Some e
+    by : (named es rel ≡ Some e → list_any (λ x. bytes_eq x rel) (map (λ (c : CatalogEntry). c.name) es) ≡ true) → (b : Bool) → bytes_eq rel d.name ≡ b → cond b (Some d) (named es rel) ≡ Some e
         → (bytes_eq d.name rel || list_any (λ x. bytes_eq x rel) (map (λ (c : CatalogEntry). c.name) es)) ≡ true
-    by true k h = ap (λ t. t || list_any (λ x. bytes_eq x rel) (map (λ (c : CatalogEntry). c.name) es))
+    by later true k h = ap (λ t. t || list_any (λ x. bytes_eq x rel) (map (λ (c : CatalogEntry). c.name) es))
         ((bytes_eq-Decides d.name rel).1 (sym ((bytes_eq-Decides rel d.name).0 k)))
-    by false k h = either (bytes_eq d.name rel) (list_any (λ x. bytes_eq x rel) (map (λ (c : CatalogEntry). c.name) es)) (named_there es rel e h)
+    by later false k h = either (bytes_eq d.name rel) (list_any (λ x. bytes_eq x rel) (map (λ (c : CatalogEntry). c.name) es)) (later h)
 
 -- a relation on which a role has a privilege has a name
 some_there : (f : Frame) (role rel : Name) → has_some f role rel ≡ true → list_any (λ x. bytes_eq x rel) (map (λ e. e.name) f.catalog) ≡ true
@@ -211,21 +214,21 @@ newly_is f g r h = twice_kept (has_some g r.role) (had r) (has_some f r.role) (m
 text_is : (f g : Frame) (rs : List Readable) (role : Name) → AllByRecursion (IsReadable f) rs → is_among rs role ≡ true
     → text_for (map (newly_in g) rs) role ≡ text_granted (newly f g role)
 text_is f g [] role w h = absurd (false≢true h)
-text_is f g (r ∷ rs) role w h = by (bytes_eq r.role role) refl h
+text_is f g (r ∷ rs) role w h = by (λ k. text_is f g rs role w.1 k) (bytes_eq r.role role) refl h
   where
-    by : (b : Bool) → bytes_eq r.role role ≡ b → (b || is_among rs role) ≡ true
+    by : (is_among rs role ≡ true → text_for (map (newly_in g) rs) role ≡ text_granted (newly f g role)) → (b : Bool) → bytes_eq r.role role ≡ b → (b || is_among rs role) ≡ true
         → if_some (cond b (Some (newly_in g r)) (find (λ n. bytes_eq n.role role) (map (newly_in g) rs))) [] (λ n. n.text) ≡ text_granted (newly f g role)
-    by true e h = ap text_granted (newly_is f g r w.0 ∙ ap (newly f g) ((bytes_eq-Decides r.role role).0 e))
-    by false e h = text_is f g rs role w.1 h
+    by later true e h = ap text_granted (newly_is f g r w.0 ∙ ap (newly f g) ((bytes_eq-Decides r.role role).0 e))
+    by later false e h = later h
 
 none_new : (p q : Name → Bool) (xs : List Name) → ((x : Name) → p x ≡ q x) → filter (λ x. p x && not (q x)) xs ≡ []
 none_new p q [] h = refl
-none_new p q (x ∷ xs) h = by (p x) (q x) (h x)
+none_new p q (x ∷ xs) h = by (none_new p q xs h) (p x) (q x) (h x)
   where
-    by : (a b : Bool) → a ≡ b → cond (a && not b) (x ∷ filter (λ y. p y && not (q y)) xs) (filter (λ y. p y && not (q y)) xs) ≡ []
-    by true true e = none_new p q xs h
-    by true false e = absurd (false≢true (sym e))
-    by false b e = none_new p q xs h
+    by : filter (λ y. p y && not (q y)) xs ≡ [] → (a b : Bool) → a ≡ b → cond (a && not b) (x ∷ filter (λ y. p y && not (q y)) xs) (filter (λ y. p y && not (q y)) xs) ≡ []
+    by later true true e = later
+    by later true false e = absurd (false≢true (sym e))
+    by later false b e = later
 
 -- ---- rows that are written give nobody a privilege
 
@@ -282,12 +285,13 @@ carried_keeps q s t w h = by (is_shared q.act) h
 
 all_keep : (qs : List Request) (s t : State) → list_all (λ q. is_write q.act) qs ≡ true → all_carried (map fact_of qs) s ≡ Some t → HasSameRights s t
 all_keep [] s t w h = subst (HasSameRights s) (one_some s t h) (record { rights = refl; catalog = refl })
-all_keep (q ∷ qs) s t w h = by (is_write q.act) refl w
+all_keep (q ∷ qs) s t w h = by (λ u all rest. all_keep qs u t all rest) (is_write q.act) refl w
   where
-    by : (b : Bool) → is_write q.act ≡ b → (b && list_all (λ x. is_write x.act) qs) ≡ true → HasSameRights s t
-    by false e w = absurd (false≢true w)
-    by true e w = option_and_then_some (all_carried (map fact_of qs)) (carried (fact_of q) s) t h
-        (λ u c rest. same_then s u t (carried_keeps q s u e c) (all_keep qs u t w rest))
+    by : ((u : State) → list_all (λ x. is_write x.act) qs ≡ true → all_carried (map fact_of qs) u ≡ Some t → HasSameRights u t)
+        → (b : Bool) → is_write q.act ≡ b → (b && list_all (λ x. is_write x.act) qs) ≡ true → HasSameRights s t
+    by later false e w = absurd (false≢true w)
+    by later true e w = option_and_then_some (all_carried (map fact_of qs)) (carried (fact_of q) s) t h
+        (λ u c rest. same_then s u t (carried_keeps q s u e c) (later u w rest))
 
 -- a step of writes alone
 writes_keep : (qs : List Request) (s : State) (o : Outcome) → list_all (λ q. is_write q.act) qs ≡ true → stepped (map fact_of qs) s ≡ Some o → HasSameRights s o.state

@@ -24,11 +24,11 @@ pub all_further : {A : Type 0} (p : A → Bool) (xs : List A) (i : ℕ) (d : A) 
     → list_all p (take (i + 1) xs) ≡ true
 all_further p [] i d lt h o = refl
 all_further p (x ∷ xs) zero d lt h o = ap (λ b. b && true) o
-all_further p (x ∷ xs) (suc i) d lt h o = by (p x) h
+all_further p (x ∷ xs) (suc i) d lt h o = by (λ k. all_further p xs i d (omega (arith, lt)) k o) (p x) h
   where
-    by : (b : Bool) → (b && list_all p (take i xs)) ≡ true → (b && list_all p (take (i + 1) xs)) ≡ true
-    by true h = all_further p xs i d (omega (arith, lt)) h o
-    by false h = h
+    by : (list_all p (take i xs) ≡ true → list_all p (take (i + 1) xs) ≡ true) → (b : Bool) → (b && list_all p (take i xs)) ≡ true → (b && list_all p (take (i + 1) xs)) ≡ true
+    by later true h = later h
+    by later false h = h
 
 -- one is not so
 pub all_stops : {A : Type 0} (p : A → Bool) (xs : List A) (i : ℕ) (d : A) → i < length xs → p (get_or xs i d) ≡ false → list_all p xs ≡ false
@@ -77,13 +77,13 @@ within n m h = grind (arith, nat_tests)
 
 answers_told : (es : List Named) → list_all is_answer es ≡ true → AllByRecursion IsAnswerText es
 answers_told [] h = tt
-answers_told (e ∷ es) h = by (nat_le (length e.answer) most_said) refl (is_some (option_and_then as_object (value_of e.answer))) refl h
+answers_told (e ∷ es) h = by (λ k. answers_told es k) (nat_le (length e.answer) most_said) refl (is_some (option_and_then as_object (value_of e.answer))) refl h
   where
-    by : (a : Bool) → nat_le (length e.answer) most_said ≡ a → (b : Bool) → is_some (option_and_then as_object (value_of e.answer)) ≡ b
+    by : (list_all is_answer es ≡ true → AllByRecursion IsAnswerText es) → (a : Bool) → nat_le (length e.answer) most_said ≡ a → (b : Bool) → is_some (option_and_then as_object (value_of e.answer)) ≡ b
         → ((a && b) && list_all is_answer es) ≡ true → AllByRecursion IsAnswerText (e ∷ es)
-    by true s true o h = (record { object = o; short = within (length e.answer) most_said s }, answers_told es h)
-    by true s false o h = absurd (false≢true h)
-    by false s b o h = absurd (false≢true h)
+    by later true s true o h = (record { object = o; short = within (length e.answer) most_said s }, later h)
+    by later true s false o h = absurd (false≢true h)
+    by later false s b o h = absurd (false≢true h)
 
 pub step_well : ReadsBack → (log : Log) (from : ℕ) (ls rest : List Line) (e : Entry) (o : Option Step) → texts_held ls ≡ true → record_in ls ≡ Some (e, rest)
     → (length rest == 0) ≡ true → list_all is_answer e.names ≡ true → o ≡ step_of log from e → IfSome o (λ s. IsWell (arrived s))

@@ -1,6 +1,6 @@
 //! What roles of clients may read before a step, and what of it they may read newly after it: each is told that once.
 ghost use Rattle.std.specs.Prelude.{◌≡◌, ◌==◌, ◌∷◌, ◌++◌, [], IfOk, OnOk, Some, bytes_eq, false, find, length, map, option_map, string_bytes, true};
-ghost use Rattle.std.specs.List.{AllByRecursion, list_all};
+ghost use Rattle.std.specs.List.{AllByRecursion, list_all, list_any};
 ghost use Rattle.iv_rows.specs.Options.{if_some};
 ghost use Rattle.iv_access.specs.Rights.{Name};
 ghost use Rattle.iv_clients.specs.Clients.{at_all, at_client, client_at};
@@ -47,12 +47,19 @@ impl Model for Newly {
     ghost view = { λ n. record { role = string_bytes n.role; text = n.text.items } };
 }
 
+/// Whether a name is among these.
+fn is_named(names: &[String], name: &str) -> bool
+    ensures { result ≡ list_any (λ n. bytes_eq (string_bytes n) name.now) names.now }
+{
+    names.iter().any(|other| other.as_str() == name)
+}
+
 impl Readable {
     /// Whether the role had a privilege on a relation.
     fn had(&self, rel: &str) -> bool
         ensures { result ≡ had self.now rel.now }
     {
-        self.rels.iter().any(|other| other.as_str() == rel)
+        is_named(&self.rels, rel)
     }
 }
 

@@ -6,8 +6,8 @@ use Rattle.iv_gateway.specs.Granting.{text_granted}
 use Rattle.iv_gateway.specs.Newly.{only_new}
 use Rattle.iv_gateway.proofs.newly.newly_told.Goals as goal
 
-pub returns-in-Ok : goal.returns-in-Ok
-returns-in-Ok c =
+pub returns-in_ok-role-in-Ok : goal.returns-in_ok-role-in-Ok
+returns-in_ok-role-in-Ok c =
     let r = c.args.before.now in
     let role : string_bytes c.in_ok-role-in-Ok.role ≡ c.args.before.now.role = search rules in
     let asked : c.as_str.result.now ≡ c.args.before.now.role = search rules in
