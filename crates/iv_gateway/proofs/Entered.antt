@@ -138,7 +138,7 @@ forgiven_more g es h = let l = length-append g.entries es in omega (arith, h, l)
 abbrev lines_of : Entry → List Line
 lines_of e = record_of (texts_of e)
 
-pends_more : (kept : ℕ) (es fs : List Entry) (old new : List Line) → IsPending kept es old → new ≡ old ++ journal_of fs → IsPending kept (es ++ fs) new
+pub pends_more : (kept : ℕ) (es fs : List Entry) (old new : List Line) → IsPending kept es old → new ≡ old ++ journal_of fs → IsPending kept (es ++ fs) new
 pends_more kept es fs old new p h = record {
   within = let l = length-append es fs in let w = p.within in omega (arith, l, w);
   lines = h ∙ (ap (λ z. z ++ journal_of fs) p.lines ∙ (sym (flat_map-append lines_of (drop kept es) fs) ∙ ap journal_of (sym (drop-append-le kept es fs p.within))));

@@ -98,18 +98,18 @@ makes_on all rest q r start old now v h n =
 
 -- ---- what the code keeps of it
 
-pub step_kept : (g : Gate) (s : Step) (x : Gateway) (names : Names) (lines : List journal.Line) (shape made : List ℕ) → IsAlive g x
+pub step_kept : (g : Gate) (s : Step) (x : Gateway) (names : Names) (lines : List journal.Line) (shape adds : List ℕ) → IsAlive g x
     → names ≡ all_pushed (names_in_code x.names) s.names → lines ≡ x.pending.items ++ record_of (texts_of (entry_of s))
-    → made ≡ shape_text (entry_of s ∷ []) → shape ≡ x.shape.items ++ made
+    → adds ≡ shape_text (entry_of s ∷ []) → shape ≡ x.shape.items ++ adds
     → AreKept (entered g (entry_of s ∷ [])) names s.to x.settled lines shape
-step_kept g s x names lines shape made b n l m h = record {
+step_kept g s x names lines shape adds b n l m h = record {
   names = n ∙ (ap (λ z. all_pushed z s.names) b.names ∙ sym (names_all g (entry_of s) b.forgiven));
   position = sym (position_push g.head.position g.entries (entry_of s));
   settled = b.settled ∙ sym (settled_stays g (entry_of s ∷ []) b.pending.within);
   forgiven = forgiven_more g (entry_of s ∷ []) b.forgiven;
   pending = pends_more g.kept g.entries (entry_of s ∷ []) x.pending.items lines b.pending
       (l ∙ ap (λ z. x.pending.items ++ z) (sym (append-nil (record_of (texts_of (entry_of s))))));
-  shape = shape_added g.entries (entry_of s ∷ []) x.shape.items shape made b.shape m h;
+  shape = shape_added g.entries (entry_of s ∷ []) x.shape.items shape adds b.shape m h;
 }
 
 -- ---- facts

@@ -14,7 +14,8 @@ loop-request-init c =
     let items : into_iter_items c.into_iter-request-iterator.result ≡ c.args.requests.items = search rules in (
       tt,
       tt,
-      ap (λ (qs : List Request). map fact_of qs) (sym items),
+      ap (λ (qs : List Request). map fact_of qs) (sym items)
+          ∙ ap (λ z. z ++ map fact_of (into_iter_items c.into_iter-request-iterator.result)) (sym c.new-facts.ensures.items),
       ap (λ (qs : List Request). c.args.made.now.items ++ flat_map shape_in qs) (sym items),
     )
 

@@ -44,7 +44,7 @@ returns-clause-entered c = λ g b.
       names = c.deref-2.ensures.value i;
       position = Some q.to;
     }))) in
-    let k = step_kept g q c.args.self.now (names_in_code c.learn.new.known) c.push_step.new.lines.items c.extend_from_slice.new.self.items c.facts_of-facts.new.made.items b
+    let k = step_kept g q c.args.self.now (names_in_code c.learn.new.known) c.push_step.new.lines.items c.extend_from_slice.new.self.items c.facts_of.new.made.items b
     (c.in_ok-learn.ensures.learned c.in-None.is) lines makes (c.in_ok-extend_from_slice.ensures.items ∙ ap (λ z. c.args.self.now.shape.items ++ z) c.deref-3.ensures.value) in
     subst (λ (s : Step). IsEntered g s _ _) c.step.view_is (record {
       new = learned ∙ ap (option_map not_new) c.in-None.is;

@@ -5,7 +5,7 @@ use Rattle.iv_gateway.proofs.gateway.Gateway.readable_before.Goals as goal
 
 pub returns-then-are_writes : goal.returns-then-are_writes
 returns-then-are_writes c = λ g b.
-    subst (λ w. AreBefore g.machine.frame w _ (kept_slots g.clients)) (sym c.if-are_writes.true ∙ c.are_writes.ensures) (search rules)
+    subst (λ w. AreBefore g.machine.frame w c.new.result.items (kept_slots g.clients)) (sym c.if-are_writes.true ∙ c.are_writes.ensures) (search rules)
 
 pub returns : goal.returns
 returns c = λ g b.
