@@ -4,8 +4,8 @@ use Rattle.iv_once.specs.Names.{Names}
 use Rattle.iv_once.specs.Views.{names_of as names_in_code}
 use Rattle.iv_clients.specs.Journal.{record_of, texts_of}
 use Rattle.iv_gate.specs.Arriving.{Step, entry_of, fact_of, first_known, not_new}
-use Rattle.iv_gate.specs.Gate.{known_of}
-use Rattle.iv_gateway.specs.Arriving.{IsEntered}
+use Rattle.iv_gate.specs.Gate.{known_of, shape_text}
+use Rattle.iv_gateway.specs.Arriving.{all_pushed}
 use Rattle.iv_gateway.specs.Shaping.{shape_in}
 use Rattle.iv_gateway.proofs.Landed.{entry_shape, step_kept}
 use Rattle.iv_gateway.proofs.gateway.Gateway.enter_step.Goals as goal
@@ -44,11 +44,17 @@ returns-clause-entered c = λ g b.
       names = c.deref-2.ensures.value i;
       position = Some q.to;
     }))) in
-    let k = step_kept g q c.args.self.now (names_in_code c.learn.new.known) c.push_step.new.lines.items c.extend_from_slice.new.self.items c.facts_of.new.made.items b
-    (c.in_ok-learn.ensures.learned c.in-None.is) lines makes (c.in_ok-extend_from_slice.ensures.items ∙ ap (λ z. c.args.self.now.shape.items ++ z) c.deref-3.ensures.value) in
-    subst (λ (s : Step). IsEntered g s _ _) c.step.view_is (record {
-      new = learned ∙ ap (option_map not_new) c.in-None.is;
-      makes = makes;
+    let s = c.args.step in
+    let v = c.step.view_is in
+    let known = names_in_code c.args.self.now.names in
+    let adds = makes ∙ ap (λ (z : Step). shape_text (entry_of z ∷ [])) v in
+    let k = step_kept g s c.args.self.now (names_in_code c.learn.new.known) c.push_step.new.lines.items c.extend_from_slice.new.self.items
+    c.facts_of.new.made.items b (c.in_ok-learn.ensures.learned c.in-None.is ∙ ap (λ (z : Step). all_pushed known z.names) v)
+    (lines ∙ ap (λ (z : Step). c.args.self.now.pending.items ++ record_of (texts_of (entry_of z))) v) adds
+    (c.in_ok-extend_from_slice.ensures.items ∙ ap (λ z. c.args.self.now.shape.items ++ z) c.deref-3.ensures.value) in
+    record {
+      new = subst (λ (z : Step). first_known 1 z.names (known_of g) ≡ None) v (learned ∙ ap (option_map not_new) c.in-None.is);
+      makes = adds;
       gate = record {
         tokens = b.tokens;
         machine = b.machine;
@@ -57,10 +63,10 @@ returns-clause-entered c = λ g b.
         clients = b.clients;
         names = k.names;
         log = b.log;
-        position = k.position;
+        position = ap (λ (z : Step). z.to) v ∙ k.position;
         settled = k.settled;
         forgiven = k.forgiven;
         pending = k.pending;
         shape = k.shape;
       };
-    })
+    }
