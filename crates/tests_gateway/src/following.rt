@@ -1,4 +1,7 @@
 //! Steps of a log, as conversations have them: a gateway that follows the log takes them, or tells why not.
+ghost use Rattle.std.specs.Prelude.{IfOk, IfSome};
+ghost use Rattle.iv_gate.specs.Events.{IsWell, arrived};
+
 use crate::out::Out;
 use iv_command::{Refusal, Reply};
 use iv_gateway::{Gateway, Log, Step, StepFault, read_step};
@@ -25,7 +28,9 @@ fn step_of(
     from: u64,
     to: &str,
     texts: &str,
-) -> Result<Option<Step>, AllocError> {
+) -> Result<Option<Step>, AllocError>
+    ensures { IfOk result (λ o. IfSome o (λ s. IsWell (arrived s))) }
+{
     let position = format!(in alloc; "\"step\":{to}}}")?;
     let mut lines = Vec::new(alloc);
     for text in texts.split('|') {
@@ -40,7 +45,8 @@ fn step_of(
     })?;
     let log = log_of(alloc, name)?;
     let mut scratch = Scratch::new(alloc);
-    read_step(alloc, log, from, &lines, &mut scratch)
+    let step = read_step(alloc, log, from, &lines, &mut scratch)?;
+    Ok(step)
 }
 
 /// What a client would be told of a refusal.
@@ -73,7 +79,9 @@ fn put_fault(fault: StepFault, out: &mut Out) {
 }
 
 /// Has the gateway take a step, and adds what comes of that.
-fn take(gateway: &mut Gateway, step: Step, out: &mut Out) {
+fn take(gateway: &mut Gateway, step: Step, out: &mut Out)
+    requires { IsWell (arrived step) }
+{
     match gateway.take_step(step) {
         Ok(true) => {}
         Ok(false) => out.put("taken before\n"),
