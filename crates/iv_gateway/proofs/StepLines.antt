@@ -1,8 +1,8 @@
 -- The step that lines are, as the code reads it.
-use Rattle.std.proofs.Common.{◌≡◌, ◌∙◌, ℕ, zero, suc, ◌+◌, ◌<◌, ◌≤◌, Bool, true, false, cond, List, [], ◌∷◌, ◌++◌, length, take, get_or, Option, Some, None, is_some, option_map, refl, ap, sym, subst, append-nil, arith}
+use Rattle.std.proofs.Common.{◌≡◌, ◌∙◌, ℕ, zero, suc, ◌+◌, ◌<◌, ◌≤◌, Bool, true, false, cond, List, [], ◌∷◌, ◌++◌, length, take, get_or, Option, Some, None, is_some, option_map, refl, ap, sym, subst, add-one, append-nil, arith}
 use Rattle.std.specs.Prelude.{◌==◌, ◌&&◌, IfSome, drop, nat_le, option_and_then}
 use Rattle.std.specs.List.{AllByRecursion, list_all}
-use Rattle.std.proofs.lemmas.Bool.{false≢true}
+use Rattle.std.proofs.lemmas.Bool.{eqb-true, false≢true}
 use Rattle.std.proofs.lemmas.Bool.Decides.{nat_tests}
 use Rattle.serde_json.specs.Find.{as_object}
 use Rattle.iv_clients.specs.Bounds.{most_said}
@@ -19,16 +19,21 @@ use Rattle.iv_gateway.specs.Reads.{is_answer, step_in, step_of}
 
 -- ---- each of a list
 
+further : {A : Type 0} (p : A → Bool) (xs : List A) (i : ℕ) (d : A) → i < length xs → list_all p (take i xs) ≡ true → p (get_or xs i d) ≡ true
+    → list_all p (take (suc i) xs) ≡ true
+further p [] i d lt h o = absurd (let none : ⊥ = omega (arith, lt) in none)
+further p (x ∷ xs) zero d lt h o = ap (λ b. b && true) o
+further p (x ∷ xs) (suc i) d lt h o = by (λ k. further p xs i d (omega (arith, lt)) k o) (p x) h
+  where
+    by : (list_all p (take i xs) ≡ true → list_all p (take (suc i) xs) ≡ true) → (b : Bool) → (b && list_all p (take i xs)) ≡ true
+        → (b && list_all p (take (suc i) xs)) ≡ true
+    by later true h = later h
+    by later false h = h
+
 -- one more is so
 pub all_further : {A : Type 0} (p : A → Bool) (xs : List A) (i : ℕ) (d : A) → i < length xs → list_all p (take i xs) ≡ true → p (get_or xs i d) ≡ true
     → list_all p (take (i + 1) xs) ≡ true
-all_further p [] i d lt h o = refl
-all_further p (x ∷ xs) zero d lt h o = ap (λ b. b && true) o
-all_further p (x ∷ xs) (suc i) d lt h o = by (λ k. all_further p xs i d (omega (arith, lt)) k o) (p x) h
-  where
-    by : (list_all p (take i xs) ≡ true → list_all p (take (i + 1) xs) ≡ true) → (b : Bool) → (b && list_all p (take i xs)) ≡ true → (b && list_all p (take (i + 1) xs)) ≡ true
-    by later true h = later h
-    by later false h = h
+all_further p xs i d lt h o = ap (λ n. list_all p (take n xs)) (add-one i) ∙ further p xs i d lt h o
 
 -- one is not so
 pub all_stops : {A : Type 0} (p : A → Bool) (xs : List A) (i : ℕ) (d : A) → i < length xs → p (get_or xs i d) ≡ false → list_all p xs ≡ false
@@ -70,7 +75,7 @@ texts_recorded (t ∷ u ∷ ts) = ap (λ b. is_text t && b) (texts_recorded (u �
 
 nothing_left : (ls : List Line) → (length ls == 0) ≡ true → ls ≡ []
 nothing_left [] h = refl
-nothing_left (l ∷ ls) h = cc
+nothing_left (l ∷ ls) h = absurd (let e = eqb-true (length (l ∷ ls)) 0 h in let none : ⊥ = omega (arith, e) in none)
 
 within : (n m : ℕ) → nat_le n m ≡ true → n ≤ m
 within n m h = grind (arith, nat_tests)

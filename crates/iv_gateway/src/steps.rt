@@ -102,12 +102,20 @@ fn are_texts(lines: &[Line<'_>]) -> bool
     lines.iter().all(|line| is_text(line.text))
 }
 
-/// Whether each name has an answer that clients can be told.
+/// Whether a name has an answer that clients can be told.
+fn is_answer(alloc: Global, name: &Named, scratch: &mut Scratch) -> Result<bool, AllocError>
+    ensures { IfOk result (λ is. is ≡ is_answer name.now) }
+{
+    let is = is_answer_text(alloc, &name.answer, scratch)?;
+    Ok(is)
+}
+
+/// Whether each name has one.
 fn are_answers(alloc: Global, names: &[Named], scratch: &mut Scratch) -> Result<bool, AllocError>
     ensures { IfOk result (λ are. are ≡ list_all is_answer names.now) }
 {
     for name in names {
-        if !is_answer_text(alloc, &name.answer, scratch)? {
+        if !is_answer(alloc, name, scratch)? {
             return Ok(false);
         }
     }

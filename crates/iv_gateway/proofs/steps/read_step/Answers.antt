@@ -32,27 +32,27 @@ returns-then-not-branch-clause-read c =
     let read : record_in ls ≡ Some (c.in-Some.entry, rest) =
     sym (sym (ap (option_map {U = Entry × List Line} (λ p. (p.0, drop p.1 ls))) c.in-Some.is) ∙ c.in_ok-read_record.ensures.read) in
     let texts = sym c.are_texts.ensures ∙ c.if-not-are_texts.false in
-    let told = ap (list_all is_answer) (sym c.deref.ensures.value) ∙ sym c.in_ok-are_answers-in-Some.ensures in
+    let told = ap (list_all is_answer) (sym (c.deref.ensures.value ∙ ap (λ (e : Entry). e.names) c.entry.view_is)) ∙ sym c.in_ok-are_answers-in-Some.ensures in
     sym (one_record c.args.log c.args.from ls rest c.in-Some.entry true false texts read (sym c.are_all.ensures ∙ c.if-not-are_all.false) (told ∙ c.if-not-branch.true))
 
-pub returns-clause-read : goal.returns-clause-read
-returns-clause-read c =
+pub returns-else-not-branch-clause-read : goal.returns-else-not-branch-clause-read
+returns-else-not-branch-clause-read c =
     let ls = c.args.lines.now in
     let rest = drop c.in-Some.count c.args.lines.now in
     let read : record_in ls ≡ Some (c.in-Some.entry, rest) =
     sym (sym (ap (option_map {U = Entry × List Line} (λ p. (p.0, drop p.1 ls))) c.in-Some.is) ∙ c.in_ok-read_record.ensures.read) in
     let texts = sym c.are_texts.ensures ∙ c.if-not-are_texts.false in
-    let told = ap (list_all is_answer) (sym c.deref.ensures.value) ∙ sym c.in_ok-are_answers-in-Some.ensures in
+    let told = ap (list_all is_answer) (sym (c.deref.ensures.value ∙ ap (λ (e : Entry). e.names) c.entry.view_is)) ∙ sym c.in_ok-are_answers-in-Some.ensures in
     c.step_of.ensures
     ∙ sym (one_record c.args.log c.args.from ls rest c.in-Some.entry true true texts read (sym c.are_all.ensures ∙ c.if-not-are_all.false) (told ∙ c.if-not-branch.false))
 
-pub returns-clause-well : goal.returns-clause-well
-returns-clause-well c =
+pub returns-else-not-branch-clause-well : goal.returns-else-not-branch-clause-well
+returns-else-not-branch-clause-well c =
     let ls = c.args.lines.now in
     let rest = drop c.in-Some.count c.args.lines.now in
     let read : record_in ls ≡ Some (c.in-Some.entry, rest) =
     sym (sym (ap (option_map {U = Entry × List Line} (λ p. (p.0, drop p.1 ls))) c.in-Some.is) ∙ c.in_ok-read_record.ensures.read) in
     let texts = sym c.are_texts.ensures ∙ c.if-not-are_texts.false in
-    let told = ap (list_all is_answer) (sym c.deref.ensures.value) ∙ sym c.in_ok-are_answers-in-Some.ensures in
+    let told = ap (list_all is_answer) (sym (c.deref.ensures.value ∙ ap (λ (e : Entry). e.names) c.entry.view_is)) ∙ sym c.in_ok-are_answers-in-Some.ensures in
     step_well c.records_are_read_back.ensures c.args.log c.args.from ls rest c.in-Some.entry _ texts read (sym c.are_all.ensures ∙ c.if-not-are_all.false)
     (told ∙ c.if-not-branch.false) c.step_of.ensures
