@@ -68,7 +68,7 @@ taken before
 0 {"as":"admin","made":{"do":"grant","on":"tags","privileges":["insert"],"to":"mia"}}
 0 {"as":"admin","made":{"do":"revoke","on":"tags","privileges":["select"],"to":"mia"}}
 0 {"settled":true}
-> step main 13 14 "as":"mia","do":"write","entries":[{"on":"notes","delete":[5]}]}|"once":"AAAAAAAAAAAAAAAAAAAAA-","at":"0123456789abcdef0123456789abcdef.0","by":"mia","digest":"0101010101010101010101010101010101010101010101010101010101010101","done":{"ok":true}}
+> step main 13 14 "as":"mia","do":"write","entries":[{"on":"notes","delete":[5]}]}|"once":"AAAAAAAAAAAAAAAAAAAAA-","at":"0123456789abcdef0123456789abcdef.0","by":"mia/","digest":"0101010101010101010101010101010101010101010101010101010101010101","done":{"ok":true}}
 > at
 at 14, on disk to 13
 > come 3 mia
@@ -100,7 +100,7 @@ at 14, on disk to 13
 + "as":"admin","do":"revoke","on":"tags","privileges":["select"],"to":"mia"}
 | "step":13}
 + "as":"mia","do":"write","entries":[{"on":"notes","delete":[5]}]}
-+ "once":"AAAAAAAAAAAAAAAAAAAAA-","at":"0123456789abcdef0123456789abcdef.0","by":"mia","digest":"0101010101010101010101010101010101010101010101010101010101010101","done":{"ok":true}}
++ "once":"AAAAAAAAAAAAAAAAAAAAA-","at":"0123456789abcdef0123456789abcdef.0","by":"mia/","digest":"0101010101010101010101010101010101010101010101010101010101010101","done":{"ok":true}}
 | "step":14}
 > follow
 restored to 21
@@ -170,12 +170,12 @@ refused at 1 {"error":5}
 "#,
     r#"> follow
 restored to 0
-> step main 0 1 "once":"AAAAAAAAAAAAAAAAAAAAA-","at":"0123456789abcdef0123456789abcdef.0","by":"mia","digest":"0101010101010101010101010101010101010101010101010101010101010101","refused":{"error":11}}
+> step main 0 1 "once":"AAAAAAAAAAAAAAAAAAAAA-","at":"0123456789abcdef0123456789abcdef.0","by":"mia/","digest":"0101010101010101010101010101010101010101010101010101010101010101","refused":{"error":11}}
 > sync
-> step main 1 2 "once":"AAAAAAAAAAAAAAAAAAAAB-","at":"0123456789abcdef0123456789abcdef.1","by":"mia","digest":"0101010101010101010101010101010101010101010101010101010101010101","done":{"ok":true}}|"once":"AAAAAAAAAAAAAAAAAAAAA-","at":"0123456789abcdef0123456789abcdef.0","by":"mia","digest":"0101010101010101010101010101010101010101010101010101010101010101","done":{"ok":true}}
+> step main 1 2 "once":"AAAAAAAAAAAAAAAAAAAAB-","at":"0123456789abcdef0123456789abcdef.1","by":"mia/","digest":"0101010101010101010101010101010101010101010101010101010101010101","done":{"ok":true}}|"once":"AAAAAAAAAAAAAAAAAAAAA-","at":"0123456789abcdef0123456789abcdef.0","by":"mia/","digest":"0101010101010101010101010101010101010101010101010101010101010101","done":{"ok":true}}
 known name at 2
 > journal
-+ "once":"AAAAAAAAAAAAAAAAAAAAA-","at":"0123456789abcdef0123456789abcdef.0","by":"mia","digest":"0101010101010101010101010101010101010101010101010101010101010101","refused":{"error":11}}
++ "once":"AAAAAAAAAAAAAAAAAAAAA-","at":"0123456789abcdef0123456789abcdef.0","by":"mia/","digest":"0101010101010101010101010101010101010101010101010101010101010101","refused":{"error":11}}
 | "step":1}
 "#,
     r#"> follow
@@ -184,7 +184,7 @@ restored to 0
 no step
 > step main 0 1 "as":"admin","do":"subscribe","on":"notes"}
 no step
-> step main 0 1 "once":"AAAAAAAAAAAAAAAAAAAAA-","at":"0123456789abcdef0123456789abcdef.0","by":"mia","digest":"0101010101010101010101010101010101010101010101010101010101010101","done":7}
+> step main 0 1 "once":"AAAAAAAAAAAAAAAAAAAAA-","at":"0123456789abcdef0123456789abcdef.0","by":"mia/","digest":"0101010101010101010101010101010101010101010101010101010101010101","done":7}
 no step
 > at
 at 0, on disk to 0
