@@ -123,6 +123,8 @@ export class Live {
   #anew() {
     const columns = this.columns ?? []; // none are known where it was refused
     this.#order = this.#guard(() => orderOf(columns.length ? this.#how.order : [], columns)) ?? orderOf([], columns);
+    const {where} = this.#how, names = columns.length && typeof where === "object" ? Object.keys(where ?? {}) : [];
+    for (const name of names) if (!columns.some(([it]) => it === name)) this.#report(new ViewdError(`where: there is no column ${name}`));
     this.#all = this.#relation.rows().filter((row) => this.#passes(row)).sort(this.#order);
     this.#cut();
   }
@@ -191,7 +193,7 @@ export class Relation {
       if (!this.columns.some(([it]) => it === name)) throw new ViewdError(`${this.on} has no column ${name}`);
     }
     return this.columns.map(([name]) => {
-      if (row[name] === undefined || row[name] === null) throw new ViewdError(`${this.on}: the row has no value for ${name}`);
+      if (!Object.hasOwn(row, name) || row[name] === undefined || row[name] === null) throw new ViewdError(`${this.on}: the row has no value for ${name}`);
       return row[name];
     });
   }
@@ -253,8 +255,6 @@ export class Relation {
   }
 
   #row(values) {
-    const row = {};
-    this.columns.forEach(([name], at) => row[name] = values[at]);
-    return Object.freeze(row);
+    return Object.freeze(Object.fromEntries(this.columns.map(([name], at) => [name, values[at]]))); // a column may be __proto__
   }
 }

@@ -133,7 +133,7 @@ export interface Options {
   /** Milliseconds before a second try, 250; each further one waits twice as long, up to `longest`, 30,000; chance takes up to a half off. */
   shortest?: number;
   longest?: number;
-  /** Milliseconds after which a relation that was too large, or found no room, is tried again; 30,000. */
+  /** Milliseconds after which a relation that was too large or found no room, and a write that has to wait (104), are tried again; 30,000. */
   again?: number;
   /** A WebSocket, where there is none (Node before 22). */
   WebSocket?: new (url: string) => any;

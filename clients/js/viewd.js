@@ -19,6 +19,7 @@ const WITHOUT_ID = new Set([1, 2, 22]); // refusals of what could not be read, s
 const LATE = 102; // undecided: the holder has had more names since its place than are kept
 const AGAIN = 104; // undecided now, and to be sent again as it is
 const OPEN = 16; // writes by name that have no answer, at most: a gateway knows a holder's last 64 names, and one holder may have several clients
+const BEHIND = 32; // names that may come behind a write which waits to be sent again: beyond 64 it would be forgotten
 const UNKNOWN_TOKEN = 4401;
 
 /** A connection to a gateway that is kept: where it goes, another is tried. `connect` makes one. */
@@ -31,7 +32,7 @@ class Db {
   state = "connecting";
   /** Why the last connection went, where something is known. */
   why = null;
-  #url; #how; #socket = null; #tries = 0; #since = 0; #heard = 0; #timers = new Set(); #watch = null; #token = null; #again = null;
+  #url; #how; #socket = null; #tries = 0; #since = 0; #heard = 0; #timers = new Set(); #watch = null; #unknown = null; #again = null;
   #next = 1; // the id of the next message
   #asked = []; // messages without a reply, in their order
   #waiting = new Set(); // requests that were never sent, in their order
@@ -124,7 +125,8 @@ class Db {
   }
 
   /** Any request of docs/PROTOCOL.md, without session and id. Its reply, once all that it changed is here. */
-  request(body) {
+  async request(body) {
+    if ("id" in body) throw new ViewdError("a request has its id from the client");
     return this.#request(body, false);
   }
 
@@ -238,10 +240,11 @@ class Db {
     socket.onerror = () => {};
     socket.onclose = ({code, reason}) => {
       if (!is()) return;
-      const fresh = typeof this.#how.token === "function" && token !== this.#token;
-      this.#token = token;
-      if (code === UNKNOWN_TOKEN && !fresh) this.#close(reason || "the token opens no role");
-      else this.#lost(reason || `the connection ended (${code})`);
+      if (code !== UNKNOWN_TOKEN) return this.#lost(reason || `the connection ended (${code})`);
+      const why = reason || "the token opens no role", fresh = typeof this.#how.token === "function" && token !== this.#unknown;
+      this.#unknown = token;
+      if (fresh) this.#lost(why);
+      else this.#close(why);
     };
   }
 
@@ -314,12 +317,17 @@ class Db {
   #flush() {
     for (const request of this.#waiting) {
       const byName = request.byName && this.#place !== null;
-      if (byName && (this.#late.length || this.#asked.filter(({write}) => write).length + this.#kept.size >= OPEN)) return;
+      if (byName && (this.#late.length || this.#asked.filter(({write}) => write).length + this.#kept.size >= OPEN || this.#isFar())) return;
       this.#waiting.delete(request);
       this.#cancel(request.timer);
       if (byName) this.#askByName(request);
       else this.#ask(request.body, request.resolve, request.reject);
     }
+  }
+
+  #isFar() {
+    const count = (at) => BigInt(at.split(".")[1]);
+    return [...this.#kept].some(({at}) => count(this.#place) - count(at) >= BEHIND);
   }
 
   // What was sent before and has no answer is sent again. A gateway that tells no place would not know it by its name.
@@ -407,6 +415,10 @@ class Db {
     [this.role, this.protocol] = [this.#welcome.role, this.#welcome.protocol ?? null];
     this.#welcome = null;
     this.#since = Date.now();
+    for (const request of this.#waiting) { // for others' answers from here on
+      this.#cancel(request.timer);
+      request.timer = null;
+    }
     for (const relation of this.#relations.values()) this.#subscribe(relation);
     this.#sendAgain();
     this.#flush();

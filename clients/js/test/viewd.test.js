@@ -89,6 +89,20 @@ test("rows are objects by column names, each once, in the order of their columns
   assert.equal(notes.rows[0], was[1]);
 });
 
+test("a column may have the name of what each object has", async (t) => {
+  const [db, socket] = await entered(t);
+  const live = db.live("notes", {where: {["__proto__"]: 2}});
+  follow(socket, 1, [[1, [1, "a"]], [1, [2, "b"]]], "notes", [["__proto__", "int"], ["constructor", "text"]]);
+  assert.deepEqual(live.rows.map((row) => Object.entries(row)), [[["__proto__", 2], ["constructor", "b"]]]);
+  assert.equal(live.copies(live.rows[0]), 1);
+  const done = db.update("notes", live.rows[0], {constructor: "c"});
+  await turn();
+  socket.event({id: socket.asked({do: "write", entries: [{on: "notes", update: [[2, "b"], [2, "c"]]}]}), ok: true});
+  await done;
+  await assert.rejects(db.insert("notes", {["__proto__"]: 3}), /no value for constructor/);
+  await assert.rejects(db.insert("notes", {constructor: "d"}), /no value for __proto__/);
+});
+
 test("where, order and limit are of each user", async (t) => {
   const [db, socket] = await entered(t);
   const columns = [["id", "int"], ["who", "text"], ["open", "flag"]];
@@ -241,6 +255,7 @@ test("a reply to another request ends the connection, and what was under way is 
   assert.ok(first !== second && socket.closed);
   assert.equal(db.state, "stale");
   assert.equal(db.why, "a reply to another request");
+  await assert.rejects(db.request({id: 7, do: "create_role", name: "c"}), /has its id from the client/);
 });
 
 test("what could not be read is answered without an id", async (t) => {
@@ -271,6 +286,7 @@ test("what throws in a page harms nobody", async (t) => {
     throw new Error(words);
   };
   db.onState(fails("state"));
+  db.live("notes", {where: {whom: "mia"}});
   const bad = db.live("notes", {where: fails("where")}), odd = db.live("notes", {order: "nothing"}), good = db.live("notes");
   bad.subscribe(fails("bad"));
   good.subscribe(fails("good"));
@@ -289,7 +305,7 @@ test("what throws in a page harms nobody", async (t) => {
   assert.equal(seen.length, 21);
   socket.end();
   assert.equal(db.state, "stale");
-  assert.deepEqual([...new Set(thrown)].sort(), ["bad", "good", "order: there is no column nothing", "state", "where"]);
+  assert.deepEqual([...new Set(thrown)].sort(), ["bad", "good", "order: there is no column nothing", "state", "where", "where: there is no column whom"]);
 });
 
 test("numbers of 64 bits stay exact", async (t) => {
@@ -427,6 +443,22 @@ test("a function may give another token for one that ran out", async (t) => {
   Fake.last.onopen();
   Fake.last.end(4401, "This token opens no role.");
   assert.deepEqual([db.state, Fake.all.length], ["closed", 3]);
+});
+
+test("a token that was let in twice, and has run out, is asked for anew", async (t) => {
+  Fake.all = [];
+  const tokens = ["old", "old", "new"];
+  const db = connect("ws://gateway/live", {token: () => tokens.shift(), WebSocket: Fake, shortest: 2});
+  t.after(() => db.end());
+  await turn();
+  for (const [token, ...how] of [["old", 1006], ["old", 4401, "This token opens no role."]]) {
+    Fake.last.enter();
+    assert.deepEqual([db.state, Fake.last.sent[0]], ["live", token]);
+    Fake.last.end(...how);
+    await pause(20);
+  }
+  Fake.last.enter();
+  assert.deepEqual([db.state, Fake.last.sent[0], Fake.all.length], ["live", "new", 3]);
 });
 
 test("a token function that fails is asked again", async (t) => {
@@ -615,6 +647,32 @@ test("what was sent twice and came too late is undecided", async (t) => {
   await assert.rejects(done, {name: "Undecided", code: 102});
 });
 
+test("a write that has to wait is not left so far behind that the gateway would forget it", async (t) => {
+  const [db, socket] = await entered(t, {again: 1000, silence: 1e9}, place(5));
+  const write = async (at) => {
+    const done = db.insert("notes", [at, "ann"]);
+    await turn();
+    return [done, ...socket.take().map((it) => JSON.parse(it))];
+  };
+  const [first, said] = await write(0);
+  socket.event({id: said.id, undecided: 104});
+  for (let at = 1; at <= 32; at++) {
+    const [done, {id}] = await write(at);
+    socket.event({answer: {ok: true}, at: place(5 + at), id});
+    await done;
+  }
+  const [last, ...none] = await write(33);
+  assert.deepEqual(none, []);
+  await pause(1000);
+  const [again] = socket.take().map((it) => JSON.parse(it));
+  assert.deepEqual([again.once, again.at], [said.once, place(5)]);
+  socket.event({answer: {ok: true}, at: place(38), id: again.id});
+  const [behind] = socket.take().map((it) => JSON.parse(it));
+  assert.deepEqual([behind.at, behind.entries], [place(38), [{on: "notes", insert: [33, "ann"]}]]);
+  socket.event({answer: {ok: true}, at: place(39), id: behind.id});
+  await Promise.all([first, last]);
+});
+
 test("so many writes are under way as the gateway keeps names for", async (t) => {
   const [db, socket] = await entered(t, {}, place(0));
   const done = Array.from({length: 20}, (_, at) => db.insert("notes", [at, "ann"]));
@@ -630,6 +688,30 @@ test("so many writes are under way as the gateway keeps names for", async (t) =>
   assert.deepEqual(last.map((it) => it.do), ["write", "write", "create_role"]);
   for (const {id, once} of last) socket.event(once ? {answer: {ok: true}, at: place(30), id} : {id, ok: true});
   assert.equal((await Promise.all([...done, behind])).length, 21);
+});
+
+test("a write that waits for the answers of others does not wait for a connection", async (t) => {
+  const [db, first] = await entered(t, {patience: 1000, silence: 1e9}, place(0));
+  first.end();
+  const done = Array.from({length: 17}, (_, at) => db.insert("notes", [at, "ann"]));
+  await pause(500);
+  Fake.last.enter("mia", place(0));
+  await pause(2000);
+  const said = Fake.last.take().map((it) => JSON.parse(it));
+  assert.equal(said.length, 16);
+  for (const [at, {id}] of said.entries()) Fake.last.event({answer: {ok: true}, at: place(at + 1), id});
+  const [last] = Fake.last.take().map((it) => JSON.parse(it));
+  assert.deepEqual(last.entries, [{on: "notes", insert: [16, "ann"]}]);
+  Fake.last.end(); // and where it goes again, the wait begins anew
+  const other = db.insert("notes", [17, "ann"]).catch((why) => why.name);
+  await pause(999);
+  assert.equal(await Promise.race([other, turn()]), undefined);
+  await pause(2);
+  assert.equal(await other, "NotSent");
+  await pause(60_000);
+  Fake.last.enter("mia", place(17));
+  Fake.last.event({again: true, answer: {ok: true}, at: place(17), id: JSON.parse(Fake.last.take()[0]).id});
+  assert.equal((await Promise.all(done)).length, 17);
 });
 
 test("a gateway that tells no place is told no name, and what another one may have done is undecided", async (t) => {

@@ -1,7 +1,7 @@
 """What the client says and makes of what it is told, over a gateway that a test plays: replies, rows, lost connections, silence, tokens."""
 import asyncio
-import random
 import json
+import random
 import re
 from collections import Counter
 
@@ -199,6 +199,11 @@ async def test_writes_name_columns(fakes):
     assert "no column name" in str(await raised(db.insert("notes", {"id": 1, "name": "mia"})))
     assert "no value for who" in str(await raised(db.insert("notes", {"id": 1})))
     assert (await raised(db.insert("notes", [1, "x" * 65_463]), Refused)).code == 22
+    assert "5 is no row" in str(await raised(db.insert("notes", 5)))
+    assert "'ab' is no row" in str(await raised(db.insert("notes", "ab")))
+    assert "5 is no pair" in str(await raised(db.write([{"on": "notes", "update": 5}])))
+    assert "surrogates" in str(await raised(db.insert("notes", [1, "\ud800"])))
+    assert "has its id from the client" in str(await raised(db.request({"id": 7, "do": "create_role", "name": "c"})))
     assert not socket.sent
     await db.end()
 
@@ -233,7 +238,12 @@ async def test_what_could_not_be_read_is_answered_without_an_id(fakes):
 @run
 async def test_what_raises_harms_nobody(fakes):
     raised_words = []
-    db, socket = await entered(on_error=lambda why: raised_words.append(str(why)))
+
+    def on_error(why):
+        raised_words.append(str(why))
+        raise why
+
+    db, socket = await entered(on_error=on_error)
 
     def fails(words):
         def act(*_):
@@ -242,6 +252,7 @@ async def test_what_raises_harms_nobody(fakes):
 
     db.on_state(fails("state"))
     bad, odd, good = db.live("notes", where=fails("where")), db.live("notes", order="nothing"), db.live("notes")
+    db.live("notes", where={"whom": "mia"})
     good.subscribe(fails("good"))
     await turn()
     await socket.follow(1, [[1, [2, "a"]]])
@@ -257,7 +268,7 @@ async def test_what_raises_harms_nobody(fakes):
     assert [isinstance(it, dict) for it in came] == [bool(at % 3) for at in range(30)]
     assert (len(good.rows), good.rows == odd.rows, bad.rows) == (21, True, [])
     await socket.end()
-    assert db.state == "stale" and {*raised_words} == {"good", "where", "state", "order: there is no column nothing"}
+    assert db.state == "stale" and {*raised_words} == {"good", "where", "state", "order: there is no column nothing", "where: there is no column whom"}
     await db.end()
 
 
@@ -340,6 +351,20 @@ async def test_a_token_that_opens_no_role_closes_the_client(fakes):
     with pytest.raises(NotSent):
         async with db:
             pass
+
+
+@run
+async def test_a_token_that_was_let_in_twice_and_has_run_out_is_asked_for_anew(fakes):
+    tokens = ["old", "old", "new"]
+    db = viewd.connect("ws://gateway/live", token=lambda: tokens.pop(0), shortest=0.002)
+    for token, code in (("old", 1006), ("old", 4401), ("new", None)):
+        await asyncio.sleep(0.02)
+        await fakes.all[-1].event({"role": "mia"})
+        assert (db.state, fakes.all[-1].sent) == ("live", [token])
+        if code:
+            await fakes.all[-1].end(code)
+    assert len(fakes.all) == 3
+    await db.end()
 
 
 @run
@@ -519,6 +544,37 @@ async def test_what_was_sent_twice_and_came_too_late_is_undecided(fakes):
 
 
 @run
+async def test_a_write_that_has_to_wait_is_not_left_so_far_behind_that_the_gateway_would_forget_it(fakes):
+    db, socket = await entered(f"{EPOCH}.5", again=1, silence=1e9)
+
+    async def write(at):
+        done = asyncio.ensure_future(db.insert("notes", [at, "ann"]))
+        await turn()
+        said = [json.loads(it) for it in socket.sent]
+        socket.sent.clear()
+        return done, said
+
+    first, [said] = await write(0)
+    await socket.event({"id": said["id"], "undecided": 104})
+    for at in range(1, 33):
+        done, [it] = await write(at)
+        await socket.event({"answer": {"ok": True}, "at": f"{EPOCH}.{5 + at}", "id": it["id"]})
+        assert await done == {"ok": True}
+    last, none = await write(33)
+    assert not none
+    await asyncio.sleep(1)
+    [again] = map(json.loads, socket.sent)
+    assert (again["once"], again["at"]) == (said["once"], f"{EPOCH}.5")
+    socket.sent.clear()
+    await socket.event({"answer": {"ok": True}, "at": f"{EPOCH}.38", "id": again["id"]})
+    [behind] = map(json.loads, socket.sent)
+    assert (behind["at"], behind["entries"]) == (f"{EPOCH}.38", [{"on": "notes", "insert": [33, "ann"]}])
+    await socket.event({"answer": {"ok": True}, "at": f"{EPOCH}.39", "id": behind["id"]})
+    await asyncio.gather(first, last)
+    await db.end()
+
+
+@run
 async def test_so_many_writes_are_under_way_as_the_gateway_keeps_names_for(fakes):
     db, socket = await entered(f"{EPOCH}.0")
     done = [asyncio.ensure_future(db.insert("notes", [at, "ann"])) for at in range(20)]
@@ -529,6 +585,26 @@ async def test_so_many_writes_are_under_way_as_the_gateway_keeps_names_for(fakes
     assert [it for it in socket.sent if f'"at":"{EPOCH}.0"' not in it] == socket.sent[16:]
     assert [f'"at":"{EPOCH}.{count}"' in it for count, it in enumerate(socket.sent[16:], 1)] == [True] * 4
     assert await asyncio.gather(*done) == [{"ok": True}] * 20
+    await db.end()
+
+
+@run
+async def test_a_write_that_waits_for_the_answers_of_others_does_not_wait_for_a_connection(fakes):
+    db, first = await entered(f"{EPOCH}.0", patience=1, silence=1e9)
+    await first.end()
+    works = [asyncio.ensure_future(db.insert("notes", [at, "ann"])) for at in range(17)]
+    await asyncio.sleep(0.5)
+    socket = fakes.all[-1]
+    await socket.event({"role": "mia"}, {"at": f"{EPOCH}.0", "names": 64})
+    await asyncio.sleep(2)
+    said = [json.loads(it) for it in socket.sent[1:]]
+    assert len(said) == 16 and not any(it.done() for it in works)
+    for at, it in enumerate(said):
+        await socket.event({"answer": {"ok": True}, "at": f"{EPOCH}.{at + 1}", "id": it["id"]})
+    last = json.loads(socket.sent[-1])
+    assert last["entries"] == [{"on": "notes", "insert": [16, "ann"]}]
+    await socket.event({"answer": {"ok": True}, "at": f"{EPOCH}.17", "id": last["id"]})
+    assert len(await asyncio.gather(*works)) == 17
     await db.end()
 
 

@@ -4,12 +4,14 @@ import csv
 import json
 import os
 import pty
+import re
 import signal
 import subprocess
 import time
 
 import viewd
 from conftest import PATIENCE, TOP
+from viewd.command import batches
 
 CLIENT = TOP / "clients/python/viewd-client"
 
@@ -64,6 +66,11 @@ def test_write_and_export(gateway, tmp_path):
     assert ran(gateway, "write", file) == (1, "", "viewd-client: line 1: no permissive policy (14), on notes, check insert, entry 1\n")
     for given in ("{", "7", "[]", '{"insert":[1]}'):
         assert ran(gateway, "write", given=given)[:2] == (2, "")
+    for given in ('"insert":5', '"update":5', r'"insert":{"id":1,"who":"\ud800","done":true}'):
+        status, out, err = ran(gateway, "write", given=f'{{"on":"notes",{given}}}')
+        assert (status, out) == (1, "") and err.startswith("viewd-client: line 1: ") and err.count("\n") == 1
+    file.write_bytes(b"\xff\n")
+    assert ran(gateway, "write", file)[:2] == (2, "")
     assert ran(gateway, "write", tmp_path / "none")[0] == 2
     assert ran(gateway, "export", "plans") == (1, "", "viewd-client: unknown relation (7)\n")
     for words in (("--where", "done"), ("--where", "done=yes"), ("--where", "id=1.5"), ("--where", f"id={2 ** 63}"), ("--order", "nothing")):
@@ -87,6 +94,19 @@ def test_import(gateway, tmp_path):
     assert ran(gateway, "export", "counts")[1] == '{"who":"mia","n":3000}\n'
 
 
+def test_an_import_fills_messages_and_none_is_too_long():
+    for size in range(900, 1000):
+        rows = [[number, "x" * size] for number in range(100, 300)]
+        parts = list(batches("notes", [*enumerate(rows)]))
+        assert [row for part in parts for _, row in part] == rows
+        entry = len('{"on":"notes","insert":[100,""]},') + size
+        # what the protocol says of a message: the longest id and place of this client, and 65,463 bytes at most
+        head = '{"id":9007199254740992,"once":"' + "x" * 22 + '","at":"' + "0" * 32 + '.18446744073709551615","do":"write","entries":['
+        for part in parts:
+            assert len(head) + len(part) * entry + 1 <= 65_463
+        assert all(len(head) + (len(part) + 1) * entry + 1 > 65_463 - 2 for part in parts[:-1])
+
+
 def test_watch(gateway):
     with viewd.plain.connect(gateway.url, token="mia-demo") as db:
         db.insert("notes", ROWS[0], copies=2)
@@ -108,6 +128,24 @@ def test_watch(gateway):
             assert process.stdout.readline() == "" and process.wait(PATIENCE) == 1
             assert process.stderr.read() == "viewd-client: notes was ended: privilege\n"
         assert ran(gateway, "watch", "notes")[::2] == (1, "viewd-client: missing privilege (13), on notes, privilege select\n")
+
+
+def test_a_write_goes_on_when_its_gateway_is_there_again(gateway):
+    with subprocess.Popen([CLIENT, "write"], env=env(gateway), stdin=subprocess.PIPE, stderr=subprocess.PIPE, text=True) as process:
+        def put(row):
+            process.stdin.write(json.dumps({"on": "notes", "insert": row}) + "\n")
+            process.stdin.flush()
+
+        put(ROWS[0])
+        with viewd.plain.connect(gateway.url, token="mia-demo") as db, db.live("notes") as notes:
+            until(lambda: notes.rows)
+        gateway.kill()
+        gateway.start()
+        put(ROWS[1])
+        process.stdin.close()
+        assert re.fullmatch(r"viewd-client: stale: .*; trying again\nviewd-client: live again\n", process.stderr.read())
+        assert process.wait(PATIENCE) == 0
+    assert ran(gateway, "export", "notes")[1] == '{"id":2,"who":"mia","done":true}\n{"id":9,"who":"mia","done":false}\n'
 
 
 def test_watch_ends_with_its_reader_and_by_a_signal(gateway):

@@ -24,7 +24,8 @@ WITHOUT_ID = (1, 2, 22)  # refusals of what could not be read, so that its id is
 LATE = 102  # undecided: the holder has had more names since its place than are kept
 AGAIN = 104  # undecided now, and to be sent again as it is
 OPEN_WRITES = 16  # by name, without an answer, at most: a gateway knows a holder's last 64 names, and one holder may have several clients
-LONGEST = {"id": 2 ** 53, "once": "_" * 22, "at": f"{'0' * 32}.{2 ** 64}"}  # what a message by name may begin with
+BEHIND = 32  # names that may come behind a write which waits to be sent again: beyond 64 it would be forgotten
+LONGEST: dict[str, Any] = {"id": 2 ** 53, "once": "_" * 22, "at": f"{'0' * 32}.{2 ** 64}"}  # what a message by name may begin with
 UNKNOWN_TOKEN = 4401
 ADMIN = "admin"
 OPEN: Callable[..., Awaitable[Any]] = getattr(websockets, "connect")  # which versions make of different modules
@@ -41,7 +42,7 @@ class Timing:
     patience: float = 30  # for which a request waits for a connection
     shortest: float = 0.25  # before a second try; each further one waits twice as long, and chance takes up to a half off
     longest: float = 30
-    again: float = 30  # after which a relation that was too large, or found no room, is tried again
+    again: float = 30  # after which a relation that was too large or found no room, and a write that has to wait (104), are tried again
 
 
 @dataclass
@@ -103,8 +104,8 @@ class Db:
         self.protocol: int | None = None  # the number that the gateway tells, or None if nobody is in, or it tells none
         self.state = "connecting"  # at first; `live`; `stale`: what is shown may be old, and another connection is tried; `closed`
         self.why: str | None = None  # why the last connection went, where something is known
-        self._token, self._tried_token, self._tries = token, "", 0
-        self._report = on_error or (lambda why: logging.getLogger("viewd").error("a listener failed", exc_info=why))
+        self._token, self._unknown_token, self._tries = token, "", 0
+        self._on_error = on_error
         self._known: dict[str, Columns] = {on: [*its] for on, its in (columns or {}).items()}
         self._connection: _Connection | None = None
         self._relations: dict[str, Relation] = {}
@@ -173,7 +174,10 @@ class Db:
         By its name it is sent until it is answered, if the gateway knows names, and is done once. Raises Refused, Undecided and NotSent."""
         columns: dict[str, Columns] = {}
         for entry in entries:
-            rows = [entry.get("insert"), entry.get("delete"), *entry.get("update", ())]
+            pair = entry.get("update", ())
+            if isinstance(pair, str) or not isinstance(pair, Sequence):
+                raise ViewdError(f"{entry['on']}: {pair!r} is no pair of rows")
+            rows = [entry.get("insert"), entry.get("delete"), *pair]
             if entry["on"] not in columns and any(isinstance(it, Mapping) for it in rows):
                 columns[entry["on"]] = await self.columns(entry["on"])
         lines = []
@@ -219,10 +223,16 @@ class Db:
         """Any request of docs/PROTOCOL.md, without session and id. Its reply, once all that it changed is here.
 
         Raises Refused, Undecided and NotSent."""
+        if "id" in body:
+            raise ViewdError("a request has its id from the client")
         return await self._request(body, by_name=False)
 
     async def _request(self, body: Mapping[str, Any], by_name: bool) -> Reply:
-        if len(text({**(LONGEST if by_name else {"id": 2 ** 53}), **body}).encode()) > BYTES:
+        try:
+            size = len(text({**(LONGEST if by_name else {"id": 2 ** 53}), **body}).encode())
+        except UnicodeEncodeError:
+            raise ViewdError("a text has half a pair of surrogates") from None
+        if size > BYTES:
             raise Refused({"error": TOO_LONG})
         if self.state == "closed":
             raise NotSent("the client has ended")
@@ -256,15 +266,17 @@ class Db:
                 why = "the connection ended"
             except ConnectionClosed as ended:
                 code, why = (ended.rcvd.code, ended.rcvd.reason) if ended.rcvd else (1006, "")
-                is_fresh = callable(self._token) and token != self._tried_token
-                if code == UNKNOWN_TOKEN and not is_fresh:
-                    return self._close(why or "the token opens no role")
+                if code == UNKNOWN_TOKEN:
+                    why = why or "the token opens no role"
+                    is_fresh = callable(self._token) and token != self._unknown_token
+                    if not is_fresh:
+                        return self._close(why)
+                    self._unknown_token = token or ""
                 why = why or f"the connection ended ({code})"
             except asyncio.TimeoutError:
                 why = "silent"
             except Exception as fault:
                 why = str(fault) or type(fault).__name__
-            self._tried_token = token or ""
             self._lost(why)
             wait = min(self.timing.longest, self.timing.shortest * 2 ** min(self._tries, 20))
             self._tries += 1
@@ -294,6 +306,14 @@ class Db:
     async def _send(self, socket: Any, connection: _Connection) -> None:
         while True:
             await socket.send(await connection.out.get())
+
+    def _report(self, why: BaseException) -> None:
+        try:
+            if self._on_error:
+                return self._on_error(why)
+        except Exception as again:
+            why = again
+        logging.getLogger("viewd").error("a listener failed", exc_info=why)
 
     def _become(self, state: str) -> None:
         self.state = state
@@ -391,7 +411,8 @@ class Db:
         assert connection is not None
         for asked in [*self._waiting]:
             by_name = asked.by_name and connection.place is not None
-            if by_name and (connection.late or sum(it.name is not None for it in connection.asked) + len(self._kept) >= OPEN_WRITES):
+            if by_name and (connection.late or sum(it.name is not None for it in connection.asked) + len(self._kept) >= OPEN_WRITES
+                            or self._is_far(connection)):
                 return
             self._waiting.remove(asked)
             if asked.timer:
@@ -402,6 +423,9 @@ class Db:
                 self._ask_by_name(asked)
             else:
                 self._ask(asked)
+
+    def _is_far(self, connection: _Connection) -> bool:
+        return any(_count(connection.place or "") - _count(it.at) >= BEHIND for it in self._kept)
 
     # What was sent before and has no answer is sent again. A gateway that tells no place would not know it by its name.
     def _send_again(self) -> None:
@@ -530,6 +554,10 @@ class Db:
     def _entered(self, connection: _Connection, welcome: Reply) -> None:
         connection.welcome = None
         self.role, self.protocol, connection.since, self.why = welcome["role"], welcome.get("protocol"), time.monotonic(), None
+        for asked in self._waiting:  # for others' answers from here on
+            if asked.timer:
+                asked.timer.cancel()
+                asked.timer = None
         for relation in [*self._relations.values()]:
             self._subscribe(relation)
         self._send_again()
@@ -589,6 +617,10 @@ def _tell(users: list[User]) -> None:
     """Listeners are called when all relations have applied what is new."""
     for user in users:
         user.tell()
+
+
+def _count(place: str) -> int:
+    return int(place.partition(".")[2])
 
 
 async def _shut(socket: Any) -> None:

@@ -12,15 +12,16 @@ import sys
 from collections.abc import Awaitable, Callable, Iterator, Sequence
 from typing import Any, TextIO
 
-from .client import BYTES, Db, connect, text
+from .client import BYTES, LONGEST, Db, connect, text
 from .faults import NotSent, Refused, Undecided, ViewdError
 from .rows import Columns, Live, Row, Value, Where
 from .shape import shape_of
 
 REFUSED, WRONG, LOST, INTERRUPTED = 1, 2, 3, 130
 ENTRIES = 500  # of a write that an import makes, at most
+ROOM = BYTES - len(text({**LONGEST, "do": "write", "entries": []}))  # for them
 COPIES = 1_000_000  # of a row that an export writes, at most
-EPILOG = """statuses: 0 done, 1 refused by the gateway, 2 wrong words or input, 3 no connection, or one that went before the answer
+EPILOG = """statuses: 0 done, 1 refused by the gateway, 2 wrong words or input, 3 no connection, or undecided
 
 examples:
   export VIEWD_URL=ws://127.0.0.1:8080/live VIEWD_TOKEN=..       # or --url, --token-file
@@ -93,7 +94,6 @@ async def view(db: Db, words: argparse.Namespace) -> Live:
 
 async def watch(db: Db, words: argparse.Namespace) -> None:
     """Prints what changes, until it is ended."""
-    db.on_state(lambda state, why: None if state == "closed" else say(f"{state}: {why}; trying again" if why else f"{state} again"))
     if words.table:
         return await table(db, words)
     if words.order or words.limit is not None:
@@ -219,7 +219,7 @@ def batches(on: str, rows: Sequence[tuple[int, list[Value]]]) -> Iterator[list[t
     size = 0
     for number, values in rows:
         own = len(text({"on": on, "insert": values}).encode()) + 1
-        if batch and (len(batch) == ENTRIES or size + own > BYTES - 100):
+        if batch and (len(batch) == ENTRIES or size + own > ROOM):
             yield batch
             batch, size = [], 0
         batch.append((number, values))
@@ -374,6 +374,7 @@ async def done(words: argparse.Namespace) -> None:
             await asyncio.wait_for(db.__aenter__(), words.wait)
         except asyncio.TimeoutError:
             raise NotSent(f"there is no gateway at {words.url}" + (f": {db.why}" if db.why else "")) from None
+        db.on_state(lambda state, why: None if state == "closed" else say(f"{state}: {why}; trying again" if why else f"{state} again"))
         await words.act(db, words)
         sys.stdout.flush()
     finally:
@@ -390,7 +391,7 @@ def main() -> int:
     try:
         asyncio.run(done(words))
         return 0
-    except (Wrong, OSError) as why:
+    except (Wrong, OSError, UnicodeDecodeError) as why:
         if isinstance(why, BrokenPipeError):  # who read has enough
             os.dup2(os.open(os.devnull, os.O_WRONLY), sys.stdout.fileno())
             return 0

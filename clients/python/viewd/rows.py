@@ -27,8 +27,10 @@ class Change:
 
 def values_of(on: str, columns: Columns | None, row: Mapping[str, Value] | Sequence[Value]) -> list[Value]:
     """The values of a row in the order of the columns. Raises ViewdError if a column is missing, or is none of the relation's."""
-    if not isinstance(row, Mapping):
+    if isinstance(row, Sequence) and not isinstance(row, str):
         return list(row)
+    if not isinstance(row, Mapping):
+        raise ViewdError(f"{on}: {row!r} is no row")
     if columns is None:
         raise ViewdError(f"the columns of {on} are not known")
     names = [name for name, _ in columns]
@@ -254,6 +256,9 @@ class Live(User):
             self._guard(listener, self)
 
     def _anew(self) -> bool:
+        if isinstance(self._where, Mapping) and self.columns:
+            for name in self._where.keys() - dict(self.columns):
+                self._report(ViewdError(f"where: there is no column {name}"))
         self._passing = {key: row for key, (row, _) in self._relation.held.items() if self._passes(row)}
         return True
 

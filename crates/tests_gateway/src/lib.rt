@@ -1,5 +1,4 @@
-//! Tests of the public calls of iv_gateway: worked conversations of clients with a gateway, byte for byte, clients that do not read,
-//! and records of journals.
+//! Tests of the public calls of iv_gateway: worked conversations of clients with a gateway, byte for byte, and clients that do not read.
 #![tactic(auto)]
 
 #[cfg(test)]
@@ -10,8 +9,6 @@ mod following;
 mod out;
 #[cfg(test)]
 mod playing;
-#[cfg(test)]
-mod records;
 #[cfg(test)]
 mod slow;
 #[cfg(test)]
