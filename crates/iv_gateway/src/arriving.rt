@@ -173,7 +173,7 @@ impl Gateway {
         Ok(true)
     }
 
-    /// Carries a step out whole, and has it told. Nobody knew of it.
+    /// Carries the next step out whole, and has it told.
     fn land(&mut self, step: Step) -> Result<(), StepFault>
         requires { IsWell (arrived step) }
         ensures landed { OnOk result ((g : Gate) → IsAlive g self.old → IsLanded g step self.new) }

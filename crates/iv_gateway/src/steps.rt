@@ -21,7 +21,7 @@ use std::marker::Model;
 pub struct Step {
     /// Which log it is of.
     pub log: Log,
-    /// The position behind which it comes.
+    /// The position after which it comes.
     pub from: u64,
     /// The position to which it leads.
     pub to: u64,
@@ -150,7 +150,7 @@ fn step_of(log: Log, from: u64, entry: Entry) -> Option<Step>
     }
 }
 
-/// The step of a log that comes behind a position, of the lines of its record. None where they are not one record of a step, or not such as a
+/// The step of a log that comes after a position, of the lines of its record. None where they are not one record of a step, or not such as a
 /// gateway takes: each text has to be one that a journal holds, and each answer one that clients can be told.
 ///
 /// # Errors
