@@ -317,7 +317,7 @@ class Db {
   #flush() {
     for (const request of this.#waiting) {
       const byName = request.byName && this.#place !== null;
-      if (byName && (this.#late.length || this.#asked.filter(({write}) => write).length + this.#kept.size >= OPEN || this.#isFar())) return;
+      if (this.#late.length || byName && (this.#asked.filter(({write}) => write).length + this.#kept.size >= OPEN || this.#isFar())) return;
       this.#waiting.delete(request);
       this.#cancel(request.timer);
       if (byName) this.#askByName(request);
@@ -466,7 +466,7 @@ class Db {
     this.#tell(changed.flatMap((relation) => relation.show()));
     for (const act of this.#replied.splice(0)) act();
     // What was sent once, and came too late, was not carried out. Who comes anew is told another place, and sends it by another name.
-    if (this.#late.length && !this.#asked.some(({write}) => write)) this.#lost("others of its holder have had many names");
+    if (this.#late.length && !this.#asked.length) this.#lost("others of its holder have had many names");
     if (this.role) this.#flush();
   }
 

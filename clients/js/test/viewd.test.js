@@ -634,6 +634,26 @@ test("what was sent once and came too late is sent by another name, behind anoth
   assert.deepEqual(await Promise.all([...done, waits]), [{ok: true}, {ok: true}, {ok: true}]);
 });
 
+test("what came too late waits until what is under way is answered", async (t) => {
+  const [db, socket] = await entered(t, {silence: 1e9}, place(0));
+  const made = (name) => db.request({do: "create_role", name});
+  const done = [db.insert("notes", [1, "ann"]), made("eve")];
+  await turn();
+  const [write, other] = socket.take().map((it) => JSON.parse(it));
+  socket.event({id: write.id, undecided: 102});
+  done.push(made("joe"));
+  await turn();
+  assert.deepEqual(socket.take(), []);
+  socket.event({id: other.id, ok: true});
+  assert.deepEqual(await done[1], {id: other.id, ok: true});
+  await pause(300);
+  Fake.last.enter("mia", place(70));
+  const [again, last, ...none] = Fake.last.take().map((it) => JSON.parse(it));
+  assert.deepEqual([again.at, last.name, none], [place(70), "joe", []]);
+  Fake.last.event({answer: {ok: true}, at: place(71), id: again.id}, {settled: true}, {id: last.id, ok: true});
+  assert.equal((await Promise.all(done)).length, 3);
+});
+
 test("what was sent twice and came too late is undecided", async (t) => {
   const [db, socket] = await entered(t, {silence: 1e9}, place(0));
   const done = db.insert("notes", [1, "ann"]);

@@ -73,6 +73,17 @@ async def test_a_reply_counts_once_its_event_is_settled(fakes):
 
 
 @run
+async def test_an_end_that_comes_with_a_message_is_an_end(fakes):
+    for passes in range(5):
+        db, socket = await entered()
+        socket.told.put_nowait('{"alive":true}\n')
+        for _ in range(passes):
+            await asyncio.sleep(0)
+        async with asyncio.timeout(1):
+            await db.end()
+
+
+@run
 async def test_rows_have_column_names_and_an_order(fakes):
     db, socket = await entered()
     notes = db.live("notes")
@@ -508,6 +519,18 @@ async def test_a_write_that_has_to_wait_is_sent_again_as_it_is(fakes):
 
 
 @run
+async def test_a_write_that_has_to_wait_and_is_cancelled_is_not_sent_again(fakes):
+    db, socket = await entered(f"{EPOCH}.0", again=1)
+    done = asyncio.ensure_future(db.insert("notes", [1, "ann"]))
+    await turn()
+    await socket.event({"id": 1, "undecided": 104})
+    done.cancel()
+    await asyncio.sleep(2)
+    assert len(socket.sent) == 1
+    await db.end()
+
+
+@run
 async def test_what_was_sent_once_and_came_too_late_is_sent_by_another_name(fakes):
     db, socket = await entered(f"{EPOCH}.0")
     done = [asyncio.ensure_future(db.insert("notes", [id, "ann"])) for id in (1, 2)]
@@ -526,6 +549,27 @@ async def test_what_was_sent_once_and_came_too_late_is_sent_by_another_name(fake
     for id in (1, 2, 3):
         await fakes.all[-1].event({"answer": {"ok": True}, "at": f"{EPOCH}.{70 + id}", "id": id})
     assert await asyncio.gather(*done) == [{"ok": True}] * 3
+    await db.end()
+
+
+@run
+async def test_what_came_too_late_waits_until_what_is_under_way_is_answered(fakes):
+    db, socket = await entered(f"{EPOCH}.0")
+    done = [asyncio.ensure_future(it) for it in (db.insert("notes", [1, "ann"]), db.request({"do": "create_role", "name": "eve"}))]
+    await turn()
+    await socket.event({"id": 1, "undecided": 102})
+    done.append(asyncio.ensure_future(db.request({"do": "create_role", "name": "joe"})))
+    await turn()
+    assert len(socket.sent) == 2
+    await socket.event({"id": 2, "ok": True})
+    assert await done[1] == {"id": 2, "ok": True}
+    await asyncio.sleep(0.3)
+    await let_in(fakes.all[-1], f"{EPOCH}.70")
+    await turn()
+    again, last = map(json.loads, fakes.all[-1].sent)
+    assert again["at"] == f"{EPOCH}.70" and last["name"] == "joe"
+    await fakes.all[-1].event({"answer": {"ok": True}, "at": f"{EPOCH}.71", "id": 1}, {"settled": True}, {"id": 2, "ok": True})
+    assert len(await asyncio.gather(*done)) == 3
     await db.end()
 
 

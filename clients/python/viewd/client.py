@@ -196,8 +196,9 @@ class Db:
         if on not in self._known:
             asking = self.live(on)
             try:
-                await asyncio.wait_for(asking.ready(), self.timing.patience)
-            except asyncio.TimeoutError:
+                async with asyncio.timeout(self.timing.patience):
+                    await asking.ready()
+            except TimeoutError:
                 raise NotSent("there was no connection") from None
             finally:
                 asking.close()
@@ -210,8 +211,9 @@ class Db:
         while self.state != "closed" and not (self._connection and self._connection.is_in):
             self._turned.clear()
             try:
-                await asyncio.wait_for(self._turned.wait(), end - self._loop.time())
-            except asyncio.TimeoutError:
+                async with asyncio.timeout_at(end):
+                    await self._turned.wait()
+            except TimeoutError:
                 raise NotSent("there was no connection") from None
         if self._connection is None:
             raise NotSent(self.why or "the client has ended")
@@ -273,7 +275,7 @@ class Db:
                         return self._close(why)
                     self._unknown_token = token or ""
                 why = why or f"the connection ended ({code})"
-            except asyncio.TimeoutError:
+            except TimeoutError:
                 why = "silent"
             except Exception as fault:
                 why = str(fault) or type(fault).__name__
@@ -292,7 +294,8 @@ class Db:
             await socket.send(token)
             self._connection = connection
             while True:
-                data = await asyncio.wait_for(socket.recv(), self.timing.silence)
+                async with asyncio.timeout(self.timing.silence):  # wait_for of 3.11 loses an end that comes with a message
+                    data = await socket.recv()
                 for line in (data if isinstance(data, str) else data.decode()).split("\n"):
                     if line:
                         self._one(connection, line)
@@ -411,8 +414,8 @@ class Db:
         assert connection is not None
         for asked in [*self._waiting]:
             by_name = asked.by_name and connection.place is not None
-            if by_name and (connection.late or sum(it.name is not None for it in connection.asked) + len(self._kept) >= OPEN_WRITES
-                            or self._is_far(connection)):
+            if connection.late or by_name and (sum(it.name is not None for it in connection.asked) + len(self._kept) >= OPEN_WRITES
+                                               or self._is_far(connection)):
                 return
             self._waiting.remove(asked)
             if asked.timer:
@@ -444,7 +447,8 @@ class Db:
             self._timers.discard(timer)
             if self.role is not None and asked in self._kept:  # else it was sent again behind another connection
                 self._kept.remove(asked)
-                self._ask_by_name(asked)
+                if not asked.reply.done():  # else nobody waits for it any more
+                    self._ask_by_name(asked)
 
         if asked.sent == 1:
             asked.sent = 0  # it was not carried out
@@ -604,7 +608,7 @@ class Db:
         for act in replied:
             act()
         # What was sent once, and came too late, was not carried out. Who comes anew is told another place, and sends it by another name.
-        if connection.late and all(it.name is None for it in connection.asked):
+        if connection.late and not connection.asked:
             raise _Lost("others of its holder have had many names")
         if self.role is not None and connection is self._connection:
             self._flush()

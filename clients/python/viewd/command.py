@@ -371,8 +371,9 @@ async def done(words: argparse.Namespace) -> None:
     db = connect(words.url, token=token_of(words))
     try:
         try:
-            await asyncio.wait_for(db.__aenter__(), words.wait)
-        except asyncio.TimeoutError:
+            async with asyncio.timeout(words.wait):
+                await db.__aenter__()
+        except TimeoutError:
             raise NotSent(f"there is no gateway at {words.url}" + (f": {db.why}" if db.why else "")) from None
         db.on_state(lambda state, why: None if state == "closed" else say(f"{state}: {why}; trying again" if why else f"{state} again"))
         await words.act(db, words)
