@@ -1,17 +1,14 @@
 -- A step that comes: what the journal is to have of it, whether it is taken, and what it leaves.
-use Rattle.std.proofs.Common.{◌≡◌, ◌∙◌, ℕ, ◌+◌, ◌≤◌, ◌<◌, Bool, true, false, cond, not, List, [], ◌∷◌, ◌++◌, length, drop, map, Option, Some, None, is_some, option_map, refl, ap, sym, subst, append-nil, append_assoc, arith}
-use Rattle.std.specs.Prelude.{◌==◌, ◌&&◌, Result, Ok, Err, filter, flat_map, nat_le, nat_lt, unwrap_or}
+use Rattle.std.proofs.Common.{◌≡◌, ◌∙◌, ℕ, ◌+◌, ◌≤◌, Bool, true, false, cond, not, List, [], ◌∷◌, ◌++◌, length, drop, map, Option, Some, None, is_some, option_map, refl, ap, sym, subst, append-nil, append_assoc}
+use Rattle.std.specs.Prelude.{◌==◌, ◌&&◌, Result, Ok, Err, filter, flat_map, nat_le, nat_lt}
 use Rattle.std.specs.Result.{IsErrAnd}
 use Rattle.std.specs.List.{AllByRecursion, list_all}
 use Rattle.std.proofs.lemmas.Bool.{false≢true}
-use Rattle.std.proofs.lemmas.Bool.Decides.{nat_tests}
 use Rattle.std.proofs.lemmas.List.{drop-append-le}
 use Rattle.std.proofs.lemmas.List.Concat.{flat_map-append}
-use Rattle.iv_rows.specs.Names.{is_name}
 use Rattle.iv_rows.specs.Options.{if_some}
-use Rattle.iv_machine.specs.Act.{Line, Refusal}
+use Rattle.iv_machine.specs.Act.{Refusal}
 use Rattle.iv_machine.specs.Machine.{Outcome}
-use Rattle.iv_machine.specs.Well.{is_well_act}
 use Rattle.iv_message.proofs.Meaning.{ReadsWell}
 use Rattle.iv_message.specs.Told.{made, told_text}
 use Rattle.iv_journal.specs.Journal as journal
@@ -21,12 +18,11 @@ use Rattle.iv_once.specs.Views.{names_of as names_in_code}
 use Rattle.iv_steps.specs.Laws.{RefusalsAreFound}
 use Rattle.iv_steps.specs.Steps.{Fact, first_refused, is_shared, is_well_fact, shared, stepped}
 use Rattle.iv_command.specs.Views.{refusal_of}
-use Rattle.iv_clients.specs.Journal.{Entry, IsRequest, Request, is_shape, journal_of, names_in, record_of, texts_of}
+use Rattle.iv_clients.specs.Journal.{Entry, IsRequest, Request, is_shape, names_in, record_of, texts_of}
 use Rattle.iv_clients.specs.Names.{limits}
 use Rattle.iv_gate.specs.Arriving.{Fault, Step, entry_of, fact_of, fault_of, first_known, gap, is_behind, is_log, is_new, landed, not_accepted, not_new, other_log, position, takes}
-use Rattle.iv_gate.specs.Gate.{Gate, entered, known_at, known_by, known_of, names_of, shape_text, spent_in}
-use Rattle.iv_gate.proofs.Damage.{journal_one}
-use Rattle.iv_gateway.specs.Arriving.{IsCarried, IsFaultOf, IsLanded, IsNotLanded, IsRefusedBy, IsTakenBy, all_pushed}
+use Rattle.iv_gate.specs.Gate.{Gate, entered, known_of, names_of, shape_text}
+use Rattle.iv_gateway.specs.Arriving.{IsFaultOf, IsLanded, IsNotLanded, IsRefusedBy, IsTakenBy, all_pushed}
 use Rattle.iv_gateway.specs.Shaping.{shape_in}
 use Rattle.iv_gateway.specs.Views.{IsAlive}
 use Rattle.iv_gateway.specs.declared.arriving.StepFault.{StepFault}

@@ -1,6 +1,6 @@
 -- What roles may read newly by a step, as the code finds and tells it.
 use Rattle.std.proofs.Common.{◌≡◌, ◌∙◌, ℕ, zero, suc, ◌+◌, ◌<◌, ◌≤◌, Bool, true, false, cond, not, ◌||◌, List, [], ◌∷◌, ◌++◌, length, take, get_or, map, find, Option, Some, None, is_some, option_map, refl, ap, sym, subst, append-nil, append_assoc, arith}
-use Rattle.std.specs.Prelude.{◌==◌, ◌&&◌, bytes_eq, filter, flat_map, nat_lt, slice_get, option_and_then}
+use Rattle.std.specs.Prelude.{◌==◌, ◌&&◌, bytes_eq, filter, flat_map, nat_lt, option_and_then}
 use Rattle.std.specs.List.{AllByRecursion, list_all, list_any}
 use Rattle.std.proofs.lemmas.Bool.{false≢true, eqb-true}
 use Rattle.std.proofs.lemmas.Bool.Decides.{nat_tests}
@@ -32,7 +32,7 @@ use Rattle.iv_engine.specs.Stepped.{is_write}
 use Rattle.iv_steps.specs.Steps.{all_carried, among, carried, is_shared, looked_at, passed, shared, stepped}
 use Rattle.iv_gate.specs.Arriving.{fact_of, newly}
 use Rattle.iv_gateway.specs.Granting.{text_granted}
-use Rattle.iv_gateway.specs.Newly.{AreBefore, AreNewly, AreReadable, IsReadable, Newly, Readable, had, hearing_newly, is_among, newly_in, only_new, text_for}
+use Rattle.iv_gateway.specs.Newly.{AreBefore, AreNewly, IsReadable, Newly, Readable, had, hearing_newly, is_among, newly_in, only_new, text_for}
 use Rattle.iv_gateway.proofs.Granted.{both_all, held_all, role_held, same_all, still_all}
 use Rattle.iv_gateway.proofs.Keeping.{nonempty}
 

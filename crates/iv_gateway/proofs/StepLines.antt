@@ -12,7 +12,7 @@ use Rattle.iv_clients.specs.Parsed.{record_in}
 use Rattle.iv_journal.specs.Journal.{Line, is_text}
 use Rattle.iv_once.specs.Names.{Named}
 use Rattle.iv_request.specs.Reading.{value_of}
-use Rattle.iv_gate.specs.Arriving.{Step, entry_of}
+use Rattle.iv_gate.specs.Arriving.{Step}
 use Rattle.iv_gate.specs.Events.{IsAnswerText, IsWell, arrived}
 use Rattle.iv_gate.specs.Gate.{Log}
 use Rattle.iv_gateway.specs.Reads.{is_answer, step_in, step_of}

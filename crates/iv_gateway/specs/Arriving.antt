@@ -1,5 +1,5 @@
 -- For contracts of the code: a step that comes, and why one is not taken.
-use Rattle.std.specs.Prelude.{◌≡◌, ℕ, Bool, not, List, [], ◌∷◌, map, Option, Some, None}
+use Rattle.std.specs.Prelude.{◌≡◌, ℕ, Bool, not, List, [], ◌∷◌, map, Some, None}
 use Rattle.iv_command.specs.Views.{refusal_of}
 use Rattle.iv_machine.specs.Act.{Line}
 use Rattle.iv_machine.specs.Machine.{Outcome}

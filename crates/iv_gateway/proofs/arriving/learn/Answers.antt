@@ -1,4 +1,4 @@
-use Rattle.std.proofs.Common.{◌≡◌, ◌∙◌, ◌<◌, ◌+◌, List, [], Some, None, ap, arith, length, rules, subst, sym, option_map}
+use Rattle.std.proofs.Common.{◌≡◌, ◌∙◌, ◌<◌, ◌+◌, List, [], ap, arith, length, rules, sym}
 use Rattle.std.specs.Vec.Iter.{into_iter_items}
 use Rattle.iv_once.specs.Names.{Named, Names}
 use Rattle.iv_once.specs.Views.{names_of}

@@ -1,5 +1,4 @@
-use Rattle.std.proofs.Common.{◌≡◌, ◌∙◌, Option, Some, None, ap, option_map, subst, sym, true}
-use Rattle.iv_access.specs.Rights.{Name}
+use Rattle.std.proofs.Common.{◌≡◌, ◌∙◌, ap, option_map, subst, sym, true}
 use Rattle.iv_clients.specs.Kept.{Kept}
 use Rattle.iv_clients.proofs.Slots.{one_some, some_is_none}
 use Rattle.iv_gateway.specs.Newly.{is_among}

@@ -1,7 +1,5 @@
-use Rattle.std.proofs.Common.{◌≡◌, ◌∙◌, ◌<◌, ◌≤◌, ap, arith, length, rules, subst, sym, true, Some}
+use Rattle.std.proofs.Common.{◌∙◌, ap, arith, rules}
 use Rattle.iv_clients.specs.Clients.{client_at}
-use Rattle.iv_clients.specs.Kept.{Kept}
-use Rattle.iv_gateway.specs.Newly.{is_among}
 use Rattle.iv_gateway.proofs.NewRights.{all_roles, more_roles}
 use Rattle.iv_gateway.proofs.newly.all_readable.Goals as goal
 

@@ -1,4 +1,4 @@
-use Rattle.std.proofs.Common.{◌≡◌, ◌∙◌, ap, length, map, sym}
+use Rattle.std.proofs.Common.{◌∙◌, ap, length, map, sym}
 use Rattle.std.specs.Prelude.{◌==◌}
 use Rattle.std.specs.List.{list_all}
 use Rattle.iv_clients.specs.Clients.{at_all}

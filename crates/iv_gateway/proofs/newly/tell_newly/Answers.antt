@@ -1,4 +1,4 @@
-use Rattle.std.proofs.Common.{◌≡◌, ◌∙◌, [], ap, length, sym}
+use Rattle.std.proofs.Common.{◌∙◌, [], ap, length, sym}
 use Rattle.std.specs.Prelude.{◌==◌}
 use Rattle.iv_rows.specs.Options.{if_some}
 use Rattle.iv_clients.specs.Clients.{at_client, client_at}

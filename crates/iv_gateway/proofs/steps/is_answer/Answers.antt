@@ -1,4 +1,4 @@
-use Rattle.std.proofs.Common.{◌≡◌, ◌∙◌, length, is_some, ap}
+use Rattle.std.proofs.Common.{◌∙◌, length, is_some, ap}
 use Rattle.std.specs.Prelude.{◌&&◌, nat_le, option_and_then}
 use Rattle.serde_json.specs.Find.{as_object}
 use Rattle.iv_clients.specs.Bounds.{most_said}

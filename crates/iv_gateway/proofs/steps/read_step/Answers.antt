@@ -1,4 +1,4 @@
-use Rattle.std.proofs.Common.{◌≡◌, ◌∙◌, List, Some, None, ap, cond, drop, false, option_map, sym, true}
+use Rattle.std.proofs.Common.{◌≡◌, ◌∙◌, List, Some, ap, drop, false, option_map, sym, true}
 use Rattle.std.specs.List.{list_all}
 use Rattle.iv_clients.specs.Journal.{Entry}
 use Rattle.iv_clients.specs.Parsed.{record_in}

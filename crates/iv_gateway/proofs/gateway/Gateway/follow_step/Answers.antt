@@ -1,4 +1,4 @@
-use Rattle.std.proofs.Common.{◌≡◌, ◌∙◌, ap, false, subst, sym}
+use Rattle.std.proofs.Common.{◌∙◌, ap, false, subst, sym}
 use Rattle.std.specs.Prelude.{◌==◌, ◌&&◌, IfErr, nat_le, nat_lt}
 use Rattle.iv_rows.specs.Options.{if_some}
 use Rattle.iv_gate.specs.Arriving.{is_log}

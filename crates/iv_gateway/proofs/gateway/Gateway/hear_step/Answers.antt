@@ -1,4 +1,4 @@
-use Rattle.std.proofs.Common.{◌≡◌, ◌∙◌, ap, map, subst, sym}
+use Rattle.std.proofs.Common.{◌∙◌, ap, map, subst, sym}
 use Rattle.iv_access.specs.Rights.{Name}
 use Rattle.iv_command.specs.Views.{line_of}
 use Rattle.iv_message.specs.Told.{granted}
