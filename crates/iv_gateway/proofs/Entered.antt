@@ -94,7 +94,7 @@ known_last k (e ∷ es) n = known_last (learned limits (once.named e) k) es n
 abbrev pub entry_with : List Request → List Named → Entry
 entry_with qs ns = record { requests = qs; names = ns; position = None }
 
-abbrev names_by : Gate → List Named → List Named → Names
+abbrev pub names_by : Gate → List Named → List Named → Names
 names_by g all spent = record { limits = limits; known = known_by (known_at g.head) all; spent = spent_in spent }
 
 -- a name more
@@ -127,10 +127,10 @@ position_push p (x ∷ xs) e = position_push (unwrap_or x.position p) xs e
 position_stays : (g : Gate) (qs : List Request) (ns : List Named) → position (entered g (entry_with qs ns ∷ [])) ≡ position g
 position_stays g qs ns = position_push g.head.position g.entries (entry_with qs ns)
 
-settled_stays : (g : Gate) (es : List Entry) → g.kept ≤ length g.entries → settled_at (entered g es) ≡ settled_at g
+pub settled_stays : (g : Gate) (es : List Entry) → g.kept ≤ length g.entries → settled_at (entered g es) ≡ settled_at g
 settled_stays g es h = ap (position_of g.head.position) (take-append-le g.kept g.entries es h)
 
-forgiven_more : (g : Gate) (es : List Entry) → g.forgiven ≤ length g.entries → g.forgiven ≤ length (entered g es).entries
+pub forgiven_more : (g : Gate) (es : List Entry) → g.forgiven ≤ length g.entries → g.forgiven ≤ length (entered g es).entries
 forgiven_more g es h = let l = length-append g.entries es in omega (arith, h, l)
 
 -- ---- lines
@@ -138,7 +138,7 @@ forgiven_more g es h = let l = length-append g.entries es in omega (arith, h, l)
 abbrev lines_of : Entry → List Line
 lines_of e = record_of (texts_of e)
 
-pends_more : (kept : ℕ) (es fs : List Entry) (old new : List Line) → IsPending kept es old → new ≡ old ++ journal_of fs → IsPending kept (es ++ fs) new
+pub pends_more : (kept : ℕ) (es fs : List Entry) (old new : List Line) → IsPending kept es old → new ≡ old ++ journal_of fs → IsPending kept (es ++ fs) new
 pends_more kept es fs old new p h = record {
   within = let l = length-append es fs in let w = p.within in omega (arith, l, w);
   lines = h ∙ (ap (λ z. z ++ journal_of fs) p.lines ∙ (sym (flat_map-append lines_of (drop kept es) fs) ∙ ap journal_of (sym (drop-append-le kept es fs p.within))));

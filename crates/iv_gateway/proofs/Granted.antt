@@ -139,7 +139,7 @@ name_next read xs i d start before now lt e g =
 
 -- ---- clients
 
-role_held : (ts : List Told) (k : Kept) → (holding_all ts k).role ≡ k.role
+pub role_held : (ts : List Told) (k : Kept) → (holding_all ts k).role ≡ k.role
 role_held [] k = refl
 role_held (t ∷ ts) k = role_held ts (holding (told_text t) k)
 

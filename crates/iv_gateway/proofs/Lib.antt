@@ -14,3 +14,6 @@ pub mod Shaped
 pub mod Entered
 pub mod Replayed
 pub mod Subscribed
+pub mod NewRights
+pub mod Landed
+pub mod StepLines

@@ -1,5 +1,8 @@
+pub mod Arriving
 pub mod Granting
+pub mod Newly
 pub mod Reading
+pub mod Reads
 pub mod Replays
 pub mod Shaping
 pub mod Speaking

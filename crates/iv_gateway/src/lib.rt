@@ -5,8 +5,11 @@
 //! `admit` if it is the first, and else `said`, in their order, as long as `is_heard`; then `settle`; then for each number of `told`, from
 //! the last to the first, `take`, whose text goes to its socket, and `is_dropped`, whose socket is closed. What `said` answers `false` to is
 //! said again later. Each error ends the program. So nobody is told what the journal does not have, and a round's requests share one sync.
+//!
+//! If it follows a log, it takes each step of that by `read_step` and `take_step` before `settle`, and tells the log's source `settled_at` after it.
 #![tactic(auto)]
 
+mod arriving;
 mod closing;
 mod coming;
 mod events;
@@ -14,17 +17,21 @@ mod gateway;
 mod granting;
 mod journal;
 mod messages;
+mod newly;
 mod opening;
 mod restoring;
 mod seats;
 mod shaping;
 mod sharing;
+mod steps;
 mod subscribing;
 mod sweeping;
 mod tally;
 mod telling;
 
+pub use arriving::StepFault;
 pub use gateway::{Gateway, GatewayFault, Head, Log};
 pub use journal::{Journal, JournalFault};
 pub use restoring::RestoreFault;
+pub use steps::{Step, read_step};
 pub use tally::{KINDS, Tally};

@@ -4,10 +4,14 @@
 #[cfg(test)]
 mod conversations;
 #[cfg(test)]
+mod following;
+#[cfg(test)]
 mod out;
 #[cfg(test)]
 mod playing;
 #[cfg(test)]
 mod slow;
+#[cfg(test)]
+mod steps;
 #[cfg(test)]
 mod viewd;

@@ -5,14 +5,17 @@
 //! these tokens are known from now on. `tick`: all are told that the line is alive. `sync`: the journal is synced, and each client that is listed
 //! as told takes what it may be sent, one line each after its number. `journal`: the journal's lines, parts of a record after `+`. `tear TEXT`: the journal has
 //! the part of a record. `spoil TEXT`: the journal has the record. `restart`: another gateway begins from the journal. `viewd REL`: what viewd answers to the
-//! journal's entries as lines of its own, and then to a subscribe to the relation by the administrator.
+//! journal's entries as lines of its own, and then to a subscribe to the relation by the administrator. `follow`: another gateway, which follows the
+//! log `main`, begins from the journal. `step LOG FROM TO TEXTS`: a step of the log comes, of texts with `|` between them. `at`: where the log stands, and
+//! up to where the journal has it on disk.
 ghost use Rattle.std.specs.Prelude.{None};
 
+use crate::following::{log_of, put_position, step};
 use crate::out::Out;
 use crate::viewd::answers;
 use iv_clients::{OwnedLine, Token, read_tokens};
 use iv_engine::Engine;
-use iv_gateway::{Gateway, GatewayFault, Head, Journal, JournalFault, RestoreFault};
+use iv_gateway::{Gateway, GatewayFault, Head, Journal, JournalFault, Log, RestoreFault};
 use iv_journal::Line;
 use iv_once::{LIMITS, Names};
 use std::alloc::{AllocError, Global};
@@ -122,18 +125,29 @@ fn tokens_of(alloc: Global, names: &str) -> Result<Vec<Token>, AllocError> {
 }
 
 /// What a journal without a line says at its head.
-fn new_head(alloc: Global) -> Result<Head, AllocError> {
+fn new_head(alloc: Global, log: Option<Log>) -> Result<Head, AllocError> {
     Ok(Head {
         names: Names::new(alloc, LIMITS, EPOCH)?,
-        log: None,
+        log,
         position: 0,
     })
 }
 
 /// A gateway over a new engine, with places for a few clients.
 pub fn new_gateway(alloc: Global) -> Result<Gateway, AllocError> {
+    gateway_with(alloc, None)
+}
+
+/// A gateway over a new engine that follows the log `main`.
+fn following_gateway(alloc: Global) -> Result<Gateway, AllocError> {
+    let log = log_of(alloc, "main")?;
+    gateway_with(alloc, Some(log))
+}
+
+/// A gateway over a new engine, with places for a few clients, and the log that it follows.
+fn gateway_with(alloc: Global, log: Option<Log>) -> Result<Gateway, AllocError> {
     let tokens = tokens_of(alloc, ALL)?;
-    let head = new_head(alloc)?;
+    let head = new_head(alloc, log)?;
     match Engine::new(alloc, 1_024) {
         Ok(engine) => Gateway::new(alloc, engine, tokens, MOST, head),
         Err(error) => {
@@ -212,8 +226,13 @@ fn restore(gateway: &mut Gateway, journal: &Kept, out: &mut Out) {
 }
 
 /// Has another gateway begin from the journal.
-fn restart(gateway: &mut Gateway, journal: &Kept, out: &mut Out) {
-    match new_gateway(out.alloc()) {
+fn restart(
+    gateway: &mut Gateway,
+    journal: &Kept,
+    other: Result<Gateway, AllocError>,
+    out: &mut Out,
+) {
+    match other {
         Ok(other) => {
             drop(mem::replace(gateway, other));
             restore(gateway, journal, out);
@@ -280,6 +299,8 @@ fn happen(gateway: &mut Gateway, word: &str, text: &str, out: &mut Out) {
             }
         }
         "tokens" => know(gateway, text, out),
+        "step" => step(gateway, text, out),
+        "at" => put_position(gateway, out),
         _ => match numbered(text) {
             Some((client, text)) => happen_to(gateway, word, client, text, out),
             None => out.put("no such word\n"),
@@ -338,7 +359,8 @@ fn play(gateway: &mut Gateway, journal: &mut Kept, what: &str, out: &mut Out) {
     let (word, text) = what.split_once(' ').unwrap_or((what, ""));
     match word {
         "sync" => sync(gateway, journal, out),
-        "restart" => restart(gateway, journal, out),
+        "restart" => restart(gateway, journal, new_gateway(out.alloc()), out),
+        "follow" => restart(gateway, journal, following_gateway(out.alloc()), out),
         _ => {
             if !happens_to_journal(journal, word, text, out) {
                 happen(gateway, word, text, out);

@@ -1,0 +1,213 @@
+-- A step that comes: what the journal is to have of it, whether it is taken, and what it leaves.
+use Rattle.std.proofs.Common.{◌≡◌, ◌∙◌, ℕ, ◌+◌, ◌≤◌, Bool, true, false, cond, not, List, [], ◌∷◌, ◌++◌, length, drop, map, Option, Some, None, is_some, option_map, refl, ap, sym, subst, append-nil, append_assoc}
+use Rattle.std.specs.Prelude.{◌==◌, ◌&&◌, Result, Ok, Err, filter, flat_map, nat_le, nat_lt}
+use Rattle.std.specs.Result.{IsErrAnd}
+use Rattle.std.specs.List.{AllByRecursion, list_all}
+use Rattle.std.proofs.lemmas.Bool.{false≢true}
+use Rattle.std.proofs.lemmas.List.{drop-append-le}
+use Rattle.std.proofs.lemmas.List.Concat.{flat_map-append}
+use Rattle.iv_rows.specs.Options.{if_some}
+use Rattle.iv_machine.specs.Act.{Refusal}
+use Rattle.iv_machine.specs.Machine.{Outcome}
+use Rattle.iv_message.proofs.Meaning.{ReadsWell}
+use Rattle.iv_message.specs.Told.{made, told_text}
+use Rattle.iv_journal.specs.Journal as journal
+use Rattle.iv_once.specs.Names as once
+use Rattle.iv_once.specs.Names.{Known, Named, Names, learned, pushed}
+use Rattle.iv_once.specs.Views.{names_of as names_in_code}
+use Rattle.iv_steps.specs.Laws.{RefusalsAreFound}
+use Rattle.iv_steps.specs.Steps.{Fact, first_refused, is_shared, is_well_fact, shared, stepped}
+use Rattle.iv_command.specs.Views.{refusal_of}
+use Rattle.iv_clients.specs.Journal.{Entry, IsRequest, Request, is_shape, names_in, record_of, texts_of}
+use Rattle.iv_clients.specs.Names.{limits}
+use Rattle.iv_gate.specs.Arriving.{Fault, Step, entry_of, fact_of, fault_of, first_known, gap, is_behind, is_log, is_new, landed, not_accepted, not_new, other_log, position, takes}
+use Rattle.iv_gate.specs.Gate.{Gate, entered, known_of, names_of, shape_text}
+use Rattle.iv_gateway.specs.Arriving.{IsFaultOf, IsLanded, IsNotLanded, IsRefusedBy, IsTakenBy, all_pushed}
+use Rattle.iv_gateway.specs.Shaping.{shape_in}
+use Rattle.iv_gateway.specs.Views.{IsAlive}
+use Rattle.iv_gateway.specs.declared.arriving.StepFault.{StepFault}
+use Rattle.iv_gateway.specs.declared.arriving.StepFault.TheVariants as fault
+use Rattle.iv_gateway.specs.declared.gateway.Gateway.{Gateway}
+use Rattle.iv_gateway.proofs.Entered.{AreKept, forgiven_more, names_by, one_pushed, pends_more, position_push, settled_stays}
+use Rattle.iv_gateway.proofs.Replayed.{request_well}
+use Rattle.iv_gateway.proofs.Shaped.{no_shape, one_shape, shape_added}
+
+-- ---- names are learned
+
+all_more : (g : Gate) (all spent ns : List Named) → names_by g (all ++ ns) (spent ++ ns) ≡ all_pushed (names_by g all spent) ns
+all_more g all spent [] = λ i. names_by g (append-nil all i) (append-nil spent i)
+all_more g all spent (n ∷ ns) =
+    (λ i. names_by g (sym (append_assoc all (n ∷ []) ns) i) (sym (append_assoc spent (n ∷ []) ns) i))
+    ∙ (all_more g (all ++ n ∷ []) (spent ++ n ∷ []) ns ∙ ap (λ z. all_pushed z ns) (one_pushed g all spent n))
+
+-- one after another: as long as each is new
+pub learns_on : (place : ℕ) (n : Named) (rest : List Named) (known now : Names) (is : Bool) → known.limits ≡ limits
+    → is ≡ once.is_new known.limits known.known n.ask → is ≡ true → now ≡ pushed known (once.named n)
+    → first_known (place + 1) (n ∷ rest) known.known ≡ first_known (place + 1 + 1) rest now.known
+learns_on place n rest known now is l e t m = λ i. cond (new i) (first_known (place + 1 + 1) rest (learn i)) (Some (not_new (place + 1)))
+  where
+    new : is_new known.known n.ask ≡ true
+    new = ap (λ z. once.is_new z known.known n.ask) (sym l) ∙ (sym e ∙ t)
+
+    learn : learned limits (once.named n) known.known ≡ now.known
+    learn = ap (λ z. learned z (once.named n) known.known) (sym l) ∙ sym (ap (λ (z : Names). z.known) m)
+
+pub stops_at : (place : ℕ) (n : Named) (rest : List Named) (known : Names) (is : Bool) → known.limits ≡ limits
+    → is ≡ once.is_new known.limits known.known n.ask → is ≡ false → first_known (place + 1) (n ∷ rest) known.known ≡ Some (not_new (place + 1))
+stops_at place n rest known is l e t =
+    ap (λ b. cond b (first_known (place + 1 + 1) rest (learned limits (once.named n) known.known)) (Some (not_new (place + 1))))
+    (ap (λ z. once.is_new z known.known n.ask) (sym l) ∙ (sym e ∙ t))
+
+-- those of an entry
+names_all : (g : Gate) (e : Entry) → g.forgiven ≤ length g.entries → names_of (entered g (e ∷ [])) ≡ all_pushed (names_of g) e.names
+names_all g e f =
+    let more : (es : List Entry) → names_in (es ++ e ∷ []) ≡ names_in es ++ e.names = λ es. flat_map-append (λ (x : Entry). x.names) es (e ∷ [])
+    ∙ ap (λ z. names_in es ++ z) (append-nil e.names) in
+    (λ i. names_by g (more g.entries i) ((ap names_in (drop-append-le g.forgiven g.entries (e ∷ []) f) ∙ more (drop g.forgiven g.entries)) i))
+    ∙ all_more g (names_in g.entries) (names_in (drop g.forgiven g.entries)) e.names
+
+-- ---- the shape
+
+text_of_all : (qs : List Request) → flat_map told_text (map (λ (q : Request). made q.role q.line) (filter (λ (q : Request). is_shape q.act) qs)) ≡ flat_map shape_in qs
+text_of_all [] = refl
+text_of_all (q ∷ qs) = by (text_of_all qs) (is_shape q.act) refl
+  where
+    by : flat_map told_text (map (λ (x : Request). made x.role x.line) (filter (λ (x : Request). is_shape x.act) qs)) ≡ flat_map shape_in qs → (b : Bool) → is_shape q.act ≡ b
+        → flat_map told_text (map (λ (x : Request). made x.role x.line) (cond b (q ∷ filter (λ (x : Request). is_shape x.act) qs) (filter (λ (x : Request). is_shape x.act) qs)))
+        ≡ shape_in q ++ flat_map shape_in qs
+    by later true e = λ i. one_shape q e i ++ later i
+    by later false e = later ∙ ap (λ z. z ++ flat_map shape_in qs) (sym (no_shape q e))
+
+pub entry_shape : (e : Entry) → flat_map shape_in e.requests ≡ shape_text (e ∷ [])
+entry_shape e = sym (ap (λ qs. flat_map told_text (map (λ (q : Request). made q.role q.line) (filter (λ (q : Request). is_shape q.act) qs))) (append-nil e.requests) ∙ text_of_all e.requests)
+
+-- the requests in their order: their facts, and what they make of the shape
+pub facts_on : (all rest : List Request) (q r : Request) (facts now : List Fact) → q ≡ r → map fact_of all ≡ facts ++ map fact_of (r ∷ rest)
+    → now ≡ facts ++ fact_of q ∷ [] → map fact_of all ≡ now ++ map fact_of rest
+facts_on all rest q r facts now v h n =
+    h ∙ (sym (append_assoc facts (fact_of r ∷ []) (map fact_of rest)) ∙ ap (λ z. z ++ map fact_of rest) (ap (λ z. facts ++ fact_of z ∷ []) (sym v) ∙ sym n))
+
+pub makes_on : (all rest : List Request) (q r : Request) (start old now : List ℕ) → q ≡ r
+    → start ++ flat_map shape_in all ≡ old ++ flat_map shape_in (r ∷ rest) → now ≡ old ++ shape_in q → start ++ flat_map shape_in all ≡ now ++ flat_map shape_in rest
+makes_on all rest q r start old now v h n =
+    h ∙ (sym (append_assoc old (shape_in r) (flat_map shape_in rest)) ∙ ap (λ z. z ++ flat_map shape_in rest) (ap (λ z. old ++ shape_in z) (sym v) ∙ sym n))
+
+-- ---- what the code keeps of it
+
+pub step_kept : (g : Gate) (s : Step) (x : Gateway) (names : Names) (lines : List journal.Line) (shape adds : List ℕ) → IsAlive g x
+    → names ≡ all_pushed (names_in_code x.names) s.names → lines ≡ x.pending.items ++ record_of (texts_of (entry_of s))
+    → adds ≡ shape_text (entry_of s ∷ []) → shape ≡ x.shape.items ++ adds
+    → AreKept (entered g (entry_of s ∷ [])) names s.to x.settled lines shape
+step_kept g s x names lines shape adds b n l m h = record {
+  names = n ∙ (ap (λ z. all_pushed z s.names) b.names ∙ sym (names_all g (entry_of s) b.forgiven));
+  position = sym (position_push g.head.position g.entries (entry_of s));
+  settled = b.settled ∙ sym (settled_stays g (entry_of s ∷ []) b.pending.within);
+  forgiven = forgiven_more g (entry_of s ∷ []) b.forgiven;
+  pending = pends_more g.kept g.entries (entry_of s ∷ []) x.pending.items lines b.pending
+      (l ∙ ap (λ z. x.pending.items ++ z) (sym (append-nil (record_of (texts_of (entry_of s))))));
+  shape = shape_added g.entries (entry_of s ∷ []) x.shape.items shape adds b.shape m h;
+}
+
+-- ---- facts
+
+-- those of a step are such as an engine takes
+pub facts_well : ReadsWell → (qs : List Request) → AllByRecursion IsRequest qs → list_all is_well_fact (map fact_of qs) ≡ true
+facts_well reads [] w = refl
+facts_well reads (q ∷ qs) w =
+    (λ i. (w.0.role i && (w.0.shared i && request_well reads q w.0 i)) && list_all is_well_fact (map fact_of qs)) ∙ facts_well reads qs w.1
+
+facts_shared : (qs : List Request) → AllByRecursion IsRequest qs → AllByRecursion (λ f. is_shared f.act ≡ true) (map fact_of qs)
+facts_shared [] w = tt
+facts_shared (q ∷ qs) w = (w.0.shared, facts_shared qs w.1)
+
+-- where all are carried out none is refused
+pub none_refused : RefusalsAreFound → (qs : List Request) (g : Gate) (o : Outcome) → AllByRecursion IsRequest qs → stepped (map fact_of qs) g.machine ≡ Some o
+    → first_refused 1 (map fact_of qs) (shared g.machine) ≡ None
+none_refused found qs g o w h = none_if (first_refused 1 (map fact_of qs) (shared g.machine))
+    (found (map fact_of qs) g.machine (facts_shared qs w) ∙ ap (λ z. not (is_some z)) h)
+  where
+    none_if : {X : Type 0} (o : Option X) → is_some o ≡ false → o ≡ None
+    none_if None h = refl
+    none_if (Some x) h = absurd (false≢true (sym h))
+
+pub refused_lands : (g : Gate) (s : Step) (es : List Entry) (facts : List Fact) (f : StepFault) → first_known 1 s.names (known_of g) ≡ None → facts ≡ map fact_of s.requests
+    → IsRefusedBy (entered g es) facts f → IsNotLanded g s f
+refused_lands g s es facts fault.OtherLog n e h = h
+refused_lands g s es facts (fault.Gap p) n e h = h
+refused_lands g s es facts (fault.NotAccepted q why) n e h = (n, ap (λ fs. first_refused 1 fs (shared g.machine)) (sym e) ∙ h)
+refused_lands g s es facts (fault.NotNew p) n e h = absurd h
+refused_lands g s es facts fault.Memory n e h = h
+refused_lands g s es facts fault.Dead n e h = h
+
+-- what follows from each error follows from the one that came
+pub err_gives : {A E : Type 0} (r : Result A E) (P : E → Type 0) (Q : Result A E → Type 0) → IsErrAnd r P → ((x : E) → P x → Q (Err x)) → Q r
+err_gives (Ok a) P Q h k = absurd h
+err_gives (Err x) P Q h k = k x h
+
+-- ---- whether it is taken
+
+abbrev is_ours : Gate → Step → Bool
+is_ours g s = if_some g.head.log false (is_log s.log)
+
+abbrev begins : Gate → Step → Bool
+begins g s = (s.from == position g) && nat_lt s.from s.to
+
+abbrev fault_by : (ours past next : Bool) → ℕ → Option Fault → Option (ℕ × Refusal) → Option Fault
+fault_by ours past next at names first = cond (ours && past) None (
+    cond (not ours) (Some other_log) (
+    cond (not next) (Some (gap at)) (if_some names (option_map (λ p. not_accepted p.0 p.1) first) Some)))
+
+fault_is : (g : Gate) (s : Step) (ours past next : Bool) (names : Option Fault) (first : Option (ℕ × Refusal)) → is_ours g s ≡ ours → nat_le s.to (position g) ≡ past
+    → begins g s ≡ next → first_known 1 s.names (known_of g) ≡ names → first_refused 1 (map fact_of s.requests) (shared g.machine) ≡ first
+    → fault_of g s ≡ fault_by ours past next (position g) names first
+fault_is g s ours past next names first o p n k f = λ i. fault_by (o i) (p i) (n i) (position g) (k i) (f i)
+
+takes_as : (g : Gate) (s : Step) (f : Option Fault) (b : Bool) (o : Option Outcome) → fault_of g s ≡ f → is_behind g s ≡ b → stepped (map fact_of s.requests) g.machine ≡ o
+    → takes g s ≡ cond (is_some f) (record g { dead = true }) (cond b g (if_some o g (landed g (entry_of s))))
+takes_as g s f b o e h k = λ i. cond (is_some (e i)) (record g { dead = true }) (cond (h i) g (if_some (k i) g (landed g (entry_of s))))
+
+pub of_another : (g : Gate) (s : Step) → is_ours g s ≡ false → IsFaultOf g s fault.OtherLog
+of_another g s o = fault_is g s false (nat_le s.to (position g)) (begins g s) (first_known 1 s.names (known_of g))
+    (first_refused 1 (map fact_of s.requests) (shared g.machine)) o refl refl refl refl
+
+pub was_taken : (g : Gate) (s : Step) (x : Gateway) → is_ours g s ≡ true → nat_le s.to (position g) ≡ true → IsAlive g x → IsTakenBy g s false × IsAlive (takes g s) x
+was_taken g s x o p b =
+    let none : fault_of g s ≡ None = fault_is g s true true (begins g s) (first_known 1 s.names (known_of g))
+    (first_refused 1 (map fact_of s.requests) (shared g.machine)) o p refl refl refl in
+    let past : is_behind g s ≡ true = λ i. o i && p i in (
+      record { none = none; new = ap not (sym past) },
+      subst (λ h. IsAlive h x) (sym (takes_as g s None true (stepped (map fact_of s.requests) g.machine) none past refl)) b,
+    )
+
+pub has_gap : (g : Gate) (s : Step) (at : ℕ) → is_ours g s ≡ true → nat_le s.to (position g) ≡ false → begins g s ≡ false → at ≡ position g → IsFaultOf g s (fault.Gap at)
+has_gap g s at o p n e =
+    fault_is g s true false false (first_known 1 s.names (known_of g)) (first_refused 1 (map fact_of s.requests) (shared g.machine)) o p n refl refl
+    ∙ ap (λ z. Some (gap z)) (sym e)
+
+pub has_landed : (g : Gate) (s : Step) (x : Gateway) → is_ours g s ≡ true → nat_le s.to (position g) ≡ false → begins g s ≡ true → IsLanded g s x
+    → IsTakenBy g s true × IsAlive (takes g s) x
+has_landed g s x o p n w =
+    let none : fault_of g s ≡ None = fault_is g s true false true None None o p n w.new w.accepted in
+    let past : is_behind g s ≡ false = λ i. o i && p i in (
+      record { none = none; new = ap not (sym past) },
+      subst (λ h. IsAlive h x) (sym (takes_as g s None false (Some w.outcome) none past w.is)) w.gate,
+    )
+
+pub not_landed : (g : Gate) (s : Step) (f : StepFault) → is_ours g s ≡ true → nat_le s.to (position g) ≡ false → begins g s ≡ true → IsNotLanded g s f → IsFaultOf g s f
+not_landed g s fault.OtherLog o p n h = absurd h
+not_landed g s (fault.Gap at) o p n h = absurd h
+not_landed g s (fault.NotAccepted q why) o p n h = fault_is g s true false true None (Some (q, refusal_of why)) o p n h.0 h.1
+not_landed g s (fault.NotNew k) o p n h =
+    fault_is g s true false true (Some (not_new k)) (first_refused 1 (map fact_of s.requests) (shared g.machine)) o p n h refl
+not_landed g s fault.Memory o p n h = tt
+not_landed g s fault.Dead o p n h = tt
+
+-- what is taken kills nothing
+pub taken_lives : (g : Gate) (s : Step) → fault_of g s ≡ None → (takes g s).dead ≡ g.dead
+taken_lives g s e = ap (λ (h : Gate). h.dead) (takes_as g s None (is_behind g s) (stepped (map fact_of s.requests) g.machine) e refl refl)
+    ∙ by (is_behind g s) (stepped (map fact_of s.requests) g.machine)
+  where
+    by : (b : Bool) (o : Option Outcome) → (cond b g (if_some o g (landed g (entry_of s)))).dead ≡ g.dead
+    by true o = refl
+    by false None = refl
+    by false (Some o) = refl

@@ -1,0 +1,285 @@
+//! `take_step`: a step of the log that is followed is taken whole, or the gateway is dead. Each client is told once what differs after it.
+ghost use Rattle.std.specs.Prelude.{◌≡◌, ◌++◌, ◌∷◌, [], IfErr, IfOk, None, OnErr, OnOk, false, flat_map, map, option_map, true};
+ghost use Rattle.std.specs.List.{list_all};
+ghost use Rattle.iv_command.specs.Views.{act_of, line_of};
+ghost use Rattle.iv_machine.specs.Machine.{Outcome};
+ghost use Rattle.iv_clients.specs.Clients.{own_lines};
+ghost use Rattle.iv_clients.specs.Journal.{Entry};
+ghost use Rattle.iv_clients.specs.Kept.{kept_slots};
+ghost use Rattle.iv_clients.specs.Names.{limits};
+ghost use Rattle.iv_once.specs.Names.{is_new};
+ghost use Rattle.iv_once.specs.Views.{names_of};
+ghost use Rattle.iv_steps.specs.Steps.{is_well_fact};
+ghost use Rattle.iv_engine.specs.Stepped.{is_write};
+ghost use Rattle.iv_message.specs.Told.{granted};
+ghost use Rattle.iv_gate.specs.Arriving.{fact_of, first_known, newly, not_new, takes};
+ghost use Rattle.iv_gate.specs.Events.{IsWell, arrived, failed, next};
+ghost use Rattle.iv_gate.specs.Gate.{Gate, informs, settles, shape_text, went_on};
+ghost use Rattle.iv_gateway.specs.Arriving.{IsCarried, IsEntered, IsFaultOf, IsLanded, IsNotLanded, IsRefusedBy, IsTakenBy, all_pushed};
+ghost use Rattle.iv_gateway.specs.Newly.{AreBefore, AreNewly};
+ghost use Rattle.iv_gateway.specs.Shaping.{shape_in};
+ghost use Rattle.iv_gateway.specs.Views.{IsAlive, IsGate};
+
+use crate::gateway::Gateway;
+use crate::newly::{Readable, all_readable, hear_newly};
+use crate::shaping::push_shape;
+use crate::steps::Step;
+use iv_clients::{Request, drop_ended, push_step};
+use iv_command::{Act, Line, Refusal};
+use iv_engine::{Fact, StepFault as EngineFault};
+use iv_message::laws::told_texts_are_lines;
+use iv_once::{Named, Names};
+use iv_request::laws::requests_are_well;
+use iv_steps::laws::refusals_are_found;
+use std::alloc::{AllocError, Global};
+
+/// Why a step is not taken. The gateway is dead then.
+#[derive(Drop)]
+pub enum StepFault {
+    /// It is of another log, or none is followed.
+    OtherLog,
+    /// It does not begin at the position, which is told, or leads nowhere.
+    Gap(u64),
+    /// This request of it, counted from 1, is the first that is refused, and why.
+    NotAccepted(usize, Refusal),
+    /// This name of it, counted from 1, is the first that may have an answer already.
+    NotNew(usize),
+    /// A growth of memory was refused.
+    Memory,
+    /// The gateway was dead.
+    Dead,
+}
+
+impl From<AllocError> for StepFault {
+    ghost use Rattle.iv_gateway.specs.declared.arriving.StepFault.TheVariants.{Memory};
+
+    ghost from_gives = { λ _ fault. fault ≡ Memory };
+
+    /// Out of memory, as why a step is not taken.
+    fn from(_error: AllocError) -> StepFault {
+        StepFault::Memory
+    }
+}
+
+/// Whether an act writes rows, and does nothing else.
+fn is_write(act: &Act) -> bool
+    ensures { result ≡ is_write (act_of act.now) }
+{
+    matches!(act, Act::Write { .. })
+}
+
+/// Whether requests write rows alone.
+fn are_writes(requests: &[Request]) -> bool
+    ensures { result ≡ list_all (λ q. is_write q.act) requests.now }
+{
+    requests.iter().all(|request| is_write(&request.act))
+}
+
+/// Whether a name that has its answer has none here yet.
+fn is_new(known: &Names, name: &Named) -> bool
+    ensures { result ≡ is_new (names_of known.now).limits (names_of known.now).known name.now.ask }
+{
+    known.is_new(&name.ask)
+}
+
+/// Learns names that have their answers; or which of them, counted from 1, may have one already.
+fn learn(known: &mut Names, names: Vec<Named>) -> Result<Option<usize>, AllocError>
+    ensures first { IfOk result (λ o. (names_of known.old).limits ≡ limits → first_known 1 names.items (names_of known.old).known ≡ option_map not_new o) }
+    ensures learned { IfOk result (λ o. o ≡ None → names_of known.new ≡ all_pushed (names_of known.old) names.items) }
+{
+    let mut place = 0usize;
+    for name in names {
+        place += 1;
+        if !is_new(known, &name) {
+            return Ok(Some(place));
+        }
+        known.push(name)?;
+    }
+    Ok(None)
+}
+
+/// The facts of requests. What these make of the shape is appended.
+fn facts_of(
+    alloc: Global,
+    made: &mut Vec<u8>,
+    requests: Vec<Request>,
+) -> Result<Vec<Fact>, AllocError>
+    ensures facts { IfOk result (λ facts. facts.items ≡ map fact_of requests.items) }
+    ensures made { OnOk result (made.new.items ≡ made.old.items ++ flat_map shape_in requests.items) }
+{
+    let mut facts = Vec::new(alloc);
+    for request in requests {
+        let Request { role, line, act } = request;
+        push_shape(alloc, made, role.as_str(), &line, &act)?;
+        let fact = Fact { role, act };
+        facts.push(fact)?;
+    }
+    Ok(facts)
+}
+
+impl Gateway {
+    /// Takes a step of the log that is followed: all of it is done, and each client is told once what differs after it; where it was taken
+    /// before nothing happens. Whether it was not.
+    ///
+    /// Its requests and names have to be as a journal has them, and their texts such as a journal holds: `read_step` reads such steps.
+    ///
+    /// A step that writes rows alone costs what it writes, and the clients who are told of it. Where it has other requests, all clients are
+    /// looked at: once before it for their roles, of which is asked what each may read, and once after it if a role may read more.
+    ///
+    /// # Errors
+    /// Why it is not taken. The gateway is dead then.
+    pub fn take_step(&mut self, step: Step) -> Result<bool, StepFault>
+        requires { IsWell (arrived step) }
+        ensures gate { OnOk result ((g : Gate) → IsGate g self.old → IsGate (next g (arrived step)) self.new) }
+        ensures taken { IfOk result (λ is. (g : Gate) → IsGate g self.old → IsTakenBy g step is) }
+        ensures fault { IfErr result (λ f. (g : Gate) → IsGate g self.old → g.dead ≡ false → IsFaultOf g step f) }
+        ensures fails { OnErr result ((g : Gate) → IsGate g self.old → IsGate (next g failed) self.new) }
+    {
+        if self.dead {
+            drop(step);
+            return Err(StepFault::Dead);
+        }
+        match self.follow_step(step) {
+            Ok(is) => {
+                self.dead = false;
+                Ok(is)
+            }
+            Err(fault) => {
+                self.dead = true;
+                Err(fault)
+            }
+        }
+    }
+
+    /// Takes a step where it is the next one, or was taken before. Whether it was not.
+    fn follow_step(&mut self, step: Step) -> Result<bool, StepFault>
+        requires { IsWell (arrived step) }
+        ensures gate { IfOk result (λ is. (g : Gate) → IsAlive g self.old → IsTakenBy g step is × IsAlive (takes g step) self.new) }
+        ensures fault { IfErr result (λ f. (g : Gate) → IsAlive g self.old → IsFaultOf g step f) }
+    {
+        if !step.is_of(&self.log) {
+            drop(step);
+            return Err(StepFault::OtherLog);
+        }
+        if step.is_past(self.position) {
+            drop(step);
+            return Ok(false);
+        }
+        if !step.is_next(self.position) {
+            drop(step);
+            return Err(StepFault::Gap(self.position));
+        }
+        self.land(step)?;
+        Ok(true)
+    }
+
+    /// Carries the next step out whole, and has it told.
+    fn land(&mut self, step: Step) -> Result<(), StepFault>
+        requires { IsWell (arrived step) }
+        ensures landed { OnOk result ((g : Gate) → IsAlive g self.old → IsLanded g step self.new) }
+        ensures fault { IfErr result (λ f. (g : Gate) → IsAlive g self.old → IsNotLanded g step f) }
+    {
+        requests_are_well();
+        refusals_are_found();
+        let before = self.readable_before(&step.requests)?;
+        let mut made = Vec::new(self.alloc);
+        let facts = self.enter_step(step, &mut made)?;
+        let lines = self.carry_step(facts)?;
+        self.tell_step(&lines, &before, &made)?;
+        Ok(())
+    }
+
+    /// What the roles of clients may read, unless requests write rows alone: by these nobody may read more.
+    fn readable_before(&self, requests: &[Request]) -> Result<Vec<Readable>, AllocError>
+        ensures { IfOk result (λ before. (g : Gate) → IsAlive g self.now
+            → AreBefore g.machine.frame (list_all (λ q. is_write q.act) requests.now) before.items (kept_slots g.clients)) }
+    {
+        if are_writes(requests) {
+            return Ok(Vec::new(self.alloc));
+        }
+        let all = all_readable(self.alloc, &self.engine, &self.clients)?;
+        Ok(all)
+    }
+
+    /// The journal is to have a step, whose names are learned. Its facts; what it makes of the shape is appended.
+    fn enter_step(&mut self, step: Step, made: &mut Vec<u8>) -> Result<Vec<Fact>, StepFault>
+        requires { made.old.items ≡ [] }
+        ensures facts { IfOk result (λ facts. facts.items ≡ map fact_of step.requests) }
+        ensures entered { OnOk result ((g : Gate) → IsAlive g self.old → IsEntered g step made.new.items self.new) }
+        ensures fault { IfErr result (λ f. (g : Gate) → IsAlive g self.old → IsNotLanded g step f) }
+    {
+        push_step(
+            self.alloc,
+            &mut self.pending,
+            &step.requests,
+            &step.names,
+            step.to,
+        )?;
+        let Step {
+            log,
+            to,
+            requests,
+            names,
+            ..
+        } = step;
+        drop(log);
+        match learn(&mut self.names, names)? {
+            None => {}
+            Some(place) => {
+                drop(requests);
+                return Err(StepFault::NotNew(place));
+            }
+        }
+        self.position = to;
+        let facts = facts_of(self.alloc, made, requests)?;
+        self.shape.extend_from_slice(made)?;
+        Ok(facts)
+    }
+
+    /// Has the engine take facts as one step. Nobody is told yet.
+    fn carry_step(&mut self, facts: Vec<Fact>) -> Result<Vec<Line>, StepFault>
+        requires { list_all is_well_fact facts.items ≡ true }
+        ensures carried { IfOk result (λ lines. (g : Gate) → IsAlive g self.old → IsCarried g facts.items (map line_of lines.items) self.new) }
+        ensures refused { IfErr result (λ f. (g : Gate) → IsAlive g self.old → IsRefusedBy g facts.items f) }
+    {
+        match self.engine.step(facts) {
+            Ok(lines) => Ok(lines),
+            Err(EngineFault::Refused { fact, refusal }) => {
+                Err(StepFault::NotAccepted(fact, refusal))
+            }
+            Err(_) => Err(StepFault::Memory),
+        }
+    }
+
+    /// Has the lines of a step told, and then what roles may read newly. What ended is shared no more.
+    fn hear_step(&mut self, lines: &[Line], before: &[Readable]) -> Result<(), AllocError>
+        ensures { OnOk result ((g : Gate) (o : Outcome) → IsAlive (record g { machine = o.state }) self.old → map line_of lines.now ≡ o.lines
+            → AreNewly g.machine.frame o.state.frame before.now (kept_slots g.clients)
+            → IsAlive (went_on g o (λ c. own_lines g.feeds o.lines c.subs ++ map granted (newly g.machine.frame o.state.frame c.role))) self.new) }
+    {
+        told_texts_are_lines();
+        self.clients.hear(self.alloc, &self.feeds, lines)?;
+        hear_newly(self.alloc, &mut self.clients, &self.engine, before)?;
+        self.clients.stay(lines);
+        drop_ended(&mut self.feeds, lines);
+        Ok(())
+    }
+
+    /// Has a step told: its lines, what roles may read newly, to administrators what it makes of the shape, and that this is all.
+    fn tell_step(
+        &mut self,
+        lines: &[Line],
+        before: &[Readable],
+        made: &[u8],
+    ) -> Result<(), AllocError>
+        ensures { OnOk result ((g : Gate) (o : Outcome) (e : Entry) → IsAlive (record g { machine = o.state }) self.old → map line_of lines.now ≡ o.lines
+            → AreNewly g.machine.frame o.state.frame before.now (kept_slots g.clients) → made.now ≡ shape_text (e ∷ [])
+            → IsAlive (settles (informs (went_on g o
+            (λ c. own_lines g.feeds o.lines c.subs ++ map granted (newly g.machine.frame o.state.frame c.role))) (e ∷ []))) self.new) }
+    {
+        self.hear_step(lines, before)?;
+        self.inform(made)?;
+        self.settle_told()?;
+        Ok(())
+    }
+}
