@@ -33,23 +33,24 @@ step_on x y f dead runs h = λ cap r. by cap r r.front.gate.dead refl
 still_dead : (d e : Front) (x y : Desk) → d.gate.dead ≡ true → e.gate.dead ≡ d.gate.dead → IsDesk e y → IsDesk d y
 still_dead d e x y h same s = record { dead = s.dead ∙ same; alive = λ a. absurd (false≢true (sym a ∙ h)) }
 
-pub failed_on : (x y : Desk) → ((g : Gate) (e : Event) → g.dead ≡ true → next g e ≡ g) → ((d : Front) → IsDesk d x → IsDesk (by_event failed d) y) → Leads x y
-failed_on x y rests h = step_on x y (by_event failed)
+pub Leads-failed : (x y : Desk) → ((g : Gate) (e : Event) → g.dead ≡ true → next g e ≡ g) → ((d : Front) → IsDesk d x → IsDesk (by_event failed d) y)
+    → Leads x y
+Leads-failed x y rests h = step_on x y (by_event failed)
     (λ d e s. still_dead d (by_event failed d) x y e (ap (λ (g : Gate). g.dead) (rests d.gate failed e)) (h d s)) (λ cap d r e. goes_on d (by_event failed d) r e fails) (λ d s e. h d s)
 
 -- names are forgiven, and a dead one stays dead
-pub forgave_on : (x y : Desk) → ((g : Gate) (e : Event) → g.dead ≡ true → next g e ≡ g)
+pub Leads-forgave : (x y : Desk) → ((g : Gate) (e : Event) → g.dead ≡ true → next g e ≡ g)
     → ((cap : ℕ) (d : Front) → FrontRuns cap d → d.gate.dead ≡ false → FrontRuns cap (by_event forgave d)) → ((d : Front) → IsDesk d x → IsDesk (by_event forgave d) y) → Leads x y
-forgave_on x y rests runs h = step_on x y (by_event forgave)
+Leads-forgave x y rests runs h = step_on x y (by_event forgave)
     (λ d e s. still_dead d (by_event forgave d) x y e (ap (λ (g : Gate). g.dead) (rests d.gate forgave e)) (h d s)) runs (λ d s e. h d s)
 
 -- where a dead one would have failed
-pub done_on : (x y : Desk) (f : Front → Front) → ((d : Front) → IsDesk d x → d.gate.dead ≡ true → ⊥)
+pub Leads-done : (x y : Desk) (f : Front → Front) → ((d : Front) → IsDesk d x → d.gate.dead ≡ true → ⊥)
     → ((cap : ℕ) (d : Front) → FrontRuns cap d → d.gate.dead ≡ false → FrontRuns cap (f d)) → ((d : Front) → IsDesk d x → IsDesk (f d) y) → Leads x y
-done_on x y f lives runs h = step_on x y f (λ d e s. absurd (lives d s e)) runs (λ d s e. h d s)
+Leads-done x y f lives runs h = step_on x y f (λ d e s. absurd (lives d s e)) runs (λ d s e. h d s)
 
-pub passed_on : (m n : ℕ) (x y : Desk) → ((d : Front) → IsDesk d x → IsDesk (at_socket m (passing n) d) y) → Leads x y
-passed_on m n x y h = step_on x y (at_socket m (passing n)) (λ d e s. still_dead d (at_socket m (passing n) d) x y e refl (h d s)) (λ cap d r e. goes_on d (at_socket m (passing n) d) r e (sends m n)) (λ d s e. h d s)
+pub Leads-passed : (m n : ℕ) (x y : Desk) → ((d : Front) → IsDesk d x → IsDesk (at_socket m (passing n) d) y) → Leads x y
+Leads-passed m n x y h = step_on x y (at_socket m (passing n)) (λ d e s. still_dead d (at_socket m (passing n) d) x y e refl (h d s)) (λ cap d r e. goes_on d (at_socket m (passing n) d) r e (sends m n)) (λ d s e. h d s)
 
 begun_dead : (d : Front) (m : ℕ) → (begun m d).gate.dead ≡ d.gate.dead
 begun_dead d m = by (is_free m d.sockets)
@@ -58,16 +59,16 @@ begun_dead d m = by (is_free m d.sockets)
     by true = refl
     by false = refl
 
-pub begun_on : (m : ℕ) (x y : Desk) → ((d : Front) → IsDesk d x → IsDesk (begun m d) y) → Leads x y
-begun_on m x y h = step_on x y (begun m) (λ d e s. still_dead d (begun m d) x y e (begun_dead d m) (h d s)) (λ cap d r e. goes_on d (begun m d) r e (begins m)) (λ d s e. h d s)
+pub Leads-begun : (m : ℕ) (x y : Desk) → ((d : Front) → IsDesk d x → IsDesk (begun m d) y) → Leads x y
+Leads-begun m x y h = step_on x y (begun m) (λ d e s. still_dead d (begun m d) x y e (begun_dead d m) (h d s)) (λ cap d r e. goes_on d (begun m d) r e (begins m)) (λ d s e. h d s)
 
 -- ---- more than one
 
-pub heard_on : ((cap m : ℕ) (d e : Front) (hearing : Hearing) → FrontRuns cap d → d.gate.dead ≡ false → IsHeardBy d m (socket_at d m) hearing e → FrontRuns cap e)
+pub Leads-heard : ((cap m : ℕ) (d e : Front) (hearing : Hearing) → FrontRuns cap d → d.gate.dead ≡ false → IsHeardBy d m (socket_at d m) hearing e → FrontRuns cap e)
     → (m : ℕ) (hearing : Hearing) (x y : Desk) (f : Front → Front) → ((d : Front) → IsDesk d x → d.gate.dead ≡ true → ⊥)
     → ((cap : ℕ) (d : Front) → FrontRuns cap d → d.gate.dead ≡ false → FrontRuns cap (f d)) → ((d : Front) → (f d).gate.dead ≡ d.gate.dead)
     → ((d : Front) → IsDesk d x → IsHeard (f d) m hearing y) → Leads x y
-heard_on law m hearing x y f lives runs same h = λ cap r. by cap r r.front.gate.dead refl
+Leads-heard law m hearing x y f lives runs same h = λ cap r. by cap r r.front.gate.dead refl
   where
     by : (cap : ℕ) (r : IsRunning cap x) (b : Bool) → r.front.gate.dead ≡ b → IsRunning cap y
     by cap r true e = absurd (lives r.front r.stands e)
@@ -75,14 +76,14 @@ heard_on law m hearing x y f lives runs same h = λ cap r. by cap r r.front.gate
         let w = h r.front r.stands in
         record { front = w.now; runs = law cap m (f r.front) w.now hearing (runs cap r.front r.runs e) (same r.front ∙ e) w.heard; stands = w.stands }
 
-pub took_runs : (m : ℕ) (bytes : List ℕ) (cap : ℕ) (d : Front) → FrontRuns cap d → d.gate.dead ≡ false → FrontRuns cap (at_socket m (took bytes) d)
-took_runs m bytes cap d r e = goes_on d (at_socket m (took bytes) d) r e (takes m bytes)
+pub FrontRuns-took : (m : ℕ) (bytes : List ℕ) (cap : ℕ) (d : Front) → FrontRuns cap d → d.gate.dead ≡ false → FrontRuns cap (at_socket m (took bytes) d)
+FrontRuns-took m bytes cap d r e = goes_on d (at_socket m (took bytes) d) r e (takes m bytes)
 
-pub called_on : ((g : Gate) (e : Event) → IsWell e → g.dead ≡ false → LeavesMarks g e)
+pub Leads-called : ((g : Gate) (e : Event) → IsWell e → g.dead ≡ false → LeavesMarks g e)
     → (f : ℕ → Front → Front) → ((cap : ℕ) (ms : List ℕ) (d : Front) → FrontRuns cap d → d.gate.dead ≡ false → FrontRuns cap (at_each f ms d))
     → (e : Event) → IsWell e → ((g : Gate) → (marked g e).dead ≡ g.dead) → ((d : Front) → Happens d (by_event e d))
     → (x y : Desk) → ((d : Front) → IsDesk d x → d.gate.dead ≡ true → ⊥) → ((d : Front) → IsDesk d x → IsCalledOut f (by_event e d) y) → Leads x y
-called_on law f calls e v same happens x y lives h = λ cap r. by cap r r.front.gate.dead refl
+Leads-called law f calls e v same happens x y lives h = λ cap r. by cap r r.front.gate.dead refl
   where
     by : (cap : ℕ) (r : IsRunning cap x) (b : Bool) → r.front.gate.dead ≡ b → IsRunning cap y
     by cap r true k = absurd (lives r.front r.stands k)
@@ -96,10 +97,10 @@ called_on law f calls e v same happens x y lives h = λ cap r. by cap r r.front.
 
 -- ---- it begins
 
-pub restored_on : ((cap most places : ℕ) (tokens : List Token) (head : Head) (sent : List Shown) (journal : List Line) (g : Gate) → Restores (gate_at_start cap tokens most head sent) journal g
+pub IsRunning-IsRestored : ((cap most places : ℕ) (tokens : List Token) (head : Head) (sent : List Shown) (journal : List Line) (g : Gate) → Restores (gate_at_start cap tokens most head sent) journal g
     → Runs cap g → FrontRuns cap (front_at_start g places))
     → (cap : ℕ) (journal : List Line) (x y : Desk) → IsNew cap x → ((d : Front) → is.IsNew d.gate → IsDesk d x → IsRestored d journal y) → IsRunning cap y
-restored_on law cap journal x y new h =
+IsRunning-IsRestored law cap journal x y new h =
     let w = h (front_at_start (gate_at_start cap new.tokens new.most new.head []) new.places) (record { entries = refl; kept = refl; forgiven = refl }) new.stands in
     record {
       front = front_at_start w.now new.places;

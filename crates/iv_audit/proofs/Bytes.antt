@@ -7,7 +7,7 @@ use Rattle.iv_journal.specs.Journal.{Line, body_of, bytes_of, digest_of, is_text
 use Rattle.iv_journal.specs.Laws.{HasItsText}
 use Rattle.iv_audit.specs.Reading.{ended_lines, given_in, line_in, line_of}
 use Rattle.iv_audit.specs.Laws.{BytesHaveLines}
-use Rattle.iv_audit.proofs.Texts.{neither}
+use Rattle.iv_audit.proofs.Texts.{or-both_false}
 
 abbrev pub AllText : List Line → Type 0
 AllText ls = AllByRecursion (λ l. is_text l.text ≡ true) ls
@@ -15,12 +15,13 @@ AllText ls = AllByRecursion (λ l. is_text l.text ≡ true) ls
 abbrev pub HaveTexts : Type 0
 HaveTexts = (before : List ℕ) (l : Line) → HasItsText before l
 
-pub ended_one : (line body rest : List ℕ) → list_any (λ b. b == 10) body ≡ false → ended_lines line (body ++ 10 ∷ rest) ≡ (line ++ body) ∷ ended_lines [] rest
-ended_one line [] rest h = ap (λ z. z ∷ ended_lines [] rest) (sym (append-nil line))
-ended_one line (b ∷ body) rest h =
-    let e = neither (b == 10) (list_any (λ z. z == 10) body) h in
+pub ended_lines-one : (line body rest : List ℕ) → list_any (λ b. b == 10) body ≡ false
+    → ended_lines line (body ++ 10 ∷ rest) ≡ (line ++ body) ∷ ended_lines [] rest
+ended_lines-one line [] rest h = ap (λ z. z ∷ ended_lines [] rest) (sym (append-nil line))
+ended_lines-one line (b ∷ body) rest h =
+    let e = or-both_false (b == 10) (list_any (λ z. z == 10) body) h in
     ap (λ z. cond z (line ∷ ended_lines [] (body ++ 10 ∷ rest)) (ended_lines (line ++ b ∷ []) (body ++ 10 ∷ rest))) e.0
-    ∙ (ended_one (line ++ b ∷ []) body rest e.1 ∙ ap (λ z. z ∷ ended_lines [] rest) (append_assoc line (b ∷ []) body))
+    ∙ (ended_lines-one (line ++ b ∷ []) body rest e.1 ∙ ap (λ z. z ∷ ended_lines [] rest) (append_assoc line (b ∷ []) body))
 
 abbrev pub bodies : List ℕ → List Line → List (List ℕ)
 bodies d [] = []
@@ -30,7 +31,7 @@ pub ended_all : (law : HaveTexts) (d : List ℕ) (ls : List Line) (rest : List �
 ended_all law d [] rest a = refl
 ended_all law d (l ∷ ls) rest a =
     ap (ended_lines []) (append_assoc (body_of d l) (10 ∷ bytes_of (digest_of d l) ls) rest)
-    ∙ (ended_one [] (body_of d l) (bytes_of (digest_of d l) ls ++ rest) ((law d l).one a.0)
+    ∙ (ended_lines-one [] (body_of d l) (bytes_of (digest_of d l) ls ++ rest) ((law d l).one a.0)
     ∙ ap (λ z. body_of d l ∷ z) (ended_all law (digest_of d l) ls rest a.1))
 
 mark_back : (b : Bool) (rest : List ℕ) → bytes_eq (take 9 (mark b ++ rest)) (mark true) ≡ b
@@ -49,12 +50,12 @@ lines_back law d (l ∷ ls) = (λ i. line_back law d l i ∷ lines_back law (dig
 abbrev pub given_by : List ℕ → Line
 given_by line = line_in (line_of line)
 
-pub given_all : (law : HaveTexts) (d : List ℕ) (ls : List Line) → map given_by (bodies d ls) ≡ map line_in ls
-given_all law d [] = refl
-given_all law d (l ∷ ls) = (λ i. line_in (line_back law d l i) ∷ given_all law (digest_of d l) ls i)
+pub map-given_by : (law : HaveTexts) (d : List ℕ) (ls : List Line) → map given_by (bodies d ls) ≡ map line_in ls
+map-given_by law d [] = refl
+map-given_by law d (l ∷ ls) = (λ i. line_in (line_back law d l i) ∷ map-given_by law (digest_of d l) ls i)
 
-pub lines_all : (law : HaveTexts) (d : List ℕ) (ls : List Line) → AllText ls → ended_lines [] (bytes_of d ls) ≡ bodies d ls
-lines_all law d ls a = ap (ended_lines []) (sym (append-nil (bytes_of d ls))) ∙ (ended_all law d ls [] a ∙ append-nil (bodies d ls))
+pub ended_lines-bytes_of : (law : HaveTexts) (d : List ℕ) (ls : List Line) → AllText ls → ended_lines [] (bytes_of d ls) ≡ bodies d ls
+ended_lines-bytes_of law d ls a = ap (ended_lines []) (sym (append-nil (bytes_of d ls))) ∙ (ended_all law d ls [] a ∙ append-nil (bodies d ls))
 
-pub have : HaveTexts → BytesHaveLines
-have law ls a = ap (λ z. given_in (map line_of z)) (lines_all law no_digest ls a) ∙ ap given_in (lines_back law no_digest ls)
+pub BytesHaveLines-HaveTexts : HaveTexts → BytesHaveLines
+BytesHaveLines-HaveTexts law ls a = ap (λ z. given_in (map line_of z)) (ended_lines-bytes_of law no_digest ls a) ∙ ap given_in (lines_back law no_digest ls)

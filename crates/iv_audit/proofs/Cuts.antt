@@ -11,7 +11,7 @@ use Rattle.iv_audit.specs.Reading.{given_in, line_in}
 use Rattle.iv_audit.specs.Laws as law
 use Rattle.iv_audit.specs.Laws.{IsFront, IsHead, IsWritten, given}
 use Rattle.iv_audit.proofs.Bytes.{AllText}
-use Rattle.iv_audit.proofs.Texts.{keeps}
+use Rattle.iv_audit.proofs.Texts.{TextsKeepLines-text_in}
 
 -- ---- whole records
 
@@ -53,7 +53,7 @@ headed epoch more h =
 given_take : (n : ℕ) (ws : List Written) → AllByRecursion IsWritten ws → map line_in (take n (map record_of ws)) ≡ take n (given ws)
 given_take zero ws a = refl
 given_take (suc n) [] a = refl
-given_take (suc n) (w ∷ ws) a = (λ i. keeps w a.0 i ∷ given_take n ws a.1 i)
+given_take (suc n) (w ∷ ws) a = (λ i. TextsKeepLines-text_in w a.0 i ∷ given_take n ws a.1 i)
 
 before : ℕ → ℕ
 before zero = 0
@@ -90,8 +90,8 @@ length_map (w ∷ ws) = ap suc (length_map ws)
 cut_audit : (epoch : List ℕ) (n : ℕ) (ws : List Written) → audit_of epoch (take n ws) ≡ take (suc n) (audit_of epoch ws)
 cut_audit epoch n ws = ap (λ z. head_line epoch ∷ z) (take_map n ws)
 
-pub either : (n m : ℕ) → (n ≤ m) ⊎ (suc m ≤ n)
-either n m = by (nat_lt m n) refl
+pub le-or_lt : (n m : ℕ) → (n ≤ m) ⊎ (suc m ≤ n)
+le-or_lt n m = by (nat_lt m n) refl
   where
     less : (m n : ℕ) → nat_lt m n ≡ true → suc m ≤ n
     less m n e = grind (arith, nat_tests)
@@ -108,7 +108,7 @@ within : (epoch : List ℕ) (ws : List Written) (left count n : ℕ) → n ≤ l
     → (count < length (audit_of epoch ws) → left < length (journal_of (take (suc count) (audit_of epoch ws))))
     → length (journal_of (audit_of epoch (take n ws))) ≤ left → n ≤ before count
 unfolding before
-within epoch ws left zero n h most k = by (either n 0)
+within epoch ws left zero n h most k = by (le-or_lt n 0)
   where
     by : (n ≤ 0) ⊎ (1 ≤ n) → n ≤ 0
     by (inl e) = e
@@ -117,7 +117,7 @@ within epoch ws left zero n h most k = by (either n 0)
         let there : length (journal_of (take (suc n) (audit_of epoch ws))) ≤ left = subst (λ (z : List Line). length (journal_of z) ≤ left) (cut_audit epoch n ws) k in
         let some : left < length (journal_of (take 1 (audit_of epoch ws))) = most (omega arith) in
         absurd (let no : ⊥ = omega (arith, far, there, some) in no)
-within epoch ws left (suc c) n h most k = by (either n c)
+within epoch ws left (suc c) n h most k = by (le-or_lt n c)
   where
     by : (n ≤ c) ⊎ (suc c ≤ n) → n ≤ c
     by (inl e) = e
@@ -128,8 +128,8 @@ within epoch ws left (suc c) n h most k = by (either n c)
         let some : left < length (journal_of (take (suc (suc c)) (audit_of epoch ws))) = most (omega (arith, e, h, m)) in
         absurd (let no : ⊥ = omega (arith, far, there, some) in no)
 
-pub cuts : CutsAreFronts → law.CutsAreFronts
-cuts fronts = λ epoch ws left r head a is.
+pub CutsAreFronts-take : CutsAreFronts → law.CutsAreFronts
+CutsAreFronts-take fronts = λ epoch ws left r head a is.
     let ls = audit_of epoch ws in
     let c : IsCut (audit_of epoch ws) left r = fronts (audit_of epoch ws) left r (record { head = headed epoch version head.digits; texts = (head.text, texts_records ws a) }) is in
     record {

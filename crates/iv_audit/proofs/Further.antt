@@ -10,10 +10,10 @@ use Rattle.iv_audit.specs.Reading.{ended_lines, ends_line, line_in, line_of, lin
 use Rattle.iv_audit.specs.Laws.{BytesGoOn, GoOn, JournalsGoOn}
 use Rattle.iv_audit.specs.Writing.{holder_at, note_by, noted_from}
 use Rattle.iv_audit.specs.declared.writing.Share.{Share}
-use Rattle.iv_audit.proofs.Texts.{neither, text_back}
-use Rattle.iv_audit.proofs.Bytes.{AllText, HaveTexts, bodies, ended_one, given_all, given_by, lines_all}
-use Rattle.iv_audit.proofs.Cuts.{either}
-use Rattle.iv_audit.proofs.Goes.{bytes_append, digest_append, texts_lines}
+use Rattle.iv_audit.proofs.Texts.{or-both_false, text_in-text_by}
+use Rattle.iv_audit.proofs.Bytes.{AllText, HaveTexts, bodies, ended_lines-one, map-given_by, given_by, ended_lines-bytes_of}
+use Rattle.iv_audit.proofs.Cuts.{le-or_lt}
+use Rattle.iv_audit.proofs.Goes.{bytes_of-append, digest_behind-append, AllByRecursion-AllTexts}
 
 -- ---- what stands behind
 
@@ -83,13 +83,13 @@ ends_lines head ls =
 ended_none : (line xs : List ℕ) → list_any (λ b. b == 10) xs ≡ false → ended_lines line xs ≡ []
 ended_none line [] h = refl
 ended_none line (b ∷ xs) h =
-    let e = neither (b == 10) (list_any (λ z. z == 10) xs) h in
+    let e = or-both_false (b == 10) (list_any (λ z. z == 10) xs) h in
     ap (λ z. cond z (line ∷ ended_lines [] xs) (ended_lines (line ++ b ∷ []) xs)) e.0 ∙ ended_none (line ++ b ∷ []) xs e.1
 
 none_take : (n : ℕ) (xs : List ℕ) → list_any (λ b. b == 10) xs ≡ false → list_any (λ b. b == 10) (take n xs) ≡ false
 none_take zero xs h = refl
 none_take (suc n) [] h = refl
-none_take (suc n) (x ∷ xs) h = let e = neither (x == 10) (list_any (λ z. z == 10) xs) h in (λ i. e.0 i || none_take n xs e.1 i)
+none_take (suc n) (x ∷ xs) h = let e = or-both_false (x == 10) (list_any (λ z. z == 10) xs) h in (λ i. e.0 i || none_take n xs e.1 i)
 
 take_past : (n : ℕ) (xs ys : List ℕ) → length xs ≤ n → take n (xs ++ ys) ≡ xs ++ take (n - length xs) ys
 take_past n [] ys h = ap (λ m. take m ys) (let e : n ≡ n - 0 = omega arith in e)
@@ -99,7 +99,7 @@ take_past (suc n) (x ∷ xs) ys h = ap (λ z. x ∷ z) (take_past n xs ys (omega
 torn_lines : (law : HaveTexts) (n : ℕ) (d : List ℕ) (ls : List Line) → AllText ls → (k : ℕ) × (k ≤ length ls) × (ended_lines [] (take n (bytes_of d ls)) ≡ bodies d (take k ls))
 torn_lines law zero d ls a = (0, omega arith, refl)
 torn_lines law (suc n) d [] a = (0, omega arith, refl)
-torn_lines law (suc n) d (l ∷ ls) a = by (either (suc n) (length (body_of d l))) (torn_lines law (suc n - suc (length (body_of d l))) (digest_of d l) ls a.1)
+torn_lines law (suc n) d (l ∷ ls) a = by (le-or_lt (suc n) (length (body_of d l))) (torn_lines law (suc n - suc (length (body_of d l))) (digest_of d l) ls a.1)
   where
     by : (suc n ≤ length (body_of d l)) ⊎ (suc (length (body_of d l)) ≤ suc n)
         → ((k : ℕ) × (k ≤ length ls) × (ended_lines [] (take (suc n - suc (length (body_of d l))) (bytes_of (digest_of d l) ls)) ≡ bodies (digest_of d l) (take k ls)))
@@ -119,7 +119,7 @@ torn_lines law (suc n) d (l ∷ ls) a = by (either (suc n) (length (body_of d l)
           ap (λ z. ended_lines [] (take (suc n) z)) (sym (append_assoc (body_of d l) (10 ∷ []) (bytes_of (digest_of d l) ls)))
               ∙ (ap (ended_lines []) (take_past (suc n) (body_of d l ++ 10 ∷ []) (bytes_of (digest_of d l) ls) past)
               ∙ (ap (ended_lines []) (append_assoc (body_of d l) (10 ∷ []) (take (suc n - length (body_of d l ++ 10 ∷ [])) (bytes_of (digest_of d l) ls)))
-              ∙ (ended_one [] (body_of d l) (take (suc n - length (body_of d l ++ 10 ∷ [])) (bytes_of (digest_of d l) ls)) ((law d l).one a.0)
+              ∙ (ended_lines-one [] (body_of d l) (take (suc n - length (body_of d l ++ 10 ∷ [])) (bytes_of (digest_of d l) ls)) ((law d l).one a.0)
               ∙ ap (λ z. body_of d l ∷ z) (ap (λ m. ended_lines [] (take m (bytes_of (digest_of d l) ls))) same ∙ later.2)))),
         )
 
@@ -137,7 +137,8 @@ lines_noted : (at : Option ℕ) (shares : List Share) (n : ℕ) (ls : List Line)
     → map line_in (map record_of (noted_from at shares n ls)) ≡ ls
 lines_noted at shares n [] h a = refl
 lines_noted at shares n (l ∷ ls) h a =
-    (λ i. record { is_last = l.is_last; text = text_back (note_by at (holder_at shares n) l.text) l.text a.0 (note_second at (holder_at shares n) l.text h) i }
+    (λ i. record { is_last = l.is_last; text = text_in-text_by (note_by at (holder_at shares n) l.text) l.text a.0
+      (note_second at (holder_at shares n) l.text h) i }
     ∷ lines_noted at shares (n + 1) ls h a.1 i)
 
 length_noted : (at : Option ℕ) (shares : List Share) (n : ℕ) (ls : List Line) → length (map record_of (noted_from at shares n ls)) ≡ length ls
@@ -155,15 +156,15 @@ texts_behind (l ∷ ls) ms a b = (a.0, texts_behind ls ms a.1 b)
 
 go_on : HaveTexts → BytesGoOn
 go_on law = λ before at shares given d after out h s g.
-    let texts = texts_lines (noted_from at shares 0 given) g.goes.texts in
+    let texts = AllByRecursion-AllTexts (noted_from at shares 0 given) g.goes.texts in
     let lines = lines_noted at shares 0 given s g.are in
     let torn = λ (n : ℕ). torn_lines law n d (map record_of (noted_from at shares 0 given)) texts in
     record {
       whole = behind before out h
           ∙ ap (λ z. lines_in before ++ z)
           (ap (λ z. map given_by (ended_lines [] z)) g.goes.bytes
-          ∙ (ap (map given_by) (lines_all law d (map record_of (noted_from at shares 0 given)) texts)
-          ∙ (given_all law d (map record_of (noted_from at shares 0 given)) ∙ lines)));
+          ∙ (ap (map given_by) (ended_lines-bytes_of law d (map record_of (noted_from at shares 0 given)) texts)
+          ∙ (map-given_by law d (map record_of (noted_from at shares 0 given)) ∙ lines)));
       torn = λ n. (
         (torn n).0,
         subst (λ m. (torn n).0 ≤ m) (length_noted at shares 0 given) (torn n).1,
@@ -171,7 +172,7 @@ go_on law = λ before at shares given d after out h s g.
             ∙ ap (λ z. lines_in before ++ z)
             (ap (λ z. map given_by (ended_lines [] (take n z))) g.goes.bytes
             ∙ (ap (map given_by) (torn n).2
-            ∙ (given_all law d (take (torn n).0 (map record_of (noted_from at shares 0 given)))
+            ∙ (map-given_by law d (take (torn n).0 (map record_of (noted_from at shares 0 given)))
             ∙ (take_lines (torn n).0 (map record_of (noted_from at shares 0 given)) ∙ ap (take (torn n).0) lines)))),
       );
       ended = ap (λ z. ends_line (before ++ z)) g.goes.bytes ∙ ends_journal before d (map record_of (noted_from at shares 0 given)) h;
@@ -179,13 +180,13 @@ go_on law = λ before at shares given d after out h s g.
 
 journals : JournalsGoOn
 journals = λ ls at shares given after out a g.
-    let texts = texts_lines (noted_from at shares 0 given) g.goes.texts in
+    let texts = AllByRecursion-AllTexts (noted_from at shares 0 given) g.goes.texts in
     record {
       more = map record_of (noted_from at shares 0 given);
-      journal = ap (λ z. journal_of ls ++ z) g.goes.bytes ∙ sym (bytes_append no_digest ls (map record_of (noted_from at shares 0 given)));
-      digest = g.goes.digest ∙ sym (digest_append no_digest ls (map record_of (noted_from at shares 0 given)));
+      journal = ap (λ z. journal_of ls ++ z) g.goes.bytes ∙ sym (bytes_of-append no_digest ls (map record_of (noted_from at shares 0 given)));
+      digest = g.goes.digest ∙ sym (digest_behind-append no_digest ls (map record_of (noted_from at shares 0 given)));
       texts = texts_behind ls (map record_of (noted_from at shares 0 given)) a texts;
     }
 
-pub further : HaveTexts → GoOn
-further law = record { bytes = go_on law; journals = journals; ended = ends_lines }
+pub GoOn-HaveTexts : HaveTexts → GoOn
+GoOn-HaveTexts law = record { bytes = go_on law; journals = journals; ended = ends_lines }

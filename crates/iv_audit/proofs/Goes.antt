@@ -7,19 +7,19 @@ use Rattle.iv_audit.specs.Reading.{line_in, lines_in}
 use Rattle.iv_audit.specs.Laws.{BytesHaveLines}
 use Rattle.iv_audit.specs.Writing.{GoesOnBy, GoesOnWith, IsAnew, IsPushed, holder_at, note_by, noted_from}
 use Rattle.iv_audit.specs.declared.writing.Share.{Share}
-use Rattle.iv_audit.proofs.Texts.{plain}
+use Rattle.iv_audit.proofs.Texts.{text_in-not_noted}
 
 -- ---- lines behind lines
 
-pub bytes_append : (d : List ℕ) (ls ms : List Line) → bytes_of d (ls ++ ms) ≡ bytes_of d ls ++ bytes_of (digest_behind d ls) ms
-bytes_append d [] ms = refl
-bytes_append d (l ∷ ls) ms =
-    ap (λ z. body_of d l ++ 10 ∷ z) (bytes_append (digest_of d l) ls ms)
+pub bytes_of-append : (d : List ℕ) (ls ms : List Line) → bytes_of d (ls ++ ms) ≡ bytes_of d ls ++ bytes_of (digest_behind d ls) ms
+bytes_of-append d [] ms = refl
+bytes_of-append d (l ∷ ls) ms =
+    ap (λ z. body_of d l ++ 10 ∷ z) (bytes_of-append (digest_of d l) ls ms)
     ∙ sym (append_assoc (body_of d l) (10 ∷ bytes_of (digest_of d l) ls) (bytes_of (digest_behind (digest_of d l) ls) ms))
 
-pub digest_append : (d : List ℕ) (ls ms : List Line) → digest_behind d (ls ++ ms) ≡ digest_behind (digest_behind d ls) ms
-digest_append d [] ms = refl
-digest_append d (l ∷ ls) ms = digest_append (digest_of d l) ls ms
+pub digest_behind-append : (d : List ℕ) (ls ms : List Line) → digest_behind d (ls ++ ms) ≡ digest_behind (digest_behind d ls) ms
+digest_behind-append d [] ms = refl
+digest_behind-append d (l ∷ ls) ms = digest_behind-append (digest_of d l) ls ms
 
 records_append : (vs ws : List Written) → map record_of (vs ++ ws) ≡ map record_of vs ++ map record_of ws
 records_append [] ws = refl
@@ -46,9 +46,9 @@ then_by : (vs ws : List Written) (b c d was mid now : List ℕ) → GoesOnBy vs 
 then_by vs ws b c d was mid now p q = record {
   bytes = q.bytes ∙ (λ i. p.bytes i ++ bytes_of (p.digest i) (map record_of ws))
       ∙ (append_assoc was (bytes_of b (map record_of vs)) (bytes_of (digest_behind b (map record_of vs)) (map record_of ws))
-      ∙ ap (λ z. was ++ z) (sym (bytes_append b (map record_of vs) (map record_of ws)) ∙ ap (bytes_of b) (sym (records_append vs ws))));
+      ∙ ap (λ z. was ++ z) (sym (bytes_of-append b (map record_of vs) (map record_of ws)) ∙ ap (bytes_of b) (sym (records_append vs ws))));
   digest = q.digest ∙ (ap (λ z. digest_behind z (map record_of ws)) p.digest
-      ∙ (sym (digest_append b (map record_of vs) (map record_of ws)) ∙ ap (digest_behind b) (sym (records_append vs ws))));
+      ∙ (sym (digest_behind-append b (map record_of vs) (map record_of ws)) ∙ ap (digest_behind b) (sym (records_append vs ws))));
   texts = texts_append vs ws p.texts q.texts;
 }
 
@@ -83,12 +83,12 @@ begins at shares lines before was =
     record { done = []; split = refl; long = refl; are = tt; goes = by_nothing before was was refl; same = λ n h. refl }
 
 -- one line more
-pub one_more : (at : Option ℕ) (shares left now : List Share) (lines rest later : List Line) (place : ℕ) (before chain next was out grown : List ℕ) (l made : Line) (holder : List ℕ)
+pub IsDone-next : (at : Option ℕ) (shares left now : List Share) (lines rest later : List Line) (place : ℕ) (before chain next was out grown : List ℕ) (l made : Line) (holder : List ℕ)
     → IsDone at shares left lines rest place before chain was out → rest ≡ l ∷ later → is_noted l.text ≡ false
     → ((n : ℕ) → place ≤ n → holder_at now n ≡ holder_at left n) → holder ≡ holder_at now place
     → made ≡ record { is_last = l.is_last; text = text_by (note_by at holder l.text) l.text } → IsPushed made chain next out grown
     → IsDone at shares now lines later (place + 1) before next was grown
-one_more at shares left now lines rest later place before chain next was out grown l made holder h line is same held e p =
+IsDone-next at shares left now lines rest later place before chain next was out grown l made holder h line is same held e p =
     let here : holder ≡ holder_at shares place = held ∙ (same place (omega arith) ∙ h.same place (omega arith)) in
     let note : made ≡ record_of (record { note = note_by at (holder_at shares place) l.text; line = l }) =
     e ∙ ap (λ (z : List ℕ). record { is_last = l.is_last; text = text_by (note_by at z l.text) l.text }) here in
@@ -106,9 +106,9 @@ one_more at shares left now lines rest later place before chain next was out gro
       same = λ n k. same n (omega (arith, k)) ∙ h.same n (omega (arith, k));
     }
 
-pub all_done : (at : Option ℕ) (shares left : List Share) (lines rest : List Line) (place : ℕ) (before chain was out : List ℕ) → IsDone at shares left lines rest place before chain was out
+pub GoesOnWith-IsDone : (at : Option ℕ) (shares left : List Share) (lines rest : List Line) (place : ℕ) (before chain was out : List ℕ) → IsDone at shares left lines rest place before chain was out
     → rest ≡ [] → GoesOnWith at shares lines before chain was out
-all_done at shares left lines rest place before chain was out h e =
+GoesOnWith-IsDone at shares left lines rest place before chain was out h e =
     let all : h.done ≡ lines = sym (h.split ∙ (ap (λ z. h.done ++ z) e ∙ append-nil h.done)) in
     record {
       are = subst ArePlain all h.are;
@@ -125,23 +125,23 @@ plain_records : (shares : List Share) (n : ℕ) (ls : List Line) → map record_
 plain_records shares n [] = refl
 plain_records shares n (l ∷ ls) = (λ i. plain_record l (is_request l.text) i ∷ plain_records shares (n + 1) ls i)
 
-pub texts_lines : (ws : List Written) → AllTexts ws → AllByRecursion (λ (l : Line). is_text l.text ≡ true) (map record_of ws)
-texts_lines [] a = tt
-texts_lines (w ∷ ws) a = (a.0, texts_lines ws a.1)
+pub AllByRecursion-AllTexts : (ws : List Written) → AllTexts ws → AllByRecursion (λ (l : Line). is_text l.text ≡ true) (map record_of ws)
+AllByRecursion-AllTexts [] a = tt
+AllByRecursion-AllTexts (w ∷ ws) a = (a.0, AllByRecursion-AllTexts ws a.1)
 
 lines_plain : (ls : List Line) → ArePlain ls → map line_in ls ≡ ls
 lines_plain [] a = refl
-lines_plain (l ∷ ls) a = (λ i. record { is_last = l.is_last; text = plain l.text a.0 i } ∷ lines_plain ls a.1 i)
+lines_plain (l ∷ ls) a = (λ i. record { is_last = l.is_last; text = text_in-not_noted l.text a.0 i } ∷ lines_plain ls a.1 i)
 
-pub is_anew : BytesHaveLines → (epoch : List ℕ) (lines : List Line) (before was mid now c d : List ℕ) → before ≡ no_digest → was ≡ [] → IsPushed (head_line epoch) before c was mid
+pub IsAnew-GoesOnWith : BytesHaveLines → (epoch : List ℕ) (lines : List Line) (before was mid now c d : List ℕ) → before ≡ no_digest → was ≡ [] → IsPushed (head_line epoch) before c was mid
     → GoesOnWith None [] lines c d mid now → IsAnew epoch lines now
-is_anew law epoch lines before was mid now c d e f h q =
+IsAnew-GoesOnWith law epoch lines before was mid now c d e f h q =
     let p = subst (λ (z : List ℕ). IsPushed (head_line epoch) z c [] mid) e (subst (λ (w : List ℕ). IsPushed (head_line epoch) before c w mid) f h) in
     let same = plain_records [] 0 lines in
     let texts : AllByRecursion (λ (l : Line). is_text l.text ≡ true) lines =
-    subst (AllByRecursion (λ (l : Line). is_text l.text ≡ true)) same (texts_lines (noted_from None [] 0 lines) q.goes.texts) in
+    subst (AllByRecursion (λ (l : Line). is_text l.text ≡ true)) same (AllByRecursion-AllTexts (noted_from None [] 0 lines) q.goes.texts) in
     let journal : now ≡ journal_of (head_line epoch ∷ lines) =
-    q.goes.bytes ∙ ((λ i. p.bytes i ++ bytes_of (p.digest i) (same i)) ∙ sym (bytes_append no_digest (head_line epoch ∷ []) lines)) in
+    q.goes.bytes ∙ ((λ i. p.bytes i ++ bytes_of (p.digest i) (same i)) ∙ sym (bytes_of-append no_digest (head_line epoch ∷ []) lines)) in
     record {
       journal = journal;
       same = ap lines_in journal ∙ (law (head_line epoch ∷ lines) (p.is, texts) ∙ lines_plain lines q.are);

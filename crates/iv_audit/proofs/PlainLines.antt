@@ -9,7 +9,7 @@ use Rattle.std.proofs.lemmas.List.Sums.{sum_by_push}
 use Rattle.iv_journal.specs.Journal.{Line}
 use Rattle.iv_audit.specs.Reading.{IsPlain, ended_lines, plain_line, plain_text}
 use Rattle.iv_audit.specs.declared.reading.Plain.{Plain}
-use Rattle.iv_audit.proofs.Texts.{none_append}
+use Rattle.iv_audit.proofs.Texts.{HasNone-append}
 
 -- a line's bytes with its end
 abbrev with_end : List ℕ → ℕ
@@ -45,8 +45,8 @@ ended_by line bytes at b h e =
     ∙ ap (λ z. cond z (line ∷ ended_lines [] (drop (at + 1) bytes)) (ended_lines (line ++ get_or bytes at 0 ∷ []) (drop (at + 1) bytes))) e
 
 -- a byte more of the line
-pub byte_more : (bytes : List ℕ) (lines : List Line) (start at : ℕ) → IsReadTo bytes lines start at → at < length bytes → (get_or bytes at 0 ≡ 10 → ⊥) → IsReadTo bytes lines start (at + 1)
-byte_more bytes lines start at h in_it other =
+pub IsReadTo-byte : (bytes : List ℕ) (lines : List Line) (start at : ℕ) → IsReadTo bytes lines start at → at < length bytes → (get_or bytes at 0 ≡ 10 → ⊥) → IsReadTo bytes lines start (at + 1)
+IsReadTo-byte bytes lines start at h in_it other =
     let b = get_or bytes at 0 in
     let more = length-append h.line (b ∷ []) in
     record {
@@ -54,16 +54,17 @@ byte_more bytes lines start at h in_it other =
       line = h.line ++ b ∷ [];
       split = h.split ∙ (ap (λ z. h.line ++ z) (next bytes at in_it) ∙ sym (append_assoc h.line (b ∷ []) (drop (at + 1) bytes)));
       long = (let k = h.long in omega (arith, k, more));
-      none = none_append 10 h.line (b ∷ []) h.none (ap (λ z. z || false) (is_other b other));
+      none = HasNone-append 10 h.line (b ∷ []) h.none (ap (λ z. z || false) (is_other b other));
       all = h.all ∙ ap (λ z. h.done ++ z) (ended_by h.line bytes at false in_it (is_other b other));
       are = h.are;
       size = h.size;
     }
 
 -- the end of a line
-pub line_more : (bytes : List ℕ) (lines : List Line) (start at : ℕ) (text : List ℕ) → IsReadTo bytes lines start at → at < length bytes → get_or bytes at 0 ≡ 10
+pub IsReadTo-newline : (bytes : List ℕ) (lines : List Line) (start at : ℕ) (text : List ℕ) → IsReadTo bytes lines start at → at < length bytes
+    → get_or bytes at 0 ≡ 10
     → text ≡ plain_text (take (at - start) (drop start bytes)) → IsReadTo bytes (lines ++ record { is_last = true; text = text } ∷ []) (at + 1) (at + 1)
-line_more bytes lines start at text h in_it ten is =
+IsReadTo-newline bytes lines start at text h in_it ten is =
     let later = ended_lines [] (drop (at + 1) bytes) in
     let count : at - start ≡ length h.line = (let k = h.long in omega (arith, k)) in
     let line : take (at - start) (drop start bytes) ≡ h.line =
@@ -81,8 +82,8 @@ line_more bytes lines start at text h in_it ten is =
       size = (let k = h.long in let n = h.size in omega (arith, k, n, more));
     }
 
-pub read_all : (bytes : List ℕ) (at : ℕ) (p : Plain) → IsReadTo bytes p.lines.items p.length at → length bytes ≤ at → IsPlain bytes p
-read_all bytes at p h past =
+pub IsPlain-IsReadTo : (bytes : List ℕ) (at : ℕ) (p : Plain) → IsReadTo bytes p.lines.items p.length at → length bytes ≤ at → IsPlain bytes p
+IsPlain-IsReadTo bytes at p h past =
     let none : drop at bytes ≡ [] = drop_of_length-le bytes past in
     let same : ended_lines [] bytes ≡ h.done = h.all ∙ (ap (λ z. h.done ++ ended_lines h.line z) none ∙ append-nil h.done) in
     record {

@@ -13,11 +13,11 @@ first_texts : (ls ms : List Line) → AllText (ls ++ ms) → AllText ls
 first_texts [] ms a = tt
 first_texts (l ∷ ls) ms a = (a.0, first_texts ls ms a.1)
 
-pub audit_is : ((bytes : List ℕ) (r : Reading) → IsReading bytes r → IsTold bytes r) → ((ls ms : List Line) → GoesOn ls ms)
+pub IsAudit-IsReading : ((bytes : List ℕ) (r : Reading) → IsReading bytes r → IsTold bytes r) → ((ls ms : List Line) → GoesOn ls ms)
     → (bytes : List ℕ) (ls seen made told_of : List Line) (fault : Option ℕ) (a : Audit) → IsReading bytes (record { lines = ls; fault = fault }) → fault ≡ None
     → seen ≡ ls → true ≡ is_audit seen → AreEnded ls a.end → made ≡ ls → a.lines.items ≡ given_in made → told_of ≡ ls
     → option_map (λ e. e.now) a.epoch ≡ epoch_of told_of → IsAudit bytes a
-audit_is told on bytes ls seen made told_of fault a r f s i e m b k h =
+IsAudit-IsReading told on bytes ls seen made told_of fault a r f s i e m b k h =
     let t = told bytes (record { lines = ls; fault = fault }) r in
     let more = bytes_of (digest_behind no_digest ls) t.parts in
     let all : bytes ≡ journal_of ls ++ (bytes_of (digest_behind no_digest ls) t.parts ++ t.rest) =

@@ -29,26 +29,26 @@ all_ascii (b ∷ bs) h = λ i. at i (and_both (is_further b) (list_all is_furthe
     at zero f more = further_ascii b f
     at (suc i) f more = more i
 
-pub name_is_utf8 : (bs : List ℕ) → is_name bs ≡ true → IsUtf8 bs
-name_is_utf8 bs h = IsUtf8-from_ascii bs (all_ascii bs (and_both _ _ (and_both _ _ h).1).0)
+pub IsUtf8-is_name : (bs : List ℕ) → is_name bs ≡ true → IsUtf8 bs
+IsUtf8-is_name bs h = IsUtf8-from_ascii bs (all_ascii bs (and_both _ _ (and_both _ _ h).1).0)
 
-pub unnamed : (line : List ℕ) (p : List ℕ × List ℕ) → request_parts line ≡ Some p → ¬ (IsUtf8 p.0) → None ≡ request_in line
-unnamed line p e h = by (is_name p.0) refl
+pub request_in-not_IsUtf8 : (line : List ℕ) (p : List ℕ × List ℕ) → request_parts line ≡ Some p → ¬ (IsUtf8 p.0) → None ≡ request_in line
+request_in-not_IsUtf8 line p e h = by (is_name p.0) refl
   where
     by : (b : Bool) → is_name p.0 ≡ b → None ≡ request_in line
-    by true k = absurd (h (name_is_utf8 p.0 k))
+    by true k = absurd (h (IsUtf8-is_name p.0 k))
     by false k = sym (ap (option_and_then named_request) e ∙ ap (λ b. cond b (Some (p.0, 123 ∷ p.1)) None) k)
 
-pub no_role : (role : List ℕ) → ¬ (IsUtf8 role) → None ≡ role_in role
-no_role role h = by (is_name role) refl
+pub role_in-not_IsUtf8 : (role : List ℕ) → ¬ (IsUtf8 role) → None ≡ role_in role
+role_in-not_IsUtf8 role h = by (is_name role) refl
   where
     by : (b : Bool) → is_name role ≡ b → None ≡ role_in role
-    by true k = absurd (h (name_is_utf8 role k))
+    by true k = absurd (h (IsUtf8-is_name role k))
     by false k = sym (ap (λ b. cond b (Some role) None) k)
 
-pub no_digest : (x : Result (List ℕ) FromHexError) (e : FromHexError) → (e ≡ OutOfMemory → ⊥) → (e ≡ OutOfMemory) ⊎ (x ≡ Err e) → None ≡ decoded x
-no_digest x e h (inl k) = absurd (h k)
-no_digest x e h (inr k) = sym (ap decoded k)
+pub decoded-not_OutOfMemory : (x : Result (List ℕ) FromHexError) (e : FromHexError) → (e ≡ OutOfMemory → ⊥) → (e ≡ OutOfMemory) ⊎ (x ≡ Err e) → None ≡ decoded x
+decoded-not_OutOfMemory x e h (inl k) = absurd (h k)
+decoded-not_OutOfMemory x e h (inr k) = sym (ap decoded k)
 
 -- ---- names of requests
 
@@ -73,13 +73,13 @@ no_pass t text f h = by (t text) refl
     by true k = absurd (h (f k))
     by false k = refl
 
-pub no_random : (name : List ℕ) → ¬ (IsUtf8 name) → None ≡ passing is_random name
-no_random name h = no_pass is_random name (λ k. IsUtf8-from_ascii name (ascii_by is_letter letter_ascii name (and_both _ _ k).1)) h
+pub passing-is_random : (name : List ℕ) → ¬ (IsUtf8 name) → None ≡ passing is_random name
+passing-is_random name h = no_pass is_random name (λ k. IsUtf8-from_ascii name (ascii_by is_letter letter_ascii name (and_both _ _ k).1)) h
 
-pub no_epoch : (epoch : List ℕ) → ¬ (IsUtf8 epoch) → None ≡ passing is_epoch epoch
-no_epoch epoch h = no_pass is_epoch epoch (λ k. IsUtf8-from_ascii epoch (ascii_by (λ b. is_between 48 57 b || is_between 97 102 b) epoch_ascii epoch (and_both _ _ k).1)) h
+pub passing-is_epoch : (epoch : List ℕ) → ¬ (IsUtf8 epoch) → None ≡ passing is_epoch epoch
+passing-is_epoch epoch h = no_pass is_epoch epoch (λ k. IsUtf8-from_ascii epoch (ascii_by (λ b. is_between 48 57 b || is_between 97 102 b) epoch_ascii epoch (and_both _ _ k).1)) h
 
 -- a role, a slash and a user that is text
-pub holder_joined : (role user a b d : List ℕ) → is_utf8 user ≡ true → a ≡ role → b ≡ a ++ 47 ∷ [] → d ≡ b ++ user → d ≡ holder_of role user
-holder_joined role user a b d u h k e =
+pub holder_of-append : (role user a b d : List ℕ) → is_utf8 user ≡ true → a ≡ role → b ≡ a ++ 47 ∷ [] → d ≡ b ++ user → d ≡ holder_of role user
+holder_of-append role user a b d u h k e =
     e ∙ (ap (λ z. z ++ user) (k ∙ ap (λ z. z ++ 47 ∷ []) h) ∙ (append_assoc role (47 ∷ []) user ∙ ap (λ t. role ++ 47 ∷ cond t user []) (sym u)))

@@ -40,14 +40,15 @@ found_next p k (suc d) h e =
     subst (λ z. find p (count_to z) ≡ Some (suc k)) (let f : suc (d + suc k) ≡ suc d + suc k = omega arith in f)
     (find_kept p (count_to (d + suc k)) (suc (d + suc k) ∷ []) (suc k) (found_next p k d h e))
 
-pub found_at : (p : ℕ → Bool) (n k : ℕ) → k < n → find p (count_to k) ≡ None → p (k + 1) ≡ true → Some (k + 1) ≡ find p (count_to n)
-found_at p n k l h e =
+pub find-count_to_next : (p : ℕ → Bool) (n k : ℕ) → k < n → find p (count_to k) ≡ None → p (k + 1) ≡ true → Some (k + 1) ≡ find p (count_to n)
+find-count_to_next p n k l h e =
     let one : k + 1 ≡ suc k = add-one k in
     let size : (n - suc k) + suc k ≡ n = omega (arith, l) in
     ap Some one ∙ sym (subst (λ z. find p (count_to z) ≡ Some (suc k)) size (found_next p k (n - suc k) h (subst (λ z. p z ≡ true) one e)))
 
-pub none_at : (p : ℕ → Bool) (k : ℕ) → find p (count_to k) ≡ None → p (k + 1) ≡ false → find p (count_to (k + 1)) ≡ None
-none_at p k h e = let one : k + 1 ≡ suc k = add-one k in subst (λ z. find p (count_to z) ≡ None) (sym one) (none_more p k h (subst (λ z. p z ≡ false) one e))
+pub find-count_to_none : (p : ℕ → Bool) (k : ℕ) → find p (count_to k) ≡ None → p (k + 1) ≡ false → find p (count_to (k + 1)) ≡ None
+find-count_to_none p k h e =
+    let one : k + 1 ≡ suc k = add-one k in subst (λ z. find p (count_to z) ≡ None) (sym one) (none_more p k h (subst (λ z. p z ≡ false) one e))
 
-pub none_of_all : (p : ℕ → Bool) (n k : ℕ) → n ≤ k → k ≤ n → find p (count_to k) ≡ None → None ≡ find p (count_to n)
-none_of_all p n k l m h = let same : k ≡ n = omega (arith, l, m) in sym (subst (λ z. find p (count_to z) ≡ None) same h)
+pub find-count_to_all : (p : ℕ → Bool) (n k : ℕ) → n ≤ k → k ≤ n → find p (count_to k) ≡ None → None ≡ find p (count_to n)
+find-count_to_all p n k l m h = let same : k ≡ n = omega (arith, l, m) in sym (subst (λ z. find p (count_to z) ≡ None) same h)

@@ -13,7 +13,7 @@ use Rattle.json.specs.Print.{escape, escape_byte, escape_letter}
 use Rattle.iv_request.specs.Request.{passing}
 use Rattle.iv_clients.specs.Parsed.{but_last, cut_quote}
 use Rattle.iv_clients.specs.Tokens.{behind, cut_at}
-use Rattle.iv_clients.proofs.Slots.{one_some, some_is_none}
+use Rattle.iv_clients.proofs.Slots.{same-Some, not_None-Some}
 
 -- ---- options
 
@@ -22,32 +22,32 @@ pub record Found {X Y : Type 0} (f : X → Option Y) (o : Option X) (y : Y) : Ty
   pub there : o ≡ Some of
   pub is : f of ≡ Some y
 
-pub found : {X Y : Type 0} (f : X → Option Y) (o : Option X) (y : Y) → option_and_then f o ≡ Some y → Found f o y
-found f None y h = absurd (some_is_none y (sym h))
-found f (Some x) y h = record { of = x; there = refl; is = h }
+pub Found-option_and_then : {X Y : Type 0} (f : X → Option Y) (o : Option X) (y : Y) → option_and_then f o ≡ Some y → Found f o y
+Found-option_and_then f None y h = absurd (not_None-Some y (sym h))
+Found-option_and_then f (Some x) y h = record { of = x; there = refl; is = h }
 
 pub record Passes {X : Type 0} (t : X → Bool) (x y : X) : Type 0 where
   pub same : x ≡ y
-  pub passes : t y ≡ true
+  pub Passes-passing : t y ≡ true
 
-pub passes : {X : Type 0} (t : X → Bool) (x y : X) → passing t x ≡ Some y → Passes t x y
-passes t x y h = by (t x) refl h
+pub Passes-passing : {X : Type 0} (t : X → Bool) (x y : X) → passing t x ≡ Some y → Passes t x y
+Passes-passing t x y h = by (t x) refl h
   where
     by : (b : Bool) → t x ≡ b → cond b (Some x) None ≡ Some y → Passes t x y
-    by true e k = record { same = one_some x y k; passes = ap t (sym (one_some x y k)) ∙ e }
-    by false e k = absurd (some_is_none y (sym k))
+    by true e k = record { same = same-Some x y k; passes = ap t (sym (same-Some x y k)) ∙ e }
+    by false e k = absurd (not_None-Some y (sym k))
 
-pub let_pass : {X : Type 0} (t : X → Bool) (x : X) → t x ≡ true → passing t x ≡ Some x
-let_pass t x h = ap (λ b. cond b (Some x) None) h
+pub passing-true : {X : Type 0} (t : X → Bool) (x : X) → t x ≡ true → passing t x ≡ Some x
+passing-true t x h = ap (λ b. cond b (Some x) None) h
 
--- what passes after something
+-- what Passes-passing after something
 pub record Passed {X : Type 0} (t : X → Bool) (o : Option X) (y : X) : Type 0 where
   pub there : o ≡ Some y
-  pub passes : t y ≡ true
+  pub Passes-passing : t y ≡ true
 
-pub passed : {X : Type 0} (t : X → Bool) (o : Option X) (y : X) → option_and_then (passing t) o ≡ Some y → Passed t o y
-passed t o y h =
-    let f = found (passing t) o y h in let p = passes t f.of y f.is in
+pub Passed-option_and_then : {X : Type 0} (t : X → Bool) (o : Option X) (y : X) → option_and_then (passing t) o ≡ Some y → Passed t o y
+Passed-option_and_then t o y h =
+    let f = Found-option_and_then (passing t) o y h in let p = Passes-passing t f.of y f.is in
     record { there = f.there ∙ ap Some p.same; passes = p.passes }
 
 -- ---- bytes
@@ -56,56 +56,56 @@ passed t o y h =
 abbrev pub HasNo : ℕ → List ℕ → Type 0
 HasNo b xs = list_any (λ x. x == b) xs ≡ false
 
-pub none_in_both : (p : ℕ → Bool) (xs ys : List ℕ) → list_any p xs ≡ false → list_any p ys ≡ false → list_any p (xs ++ ys) ≡ false
-none_in_both p xs ys h k = list_any-append p xs ys ∙ (λ i. h i || k i)
+pub list_any-append_false : (p : ℕ → Bool) (xs ys : List ℕ) → list_any p xs ≡ false → list_any p ys ≡ false → list_any p (xs ++ ys) ≡ false
+list_any-append_false p xs ys h k = list_any-append p xs ys ∙ (λ i. h i || k i)
 
-pub both_true : (b c : Bool) → (b && c) ≡ true → (b ≡ true) × (c ≡ true)
-both_true true c h = (refl, h)
-both_true false c h = absurd (false≢true h)
+pub and-both_true : (b c : Bool) → (b && c) ≡ true → (b ≡ true) × (c ≡ true)
+and-both_true true c h = (refl, h)
+and-both_true false c h = absurd (false≢true h)
 
 -- where all bytes pass a test that this one does not
-pub none_passes : (t : ℕ → Bool) (b : ℕ) → t b ≡ false → (xs : List ℕ) → list_all t xs ≡ true → HasNo b xs
-none_passes t b f [] h = refl
-none_passes t b f (x ∷ xs) h = (λ i. by (x == b) refl i || none_passes t b f xs (both_true (t x) (list_all t xs) h).1 i)
+pub HasNo-list_all : (t : ℕ → Bool) (b : ℕ) → t b ≡ false → (xs : List ℕ) → list_all t xs ≡ true → HasNo b xs
+HasNo-list_all t b f [] h = refl
+HasNo-list_all t b f (x ∷ xs) h = (λ i. by (x == b) refl i || HasNo-list_all t b f xs (and-both_true (t x) (list_all t xs) h).1 i)
   where
     by : (u : Bool) → (x == b) ≡ u → u ≡ false
-    by true e = absurd (false≢true (sym f ∙ (ap t (sym (eqb-true x b e)) ∙ (both_true (t x) (list_all t xs) h).0)))
+    by true e = absurd (false≢true (sym f ∙ (ap t (sym (eqb-true x b e)) ∙ (and-both_true (t x) (list_all t xs) h).0)))
     by false e = refl
 
 -- ---- what is cut was put together
 
-pub behind_is : (prefix bytes rest : List ℕ) → behind prefix bytes ≡ Some rest → bytes ≡ prefix ++ rest
-behind_is prefix bytes rest h = by (bytes_eq (take (length prefix) bytes) prefix) refl h
+pub same-behind : (prefix bytes rest : List ℕ) → behind prefix bytes ≡ Some rest → bytes ≡ prefix ++ rest
+same-behind prefix bytes rest h = by (bytes_eq (take (length prefix) bytes) prefix) refl h
   where
     by : (t : Bool) → bytes_eq (take (length prefix) bytes) prefix ≡ t → cond t (Some (drop (length prefix) bytes)) None ≡ Some rest → bytes ≡ prefix ++ rest
     by true e k =
         sym (take-append-drop (length prefix) bytes)
-        ∙ (λ i. (bytes_eq-Decides (take (length prefix) bytes) prefix).0 e i ++ one_some (drop (length prefix) bytes) rest k i)
-    by false e k = absurd (some_is_none rest (sym k))
+        ∙ (λ i. (bytes_eq-Decides (take (length prefix) bytes) prefix).0 e i ++ same-Some (drop (length prefix) bytes) rest k i)
+    by false e k = absurd (not_None-Some rest (sym k))
 
-pub cut_is : (b : ℕ) (xs : List ℕ) (p : List ℕ × List ℕ) → cut_at b xs ≡ Some p → xs ≡ p.0 ++ b ∷ p.1
-cut_is b [] p h = absurd (some_is_none p (sym h))
-cut_is b (x ∷ xs) p h = by (x == b) refl (cut_at b xs) h (λ q e. cut_is b xs q e)
+pub same-cut_at : (b : ℕ) (xs : List ℕ) (p : List ℕ × List ℕ) → cut_at b xs ≡ Some p → xs ≡ p.0 ++ b ∷ p.1
+same-cut_at b [] p h = absurd (not_None-Some p (sym h))
+same-cut_at b (x ∷ xs) p h = by (x == b) refl (cut_at b xs) h (λ q e. same-cut_at b xs q e)
   where
     by : (t : Bool) → (x == b) ≡ t → (o : Option (List ℕ × List ℕ)) → cond t (Some ([], xs)) (option_map {U = List ℕ × List ℕ} (λ q. (x ∷ q.0, q.1)) o) ≡ Some p
         → ((q : List ℕ × List ℕ) → o ≡ Some q → xs ≡ q.0 ++ b ∷ q.1) → x ∷ xs ≡ p.0 ++ b ∷ p.1
-    by true e o k more = ap (λ z. z ∷ xs) (eqb-true x b e) ∙ ap (λ (z : List ℕ × List ℕ). z.0 ++ b ∷ z.1) (one_some {X = List ℕ × List ℕ} ([], xs) p k)
-    by false e None k more = absurd (some_is_none p (sym k))
-    by false e (Some q) k more = ap (λ z. x ∷ z) (more q refl) ∙ ap (λ (z : List ℕ × List ℕ). z.0 ++ b ∷ z.1) (one_some {X = List ℕ × List ℕ} (x ∷ q.0, q.1) p k)
+    by true e o k more = ap (λ z. z ∷ xs) (eqb-true x b e) ∙ ap (λ (z : List ℕ × List ℕ). z.0 ++ b ∷ z.1) (same-Some {X = List ℕ × List ℕ} ([], xs) p k)
+    by false e None k more = absurd (not_None-Some p (sym k))
+    by false e (Some q) k more = ap (λ z. x ∷ z) (more q refl) ∙ ap (λ (z : List ℕ × List ℕ). z.0 ++ b ∷ z.1) (same-Some {X = List ℕ × List ℕ} (x ∷ q.0, q.1) p k)
 
 -- ---- what was put together is cut there
 
-pub cut_there : (b : ℕ) (xs rest : List ℕ) → HasNo b xs → (b == b) ≡ true → cut_at b (xs ++ b ∷ rest) ≡ Some (xs, rest)
-cut_there b [] rest h s = ap (λ t. cond t (Some ([], rest)) (option_map {U = List ℕ × List ℕ} (λ q. (b ∷ q.0, q.1)) (cut_at b rest))) s
-cut_there b (x ∷ xs) rest h s = by (x == b) refl h (λ e. cut_there b xs rest e s)
+pub cut_at-HasNo : (b : ℕ) (xs rest : List ℕ) → HasNo b xs → (b == b) ≡ true → cut_at b (xs ++ b ∷ rest) ≡ Some (xs, rest)
+cut_at-HasNo b [] rest h s = ap (λ t. cond t (Some ([], rest)) (option_map {U = List ℕ × List ℕ} (λ q. (b ∷ q.0, q.1)) (cut_at b rest))) s
+cut_at-HasNo b (x ∷ xs) rest h s = by (x == b) refl h (λ e. cut_at-HasNo b xs rest e s)
   where
     by : (t : Bool) → (x == b) ≡ t → (t || list_any (λ y. y == b) xs) ≡ false → (HasNo b xs → cut_at b (xs ++ b ∷ rest) ≡ Some (xs, rest))
         → cond t (Some ([], xs ++ b ∷ rest)) (option_map {U = List ℕ × List ℕ} (λ q. (x ∷ q.0, q.1)) (cut_at b (xs ++ b ∷ rest))) ≡ Some (x ∷ xs, rest)
     by true e f more = absurd (false≢true (sym f))
     by false e f more = ap (option_map {U = List ℕ × List ℕ} (λ q. (x ∷ q.0, q.1))) (more f)
 
-pub last_off : (xs : List ℕ) (b : ℕ) → but_last (xs ++ b ∷ []) ≡ xs
-last_off xs b =
+pub but_last-push : (xs : List ℕ) (b : ℕ) → but_last (xs ++ b ∷ []) ≡ xs
+but_last-push xs b =
     let one : length (xs ++ b ∷ []) - 1 ≡ length xs = less (length (xs ++ b ∷ [])) (length xs) (length-append xs (b ∷ [])) in
     ap (λ n. take n (xs ++ b ∷ [])) one ∙ take-append_seam xs (b ∷ [])
   where
@@ -164,7 +164,7 @@ byte_cut x r p h =
     byte_by x (escape_letter x) (digit_char (x / 16)) (digit_char (x % 16)) r p (nat_lt 0 (escape_letter x)) (nat_lt x 32)
     (digit_no_quote (x / 16)) (digit_no_backslash (x / 16)) (digit_no_quote (x % 16)) (digit_no_backslash (x % 16)) (no_marks x) h
 
-pub string_cut : (s rest : List ℕ) → cut_quote false (escape s ++ 34 ∷ rest) ≡ Some (escape s, rest)
-string_cut [] rest = refl
-string_cut (x ∷ s) rest =
-    ap (cut_quote false) (append_assoc (escape_byte x) (escape s) (34 ∷ rest)) ∙ byte_cut x (escape s ++ 34 ∷ rest) (escape s, rest) (string_cut s rest)
+pub cut_quote-escape : (s rest : List ℕ) → cut_quote false (escape s ++ 34 ∷ rest) ≡ Some (escape s, rest)
+cut_quote-escape [] rest = refl
+cut_quote-escape (x ∷ s) rest =
+    ap (cut_quote false) (append_assoc (escape_byte x) (escape s) (34 ∷ rest)) ∙ byte_cut x (escape s ++ 34 ∷ rest) (escape s, rest) (cut_quote-escape s rest)

@@ -12,8 +12,8 @@ use Rattle.iv_clients.specs.Journal.{Entry, IsEntry, IsNamed, IsRequest, Request
 use Rattle.iv_clients.specs.Laws.{Begins, ReadsBack}
 use Rattle.iv_clients.specs.Names.{is_count}
 use Rattle.iv_clients.specs.Parsed.{Text, of_request, of_name, of_position, no_entry, part, record_from, record_in, text_in, with_text}
-use Rattle.iv_clients.proofs.Rereading.{Is, text_of_name, text_of_position, text_of_request, text_sound}
-use Rattle.iv_clients.proofs.Slots.{one_some, some_is_none}
+use Rattle.iv_clients.proofs.Rereading.{Is, text_in-name_text, text_in-position_text, text_in-request_text, Is-text_in}
+use Rattle.iv_clients.proofs.Slots.{same-Some, not_None-Some}
 
 abbrev pub made : List Request → List Named → Option ℕ → Entry
 made qs ns p = record { requests = qs; names = ns; position = p }
@@ -48,11 +48,11 @@ abbrev last_line : List ℕ → Line
 last_line t = record { is_last = true; text = t }
 
 -- requests, names and a position, one after another, are the record of a step
-pub step_pushed : {E : Type 0} (r : Result (Unit {0}) E) (qs : List Request) (ns : List Named) (p : ℕ) (t a b n : List Line)
+pub OnOk-record_of : {E : Type 0} (r : Result (Unit {0}) E) (qs : List Request) (ns : List Named) (p : ℕ) (t a b n : List Line)
     → a ≡ t ++ map (λ q. part (request_text q)) qs → b ≡ a ++ map (λ e. part (name_text e)) ns → OnOk r (n ≡ b ++ last_line (position_text p) ∷ [])
     → OnOk r (n ≡ t ++ record_of (texts_of (made qs ns (Some p))))
-step_pushed (Err e) qs ns p t a b n h k l = tt
-step_pushed (Ok u) qs ns p t a b n h k l =
+OnOk-record_of (Err e) qs ns p t a b n h k l = tt
+OnOk-record_of (Ok u) qs ns p t a b n h k l =
     let last = last_line (position_text p) ∷ [] in
     let first = map (λ q. part (request_text q)) qs in
     let second = map (λ e. part (name_text e)) ns in
@@ -81,14 +81,14 @@ IsPosition p = if_some p true is_count ≡ true
 position_left : (qs : List Request) (ns : List Named) (p : ℕ) (rest : List Line) → IsPosition (Some p)
     → record_from (made qs ns None) (record_of (position_text p ∷ []) ++ rest) ≡ Some (made qs ns (Some p), rest)
 position_left qs ns p rest h =
-    one_text (made qs ns None) (made qs ns (Some p)) (position_text p) (of_position p) [] rest (Some (made qs ns (Some p), rest)) (text_of_position p h) refl (λ _. refl) (λ n. absurd (n refl))
+    one_text (made qs ns None) (made qs ns (Some p)) (position_text p) (of_position p) [] rest (Some (made qs ns (Some p), rest)) (text_in-position_text p h) refl (λ _. refl) (λ n. absurd (n refl))
 
 names_left : (qs : List Request) (ns more : List Named) (p : Option ℕ) (rest : List Line) → AllByRecursion IsNamed more → IsPosition p → (name_texts more p ≡ [] → ⊥)
     → record_from (made qs ns None) (record_of (name_texts more p) ++ rest) ≡ Some (made qs (ns ++ more) p, rest)
 names_left qs ns [] None rest w h some = absurd (some refl)
 names_left qs ns [] (Some p) rest w h some = position_left qs ns p rest h ∙ ap (λ z. Some (made qs z (Some p), rest)) (sym (append-nil ns))
 names_left qs ns (n ∷ more) p rest w h some =
-    one_text (made qs ns None) (made qs (ns ++ n ∷ []) None) (name_text n) (of_name n) (name_texts more p) rest (Some (made qs (ns ++ n ∷ more) p, rest)) (text_of_name n w.0) refl
+    one_text (made qs ns None) (made qs (ns ++ n ∷ []) None) (name_text n) (of_name n) (name_texts more p) rest (Some (made qs (ns ++ n ∷ more) p, rest)) (text_in-name_text n w.0) refl
     (λ e. ended more p e)
     (λ s. names_left qs (ns ++ n ∷ []) more p rest w.1 h s ∙ ap (λ z. Some (made qs z p, rest)) (append_assoc ns (n ∷ []) more))
   where
@@ -104,7 +104,7 @@ requests_left : (qs more : List Request) (ns : List Named) (p : Option ℕ) (res
 requests_left qs [] ns p rest w v h some = names_left qs [] ns p rest v h some ∙ ap (λ z. Some (made z ns p, rest)) (sym (append-nil qs))
 requests_left qs (q ∷ more) ns p rest w v h some =
     one_text (made qs [] None) (made (qs ++ q ∷ []) [] None) (request_text q) (of_request q) (map request_text more ++ name_texts ns p) rest (Some (made (qs ++ q ∷ more) ns p, rest))
-    (text_of_request q w.0) refl (λ e. ended more ns p e)
+    (text_in-request_text q w.0) refl (λ e. ended more ns p e)
     (λ s. requests_left (qs ++ q ∷ []) more ns p rest w.1 v h s ∙ ap (λ z. Some (made z ns p, rest)) (append_assoc qs (q ∷ []) more))
   where
     ended : (later : List Request) (ms : List Named) (o : Option ℕ) → map request_text later ++ name_texts ms o ≡ []
@@ -138,13 +138,13 @@ record IsMore (e f : Entry) (t : List ℕ) : Type 0 where
   texts : texts_of f ≡ texts_of e ++ t ∷ []
 
 more_of : (e f g : Entry) (t : List ℕ) → Some f ≡ Some g → IsMore e f t → IsMore e g t
-more_of e f g t h m = subst (λ z. IsMore e z t) (one_some f g h) m
+more_of e f g t h m = subst (λ z. IsMore e z t) (same-Some f g h) m
 
 request_more : (qs : List Request) (ns : List Named) (p : Option ℕ) (q : Request) (g : Entry) → IsFront (made qs ns p) → IsRequest q → with_text (made qs ns p) (of_request q) ≡ Some g
     → IsMore (made qs ns p) g (request_text q)
-request_more qs ns (Some n) q g a w h = absurd (some_is_none g (sym h))
+request_more qs ns (Some n) q g a w h = absurd (not_None-Some g (sym h))
 request_more qs (m ∷ ms) None q g a w h =
-    absurd (some_is_none g (sym (sym (ap (λ b. cond b (Some (made (qs ++ q ∷ []) (m ∷ ms) None)) None) (suc_not (length ms))) ∙ h)))
+    absurd (not_None-Some g (sym (sym (ap (λ b. cond b (Some (made (qs ++ q ∷ []) (m ∷ ms) None)) None) (suc_not (length ms))) ∙ h)))
 request_more qs [] None q g a w h = more_of (made qs [] None) (made (qs ++ q ∷ []) [] None) g (request_text q) h (record {
   front = record { requests = all_pushed IsRequest qs q a.requests w; names = tt; position = refl };
   texts = append-nil (map request_text (qs ++ q ∷ [])) ∙ (map-append request_text qs (q ∷ []) ∙ ap (λ z. z ++ request_text q ∷ []) (sym (append-nil (map request_text qs))));
@@ -152,7 +152,7 @@ request_more qs [] None q g a w h = more_of (made qs [] None) (made (qs ++ q ∷
 
 name_more : (qs : List Request) (ns : List Named) (p : Option ℕ) (n : Named) (g : Entry) → IsFront (made qs ns p) → IsNamed n → with_text (made qs ns p) (of_name n) ≡ Some g
     → IsMore (made qs ns p) g (name_text n)
-name_more qs ns (Some k) n g a w h = absurd (some_is_none g (sym h))
+name_more qs ns (Some k) n g a w h = absurd (not_None-Some g (sym h))
 name_more qs ns None n g a w h = more_of (made qs ns None) (made qs (ns ++ n ∷ []) None) g (name_text n) h (record {
   front = record { requests = a.requests; names = all_pushed IsNamed ns n a.names w; position = refl };
   texts = ap (λ z. map request_text qs ++ z) (append-nil (map name_text (ns ++ n ∷ [])) ∙ (map-append name_text ns (n ∷ []) ∙ ap (λ z. z ++ name_text n ∷ []) (sym (append-nil (map name_text ns)))))
@@ -161,7 +161,7 @@ name_more qs ns None n g a w h = more_of (made qs ns None) (made qs (ns ++ n ∷
 
 position_more : (qs : List Request) (ns : List Named) (p : Option ℕ) (n : ℕ) (g : Entry) → IsFront (made qs ns p) → is_count n ≡ true → with_text (made qs ns p) (of_position n) ≡ Some g
     → IsMore (made qs ns p) g (position_text n)
-position_more qs ns (Some k) n g a w h = absurd (some_is_none g (sym h))
+position_more qs ns (Some k) n g a w h = absurd (not_None-Some g (sym h))
 position_more qs ns None n g a w h = more_of (made qs ns None) (made qs ns (Some n)) g (position_text n) h (record {
   front = record { requests = a.requests; names = a.names; position = w };
   texts = ap (λ z. map request_text qs ++ (z ++ position_text n ∷ [])) (sym (append-nil (map name_text ns)))
@@ -185,12 +185,12 @@ abbrev Reads : List Line → Entry → List Line → Type 0
 Reads ls f rest = (g : Entry) → IsFront g → record_from g ls ≡ Some (f, rest) → IsRest g ls f rest
 
 rest_sound : (ls : List Line) (f : Entry) (rest : List Line) → Reads ls f rest
-rest_sound [] f rest e a h = absurd (some_is_none {X = Entry × List Line} (f, rest) (sym h))
+rest_sound [] f rest e a h = absurd (not_None-Some {X = Entry × List Line} (f, rest) (sym h))
 rest_sound (l ∷ ls) f rest e a h = by_text (λ g m k. rest_sound ls f rest g m k) (text_in l.text) refl h
   where
     by_end : Reads ls f rest → (g : Entry) → IsMore e g l.text → (b : Bool) → l.is_last ≡ b → cond b (Some (g, ls)) (record_from g ls) ≡ Some (f, rest) → IsRest e (l ∷ ls) f rest
     by_end more g m true k i =
-        let same = one_some {X = Entry × List Line} (g, ls) (f, rest) i in
+        let same = same-Some {X = Entry × List Line} (g, ls) (f, rest) i in
         let entry : g ≡ f = ap (λ (z : Entry × List Line). z.0) same in
         record {
           texts = l.text ∷ [];
@@ -211,13 +211,13 @@ rest_sound (l ∷ ls) f rest e a h = by_text (λ g m k. rest_sound ls f rest g m
 
     by_entry : Reads ls f rest → (x : Text) → Is l.text x → (o : Option Entry) → with_text e x ≡ o
         → option_and_then (λ g. cond l.is_last (Some (g, ls)) (record_from g ls)) o ≡ Some (f, rest) → IsRest e (l ∷ ls) f rest
-    by_entry more x w None k i = absurd (some_is_none {X = Entry × List Line} (f, rest) (sym i))
+    by_entry more x w None k i = absurd (not_None-Some {X = Entry × List Line} (f, rest) (sym i))
     by_entry more x w (Some g) k i = by_end more g (one_more e g l.text x a w k) l.is_last refl i
 
     by_text : Reads ls f rest → (o : Option Text) → text_in l.text ≡ o
         → option_and_then (λ x. option_and_then (λ g. cond l.is_last (Some (g, ls)) (record_from g ls)) (with_text e x)) o ≡ Some (f, rest) → IsRest e (l ∷ ls) f rest
-    by_text more None k i = absurd (some_is_none {X = Entry × List Line} (f, rest) (sym i))
-    by_text more (Some x) k i = by_entry more x (text_sound l.text x k) (with_text e x) refl i
+    by_text more None k i = absurd (not_None-Some {X = Entry × List Line} (f, rest) (sym i))
+    by_text more (Some x) k i = by_entry more x (Is-text_in l.text x k) (with_text e x) refl i
 
 pub record_sound : (ls : List Line) (e : Entry) (rest : List Line) → record_in ls ≡ Some (e, rest) → Begins ls e rest
 record_sound ls e rest h =

@@ -22,14 +22,14 @@ use Rattle.iv_clients.specs.Journal.{IsNamed, IsRequest, Request, answer_key, be
 use Rattle.iv_clients.specs.Names.{Spelled, behind_count, behind_epoch, behind_name, between, count_in, is_between, is_count, is_epoch, is_letter, is_random, spelled_in}
 use Rattle.iv_clients.specs.Parsed.{NameParts, Text, of_request, of_name, of_position, act_plain, answer_in, behind_digest, behind_holder, but_last, count_first, cut_quote, digest_of_32, is_answer, is_asked, name_in, name_parts, named_by, named_in, named_of, named_request, position_in, request_by, request_in, request_parts, request_read, string_in, text_in}
 use Rattle.iv_clients.specs.Tokens.{behind, cut_at, decoded}
-use Rattle.iv_clients.proofs.Cuts.{HasNo, Passes, behind_is, both_true, cut_is, cut_there, found, last_off, let_pass, none_passes, passed, passes, string_cut}
-use Rattle.iv_clients.proofs.Slots.{one_some, some_is_none}
-use Rattle.iv_clients.proofs.Spelling.{count_read, decimal_no_brace, decimal_no_quote, digest_read, digits_no_quote, string_read}
+use Rattle.iv_clients.proofs.Cuts.{HasNo, Passes, same-behind, and-both_true, same-cut_at, cut_at-HasNo, Found-option_and_then, but_last-push, passing-true, HasNo-list_all, Passed-option_and_then, Passes-passing, cut_quote-escape}
+use Rattle.iv_clients.proofs.Slots.{same-Some, not_None-Some}
+use Rattle.iv_clients.proofs.Spelling.{count_in-decimal, HasNo-decimal_brace, HasNo-decimal_quote, digest_of_32-encode_lower, HasNo-encode_lower, string_in-escape}
 
 -- ---- requests
 
 further_all : (xs : List ℕ) → is_name xs ≡ true → list_all is_further xs ≡ true
-further_all xs h = (both_true _ _ (both_true _ _ h).1).0
+further_all xs h = (and-both_true _ _ (and-both_true _ _ h).1).0
 
 with_its_brace : (line : List ℕ) → begins_object line ≡ true → 123 ∷ drop 1 line ≡ line
 with_its_brace [] h = absurd (false≢true h)
@@ -38,7 +38,7 @@ with_its_brace (b ∷ line) h = ap (λ z. z ∷ line) (sym (eqb-true b 123 h))
 parts_of_request : (role line : List ℕ) → list_all is_further role ≡ true → request_parts (codes "\"as\":\"" ++ (role ++ (codes "\"," ++ drop 1 line))) ≡ Some (role, drop 1 line)
 parts_of_request role line n =
     ap (option_and_then (λ (p : List ℕ × List ℕ). option_map {U = List ℕ × List ℕ} (λ text. (p.0, text)) (behind (codes ",") p.1)))
-    (cut_there 34 role (44 ∷ drop 1 line) (none_passes is_further 34 refl role n) refl)
+    (cut_at-HasNo 34 role (44 ∷ drop 1 line) (HasNo-list_all is_further 34 refl role n) refl)
 
 pub request_parted : (q : Request) → IsRequest q → request_in (request_text q) ≡ Some (q.role, q.line)
 request_parted q w =
@@ -49,7 +49,7 @@ pub request_back : (q : Request) → IsRequest q → request_read (request_text 
 request_back q w =
     ap (option_and_then (λ (p : Name × List ℕ). request_by p.0 p.1)) (request_parted q w)
     ∙ (ap (λ m. option_and_then (λ act. passing is_asked (record { role = q.role; line = q.line; act = act })) (act_plain m)) w.asks
-    ∙ let_pass is_asked q (λ i. w.shared i && not (w.line i)))
+    ∙ passing-true is_asked q (λ i. w.shared i && not (w.line i)))
 
 record IsPart (text : List ℕ) (p : List ℕ × List ℕ) : Type 0 where
   rest : List ℕ
@@ -59,41 +59,42 @@ record IsPart (text : List ℕ) (p : List ℕ × List ℕ) : Type 0 where
 
 is_part : (text : List ℕ) (p : List ℕ × List ℕ) → request_in text ≡ Some p → IsPart text p
 is_part text p h =
-    let named = found named_request (request_parts text) p h in
+    let named = Found-option_and_then named_request (request_parts text) p h in
     let q = named.of in
-    let first = found (λ rest. option_and_then (λ (z : List ℕ × List ℕ). option_map {U = List ℕ × List ℕ} (λ t. (z.0, t)) (behind (codes ",") z.1)) (cut_at 34 rest))
+    let first = Found-option_and_then (λ rest. option_and_then (λ (z : List ℕ × List ℕ). option_map {U = List ℕ × List ℕ} (λ t. (z.0, t)) (behind (codes ",") z.1)) (cut_at 34 rest))
     (behind (codes "\"as\":\"") text) q named.there in
-    let second = found (λ (z : List ℕ × List ℕ). option_map {U = List ℕ × List ℕ} (λ t. (z.0, t)) (behind (codes ",") z.1)) (cut_at 34 first.of) q first.is in
-    last q named.is first.of second.of (behind_is (codes "\"as\":\"") text first.of first.there) (cut_is 34 first.of second.of second.there) (behind (codes ",") second.of.1) refl second.is
+    let second = Found-option_and_then (λ (z : List ℕ × List ℕ). option_map {U = List ℕ × List ℕ} (λ t. (z.0, t)) (behind (codes ",") z.1))
+      (cut_at 34 first.of) q first.is in
+    last q named.is first.of second.of (same-behind (codes "\"as\":\"") text first.of first.there) (same-cut_at 34 first.of second.of second.there) (behind (codes ",") second.of.1) refl second.is
   where
     last : (q : List ℕ × List ℕ) → named_request q ≡ Some p → (rest : List ℕ) (z : List ℕ × List ℕ) → text ≡ codes "\"as\":\"" ++ rest → rest ≡ z.0 ++ 34 ∷ z.1
         → (o : Option (List ℕ)) → behind (codes ",") z.1 ≡ o → option_map {U = List ℕ × List ℕ} (λ t. (z.0, t)) o ≡ Some q → IsPart text p
-    last q n rest z a b None e k = absurd (some_is_none q (sym k))
+    last q n rest z a b None e k = absurd (not_None-Some q (sym k))
     last q n rest z a b (Some t) e k = test (is_name q.0) refl n
       where
         pair : (z.0, t) ≡ q
-        pair = one_some {X = List ℕ × List ℕ} (z.0, t) q k
+        pair = same-Some {X = List ℕ × List ℕ} (z.0, t) q k
 
         all : text ≡ codes "\"as\":\"" ++ (q.0 ++ (codes "\"," ++ q.1))
-        all = a ∙ (ap (λ y. codes "\"as\":\"" ++ y) (b ∙ ap (λ y. z.0 ++ 34 ∷ y) (behind_is (codes ",") z.1 t e))
+        all = a ∙ (ap (λ y. codes "\"as\":\"" ++ y) (b ∙ ap (λ y. z.0 ++ 34 ∷ y) (same-behind (codes ",") z.1 t e))
             ∙ ap (λ (y : List ℕ × List ℕ). codes "\"as\":\"" ++ (y.0 ++ (codes "\"," ++ y.1))) pair)
 
         test : (t : Bool) → is_name q.0 ≡ t → cond t (Some (q.0, 123 ∷ q.1)) None ≡ Some p → IsPart text p
-        test true m l = let s = one_some {X = List ℕ × List ℕ} (q.0, 123 ∷ q.1) p l in record {
+        test true m l = let s = same-Some {X = List ℕ × List ℕ} (q.0, 123 ∷ q.1) p l in record {
           rest = q.1;
           name = ap (λ (y : List ℕ × List ℕ). is_name y.0) (sym s) ∙ m;
           brace = ap (λ (y : List ℕ × List ℕ). y.1) (sym s);
           is = all ∙ ap (λ (y : List ℕ × List ℕ). codes "\"as\":\"" ++ (y.0 ++ (codes "\"," ++ q.1))) s;
         }
-        test false m l = absurd (some_is_none p (sym l))
+        test false m l = absurd (not_None-Some p (sym l))
 
 plain_is : (m : Message) (act : Act) → act_plain m ≡ Some act → m ≡ request None act
-plain_is no_json act h = absurd (some_is_none act (sym h))
-plain_is too_long act h = absurd (some_is_none act (sym h))
-plain_is no_object act h = absurd (some_is_none act (sym h))
-plain_is (no_request id why) act h = absurd (some_is_none act (sym h))
-plain_is (request None a) act h = ap (request None) (one_some a act h)
-plain_is (request (Some id) a) act h = absurd (some_is_none act (sym h))
+plain_is no_json act h = absurd (not_None-Some act (sym h))
+plain_is too_long act h = absurd (not_None-Some act (sym h))
+plain_is no_object act h = absurd (not_None-Some act (sym h))
+plain_is (no_request id why) act h = absurd (not_None-Some act (sym h))
+plain_is (request None a) act h = ap (request None) (same-Some a act h)
+plain_is (request (Some id) a) act h = absurd (not_None-Some act (sym h))
 
 -- it is the text of the request
 pub record IsTextOf (text : List ℕ) (q : Request) : Type 0 where
@@ -104,7 +105,7 @@ of_act : (text : List ℕ) (q : Request) (p : Name × List ℕ) → IsPart text 
     → Passes is_asked (record { role = p.0; line = p.1; act = act }) q → IsTextOf text q
 of_act text q p x act m t =
     let same : record { role = p.0; line = p.1; act = act } ≡ q = t.same in
-    let tests = both_true (is_shared q.act) (not (has_newline q.line)) t.passes in
+    let tests = and-both_true (is_shared q.act) (not (has_newline q.line)) t.passes in
     record {
       well = record {
         role = ap (λ (z : Request). is_name z.role) (sym same) ∙ x.name;
@@ -122,12 +123,12 @@ of_act text q p x act m t =
 
 of_parts : (text : List ℕ) (q : Request) (p : Name × List ℕ) → IsPart text p → request_by p.0 p.1 ≡ Some q → IsTextOf text q
 of_parts text q p x k =
-    let g = found (λ act. passing is_asked (record { role = p.0; line = p.1; act = act })) (act_plain (message_of p.1)) q k in
-    of_act text q p x g.of (plain_is (message_of p.1) g.of g.there) (passes is_asked (record { role = p.0; line = p.1; act = g.of }) q g.is)
+    let g = Found-option_and_then (λ act. passing is_asked (record { role = p.0; line = p.1; act = act })) (act_plain (message_of p.1)) q k in
+    of_act text q p x g.of (plain_is (message_of p.1) g.of g.there) (Passes-passing is_asked (record { role = p.0; line = p.1; act = g.of }) q g.is)
 
 pub request_sound : (text : List ℕ) (q : Request) → request_read text ≡ Some q → IsTextOf text q
 request_sound text q h =
-    let f = found (λ (p : Name × List ℕ). request_by p.0 p.1) (request_in text) q h in
+    let f = Found-option_and_then (λ (p : Name × List ℕ). request_by p.0 p.1) (request_in text) q h in
     of_parts text q f.of (is_part text f.of f.there) f.is
 
 -- ---- names
@@ -149,20 +150,20 @@ spelled_back : (e : Named) → IsNamed e → spelled_in (name_text e) ≡ Some (
 spelled_back e w =
     let name = e.ask.name in let epoch = e.ask.at.epoch in let count = decimal e.ask.at.count in
     let last = 44 ∷ behind_place e in
-    let letters : list_all is_letter name ≡ true = (both_true (length name == 22) (list_all is_letter name) w.name).1 in
-    let digits : list_all is_epoch_digit epoch ≡ true = (both_true (length epoch == 32) (list_all is_epoch_digit epoch) w.epoch).1 in
-    ap (option_and_then behind_name) (cut_there 34 name (codes ",\"at\":\"" ++ ((epoch ++ 46 ∷ count) ++ 34 ∷ last)) (none_passes is_letter 34 refl name letters) refl)
+    let letters : list_all is_letter name ≡ true = (and-both_true (length name == 22) (list_all is_letter name) w.name).1 in
+    let digits : list_all is_epoch_digit epoch ≡ true = (and-both_true (length epoch == 32) (list_all is_epoch_digit epoch) w.epoch).1 in
+    ap (option_and_then behind_name) (cut_at-HasNo 34 name (codes ",\"at\":\"" ++ ((epoch ++ 46 ∷ count) ++ 34 ∷ last)) (HasNo-list_all is_letter 34 refl name letters) refl)
     ∙ (ap (λ z. option_and_then (behind_epoch name) (cut_at 46 z)) (append_assoc epoch (46 ∷ count) (34 ∷ last))
-    ∙ (ap (option_and_then (behind_epoch name)) (cut_there 46 epoch (count ++ 34 ∷ last) (none_passes is_epoch_digit 46 refl epoch digits) refl)
-    ∙ ap (option_and_then (behind_count name epoch)) (cut_there 34 count last (decimal_no_quote e.ask.at.count) refl)))
+    ∙ (ap (option_and_then (behind_epoch name)) (cut_at-HasNo 46 epoch (count ++ 34 ∷ last) (HasNo-list_all is_epoch_digit 46 refl epoch digits) refl)
+    ∙ ap (option_and_then (behind_count name epoch)) (cut_at-HasNo 34 count last (HasNo-decimal_quote e.ask.at.count) refl)))
 
 abbrev parts_written : Bool → (holder digest answer : List ℕ) → NameParts
 parts_written refused holder digest answer = record { holder = escape holder; digits = encode_lower digest; refused = refused; answer = answer ++ codes "}" }
 
 digest_back : (refused : Bool) (holder digest answer : List ℕ) → HasNo 34 (encode_lower digest)
     → behind_holder (escape holder, codes ",\"digest\":\"" ++ (encode_lower digest ++ (answer_key refused ++ (answer ++ codes "}")))) ≡ Some (parts_written refused holder digest answer)
-digest_back true holder digest answer n = ap (option_and_then (behind_digest (escape holder))) (cut_there 34 (encode_lower digest) (codes ",\"refused\":" ++ (answer ++ codes "}")) n refl)
-digest_back false holder digest answer n = ap (option_and_then (behind_digest (escape holder))) (cut_there 34 (encode_lower digest) (codes ",\"done\":" ++ (answer ++ codes "}")) n refl)
+digest_back true holder digest answer n = ap (option_and_then (behind_digest (escape holder))) (cut_at-HasNo 34 (encode_lower digest) (codes ",\"refused\":" ++ (answer ++ codes "}")) n refl)
+digest_back false holder digest answer n = ap (option_and_then (behind_digest (escape holder))) (cut_at-HasNo 34 (encode_lower digest) (codes ",\"done\":" ++ (answer ++ codes "}")) n refl)
 
 parts_back : (refused : Bool) (holder digest answer : List ℕ) → HasNo 34 (encode_lower digest)
     → name_parts (codes "\"by\":" ++ (compact_text (string holder) ++ (codes ",\"digest\":\"" ++ (encode_lower digest ++ (answer_key refused ++ (answer ++ codes "}"))))))
@@ -170,20 +171,20 @@ parts_back : (refused : Bool) (holder digest answer : List ℕ) → HasNo 34 (en
 parts_back refused holder digest answer n =
     let later = codes ",\"digest\":\"" ++ (encode_lower digest ++ (answer_key refused ++ (answer ++ codes "}"))) in
     ap (λ z. option_and_then behind_holder (cut_quote false z)) (append_assoc (escape holder) (34 ∷ []) later)
-    ∙ (ap (option_and_then behind_holder) (string_cut holder later) ∙ digest_back refused holder digest answer n)
+    ∙ (ap (option_and_then behind_holder) (cut_quote-escape holder later) ∙ digest_back refused holder digest answer n)
 
 named_back : (e : Named) → IsNamed e → named_in (spelling e) ≡ Some e
 named_back e w =
     let answer : answer_in (e.answer ++ 125 ∷ []) ≡ Some e.answer =
-    ap (passing is_answer) (last_off e.answer 125) ∙ let_pass is_answer e.answer (λ i. not (w.line i)) in
-    ap (option_and_then (named_by (spelling e))) (parts_back e.refused e.ask.holder e.ask.digest e.answer (digits_no_quote e.ask.digest w.digest))
-    ∙ (λ i. named_of e.refused (let_pass is_random e.ask.name w.name i) (let_pass is_epoch e.ask.at.epoch w.epoch i) (answer i)
-    (digest_read e.ask.digest w.digest i) (count_read e.ask.at.count w.count i) (string_read e.ask.holder w.holder i))
+    ap (passing is_answer) (but_last-push e.answer 125) ∙ passing-true is_answer e.answer (λ i. not (w.line i)) in
+    ap (option_and_then (named_by (spelling e))) (parts_back e.refused e.ask.holder e.ask.digest e.answer (HasNo-encode_lower e.ask.digest w.digest))
+    ∙ (λ i. named_of e.refused (passing-true is_random e.ask.name w.name i) (passing-true is_epoch e.ask.at.epoch w.epoch i) (answer i)
+    (digest_of_32-encode_lower e.ask.digest w.digest i) (count_in-decimal e.ask.at.count w.count i) (string_in-escape e.ask.holder w.holder i))
 
 pub name_back : (e : Named) → IsNamed e → name_in (name_text e) ≡ Some e
 name_back e w =
     ap (option_and_then (passing (λ f. bytes_eq (name_text f) (name_text e)))) (ap (option_and_then named_in) (spelled_back e w) ∙ named_back e w)
-    ∙ let_pass (λ f. bytes_eq (name_text f) (name_text e)) e (bytes_same (name_text e))
+    ∙ passing-true (λ f. bytes_eq (name_text f) (name_text e)) e (bytes_same (name_text e))
 
 record AreThere (names epochs answers digests : Option (List ℕ)) (counts : Option ℕ) (holders : Option (List ℕ)) (e : Named) : Type 0 where
   name : names ≡ Some e.ask.name
@@ -196,7 +197,7 @@ record AreThere (names epochs answers digests : Option (List ℕ)) (counts : Opt
 are_there : (refused : Bool) (name epoch answer digest : Option (List ℕ)) (count : Option ℕ) (holder : Option (List ℕ)) (e : Named)
     → named_of refused name epoch answer digest count holder ≡ Some e → AreThere name epoch answer digest count holder e
 are_there refused (Some name) (Some epoch) (Some answer) (Some digest) (Some count) (Some holder) e h =
-    let s = one_some (record { ask = record { holder = holder; name = name; at = record { epoch = epoch; count = count }; digest = digest }; refused = refused; answer = answer }) e h in
+    let s = same-Some (record { ask = record { holder = holder; name = name; at = record { epoch = epoch; count = count }; digest = digest }; refused = refused; answer = answer }) e h in
     record {
       name = ap (λ (z : Named). Some z.ask.name) s;
       epoch = ap (λ (z : Named). Some z.ask.at.epoch) s;
@@ -205,7 +206,7 @@ are_there refused (Some name) (Some epoch) (Some answer) (Some digest) (Some cou
       count = ap (λ (z : Named). Some z.ask.at.count) s;
       holder = ap (λ (z : Named). Some z.ask.holder) s;
     }
-are_there refused _ _ _ _ _ _ e h = absurd (some_is_none e (sym h))
+are_there refused _ _ _ _ _ _ e h = absurd (not_None-Some e (sym h))
 
 -- it is the text of the name
 pub record IsTextOfName (text : List ℕ) (e : Named) : Type 0 where
@@ -214,18 +215,18 @@ pub record IsTextOfName (text : List ℕ) (e : Named) : Type 0 where
 
 pub name_sound : (text : List ℕ) (e : Named) → name_in text ≡ Some e → IsTextOfName text e
 name_sound text e h =
-    let p = passed (λ f. bytes_eq (name_text f) text) (option_and_then named_in (spelled_in text)) e h in
-    let s = found named_in (spelled_in text) e p.there in
-    let q = found (named_by s.of) (name_parts s.of.rest) e s.is in
+    let p = Passed-option_and_then (λ f. bytes_eq (name_text f) text) (option_and_then named_in (spelled_in text)) e h in
+    let s = Found-option_and_then named_in (spelled_in text) e p.there in
+    let q = Found-option_and_then (named_by s.of) (name_parts s.of.rest) e s.is in
     let t = are_there q.of.refused (passing is_random s.of.name) (passing is_epoch s.of.epoch) (answer_in q.of.answer) (digest_of_32 q.of.digits) (count_in s.of.digits) (string_in q.of.holder) e q.is in
     record {
       well = record {
-        name = (passes is_random s.of.name e.ask.name t.name).passes;
-        epoch = (passes is_epoch s.of.epoch e.ask.at.epoch t.epoch).passes;
-        count = (passed is_count (option_and_then as_u64 (option_and_then as_number (option_and_then id_in (value_of s.of.digits)))) e.ask.at.count t.count).passes;
-        holder = (passed is_utf8 (option_and_then as_str (value_of (34 ∷ (q.of.holder ++ 34 ∷ [])))) e.ask.holder t.holder).passes;
-        digest = (passed is_digest (decoded (decode_sized q.of.digits 32)) e.ask.digest t.digest).passes;
-        line = turned (has_newline e.answer) (passes is_answer (but_last q.of.answer) e.answer t.answer).passes;
+        name = (Passes-passing is_random s.of.name e.ask.name t.name).passes;
+        epoch = (Passes-passing is_epoch s.of.epoch e.ask.at.epoch t.epoch).passes;
+        count = (Passed-option_and_then is_count (option_and_then as_u64 (option_and_then as_number (option_and_then id_in (value_of s.of.digits)))) e.ask.at.count t.count).passes;
+        holder = (Passed-option_and_then is_utf8 (option_and_then as_str (value_of (34 ∷ (q.of.holder ++ 34 ∷ [])))) e.ask.holder t.holder).passes;
+        digest = (Passed-option_and_then is_digest (decoded (decode_sized q.of.digits 32)) e.ask.digest t.digest).passes;
+        line = turned (has_newline e.answer) (Passes-passing is_answer (but_last q.of.answer) e.answer t.answer).passes;
       };
       written = sym ((bytes_eq-Decides (name_text e) text).0 p.passes);
     }
@@ -239,8 +240,8 @@ name_sound text e h =
 pub position_back : (p : ℕ) → is_count p ≡ true → position_in (position_text p) ≡ Some p
 position_back p h =
     ap (option_and_then (passing (λ n. bytes_eq (position_text n) (position_text p))))
-    (ap (option_and_then count_first) (cut_there 125 (decimal p) [] (decimal_no_brace p) refl) ∙ count_read p h)
-    ∙ let_pass (λ n. bytes_eq (position_text n) (position_text p)) p (bytes_same (position_text p))
+    (ap (option_and_then count_first) (cut_at-HasNo 125 (decimal p) [] (HasNo-decimal_brace p) refl) ∙ count_in-decimal p h)
+    ∙ passing-true (λ n. bytes_eq (position_text n) (position_text p)) p (bytes_same (position_text p))
 
 pub record IsTextOfPosition (text : List ℕ) (p : ℕ) : Type 0 where
   pub well : is_count p ≡ true
@@ -248,10 +249,10 @@ pub record IsTextOfPosition (text : List ℕ) (p : ℕ) : Type 0 where
 
 pub position_sound : (text : List ℕ) (p : ℕ) → position_in text ≡ Some p → IsTextOfPosition text p
 position_sound text p h =
-    let t = passed (λ n. bytes_eq (position_text n) text) (option_and_then count_first (between (codes "\"step\":") 125 text)) p h in
-    let d = found count_first (between (codes "\"step\":") 125 text) p t.there in
+    let t = Passed-option_and_then (λ n. bytes_eq (position_text n) text) (option_and_then count_first (between (codes "\"step\":") 125 text)) p h in
+    let d = Found-option_and_then count_first (between (codes "\"step\":") 125 text) p t.there in
     record {
-      well = (passed is_count (option_and_then as_u64 (option_and_then as_number (option_and_then id_in (value_of d.of.0)))) p d.is).passes;
+      well = (Passed-option_and_then is_count (option_and_then as_u64 (option_and_then as_number (option_and_then id_in (value_of d.of.0)))) p d.is).passes;
       written = sym ((bytes_eq-Decides (position_text p) text).0 t.passes);
     }
 
@@ -262,27 +263,27 @@ Is text (of_request q) = IsTextOf text q
 Is text (of_name e) = IsTextOfName text e
 Is text (of_position p) = IsTextOfPosition text p
 
-pub text_of_request : (q : Request) → IsRequest q → text_in (request_text q) ≡ Some (of_request q)
-text_of_request q w = ap (λ o. if_some o (if_some (name_in (request_text q)) (option_map of_position (position_in (request_text q))) (λ e. Some (of_name e))) (λ z. Some (of_request z))) (request_back q w)
+pub text_in-request_text : (q : Request) → IsRequest q → text_in (request_text q) ≡ Some (of_request q)
+text_in-request_text q w = ap (λ o. if_some o (if_some (name_in (request_text q)) (option_map of_position (position_in (request_text q))) (λ e. Some (of_name e))) (λ z. Some (of_request z))) (request_back q w)
 
-pub text_of_name : (e : Named) → IsNamed e → text_in (name_text e) ≡ Some (of_name e)
-text_of_name e w = ap (λ o. if_some o (option_map of_position (position_in (name_text e))) (λ z. Some (of_name z))) (name_back e w)
+pub text_in-name_text : (e : Named) → IsNamed e → text_in (name_text e) ≡ Some (of_name e)
+text_in-name_text e w = ap (λ o. if_some o (option_map of_position (position_in (name_text e))) (λ z. Some (of_name z))) (name_back e w)
 
-pub text_of_position : (p : ℕ) → is_count p ≡ true → text_in (position_text p) ≡ Some (of_position p)
-text_of_position p h = ap (option_map of_position) (position_back p h)
+pub text_in-position_text : (p : ℕ) → is_count p ≡ true → text_in (position_text p) ≡ Some (of_position p)
+text_in-position_text p h = ap (option_map of_position) (position_back p h)
 
-pub text_sound : (text : List ℕ) (t : Text) → text_in text ≡ Some t → Is text t
-text_sound text t h = by_request (request_read text) refl h
+pub Is-text_in : (text : List ℕ) (t : Text) → text_in text ≡ Some t → Is text t
+Is-text_in text t h = by_request (request_read text) refl h
   where
     by_position : (o : Option ℕ) → position_in text ≡ o → option_map of_position o ≡ Some t → Is text t
-    by_position None e k = absurd (some_is_none t (sym k))
-    by_position (Some p) e k = subst (Is text) (one_some (of_position p) t k) (position_sound text p e)
+    by_position None e k = absurd (not_None-Some t (sym k))
+    by_position (Some p) e k = subst (Is text) (same-Some (of_position p) t k) (position_sound text p e)
 
     by_name : (o : Option Named) → name_in text ≡ o → if_some o (option_map of_position (position_in text)) (λ z. Some (of_name z)) ≡ Some t → Is text t
     by_name None e k = by_position (position_in text) refl k
-    by_name (Some n) e k = subst (Is text) (one_some (of_name n) t k) (name_sound text n e)
+    by_name (Some n) e k = subst (Is text) (same-Some (of_name n) t k) (name_sound text n e)
 
     by_request : (o : Option Request) → request_read text ≡ o
         → if_some o (if_some (name_in text) (option_map of_position (position_in text)) (λ e. Some (of_name e))) (λ z. Some (of_request z)) ≡ Some t → Is text t
     by_request None e k = by_name (name_in text) refl k
-    by_request (Some q) e k = subst (Is text) (one_some (of_request q) t k) (request_sound text q e)
+    by_request (Some q) e k = subst (Is text) (same-Some (of_request q) t k) (request_sound text q e)

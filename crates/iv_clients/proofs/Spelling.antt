@@ -33,7 +33,7 @@ use Rattle.iv_clients.specs.Journal.{is_digest}
 use Rattle.iv_clients.specs.Names.{count_in, is_count}
 use Rattle.iv_clients.specs.Parsed.{digest_of_32, string_in}
 use Rattle.iv_clients.specs.Tokens.{decoded}
-use Rattle.iv_clients.proofs.Cuts.{HasNo, both_true, let_pass, none_passes}
+use Rattle.iv_clients.proofs.Cuts.{HasNo, and-both_true, passing-true, HasNo-list_all}
 
 -- a text of the tokens of a value is read as that
 read_one : (text : List ℕ) (j : json.Json) → tokens text ≡ json_tokens j → depth j ≤ max_depth → read text ≡ of_json j
@@ -57,10 +57,10 @@ value_of_number : (n : ℕ) → n < 2 ^ 64 → value_of (decimal n) ≡ Some (nu
 value_of_number n h =
     ap (λ b. cond b (read (decimal n)) None) (is_utf8-from_IsUtf8 (decimal n) (IsUtf8-from_ascii (decimal n) (IsAscii-decimal n h))) ∙ read_number n h
 
-pub count_read : (n : ℕ) → is_count n ≡ true → count_in (decimal n) ≡ Some n
-count_read n h =
+pub count_in-decimal : (n : ℕ) → is_count n ≡ true → count_in (decimal n) ≡ Some n
+count_in-decimal n h =
     ap (λ o. option_and_then (passing is_count) (option_and_then as_u64 (option_and_then as_number (option_and_then id_in o)))) (value_of_number n (ltb-true n (2 ^ 64) h))
-    ∙ let_pass is_count n h
+    ∙ passing-true is_count n h
 
 -- no quotation mark and no brace is a digit
 glyph_no_quote : (n : ℕ) → (digit_glyph false (n % 10) == 34) ≡ false
@@ -80,13 +80,13 @@ onto_none b f (suc k) n acc h =
     part last more true = last
     part last more false = more
 
-pub decimal_no_quote : (n : ℕ) → HasNo 34 (decimal n)
+pub HasNo-decimal_quote : (n : ℕ) → HasNo 34 (decimal n)
 unfolding digits
-decimal_no_quote n = onto_none 34 glyph_no_quote 64 n [] refl
+HasNo-decimal_quote n = onto_none 34 glyph_no_quote 64 n [] refl
 
-pub decimal_no_brace : (n : ℕ) → HasNo 125 (decimal n)
+pub HasNo-decimal_brace : (n : ℕ) → HasNo 125 (decimal n)
 unfolding digits
-decimal_no_brace n = onto_none 125 glyph_no_brace 64 n [] refl
+HasNo-decimal_brace n = onto_none 125 glyph_no_brace 64 n [] refl
 
 -- ---- strings
 
@@ -103,14 +103,14 @@ read_string s =
 value_of_string : (s : List ℕ) → is_utf8 s ≡ true → value_of (quoted s) ≡ Some (string s)
 value_of_string s h = ap (λ b. cond b (read (quoted s)) None) (is_utf8-from_IsUtf8 (quoted s) (IsUtf8-quoted s (IsUtf8-from_is_utf8 s h))) ∙ read_string s
 
-pub string_read : (s : List ℕ) → is_utf8 s ≡ true → string_in (escape s) ≡ Some s
-string_read s h = ap (λ o. option_and_then (passing is_utf8) (option_and_then as_str o)) (value_of_string s h) ∙ let_pass is_utf8 s h
+pub string_in-escape : (s : List ℕ) → is_utf8 s ≡ true → string_in (escape s) ≡ Some s
+string_in-escape s h = ap (λ o. option_and_then (passing is_utf8) (option_and_then as_str o)) (value_of_string s h) ∙ passing-true is_utf8 s h
 
 -- ---- digests
 
 bytes_by : (xs : List ℕ) → list_all (λ b. nat_lt b 256) xs ≡ true → IsBytes xs
 bytes_by [] h = λ i. omega arith
-bytes_by (x ∷ xs) h = let p = both_true (nat_lt x 256) (list_all (λ b. nat_lt b 256) xs) h in λ i. at i p.0 (λ j. bytes_by xs p.1 j)
+bytes_by (x ∷ xs) h = let p = and-both_true (nat_lt x 256) (list_all (λ b. nat_lt b 256) xs) h in λ i. at i p.0 (λ j. bytes_by xs p.1 j)
   where
     at : (i : ℕ) → nat_lt x 256 ≡ true → ((j : ℕ) → slice_index xs j < 256) → slice_index (x ∷ xs) i < 256
     at zero f more = ltb-true x 256 f
@@ -122,18 +122,18 @@ pub record IsDigest (digest : List ℕ) : Type 0 where
 
 pub digest_by : (digest : List ℕ) → is_digest digest ≡ true → IsDigest digest
 digest_by digest h =
-    let p = both_true (length digest == 32) (list_all (λ b. nat_lt b 256) digest) h in
+    let p = and-both_true (length digest == 32) (list_all (λ b. nat_lt b 256) digest) h in
     record { length = eqb-true (length digest) 32 p.0; bytes = bytes_by digest p.1 }
 
-pub digest_read : (digest : List ℕ) → is_digest digest ≡ true → digest_of_32 (encode_lower digest) ≡ Some digest
-digest_read digest h =
+pub digest_of_32-encode_lower : (digest : List ℕ) → is_digest digest ≡ true → digest_of_32 (encode_lower digest) ≡ Some digest
+digest_of_32-encode_lower digest h =
     let d = digest_by digest h in
-    ap (λ r. option_and_then (passing is_digest) (decoded r)) (decode_sized-encode_lower digest 32 d.length d.bytes) ∙ let_pass is_digest digest h
+    ap (λ r. option_and_then (passing is_digest) (decoded r)) (decode_sized-encode_lower digest 32 d.length d.bytes) ∙ passing-true is_digest digest h
 
-pub digits_no_quote : (digest : List ℕ) → is_digest digest ≡ true → HasNo 34 (encode_lower digest)
-digits_no_quote digest h =
+pub HasNo-encode_lower : (digest : List ℕ) → is_digest digest ≡ true → HasNo 34 (encode_lower digest)
+HasNo-encode_lower digest h =
     let ok = decode_of-ok (encode_lower digest) digest (decode_of-encode_lower digest (digest_by digest h).bytes) in
-    none_passes is_hex_digit 34 refl (encode_lower digest) (list_all-from_AllPass is_hex_digit (encode_lower digest) ok.1)
+    HasNo-list_all is_hex_digit 34 refl (encode_lower digest) (list_all-from_AllPass is_hex_digit (encode_lower digest) ok.1)
 
 all_bytes : (xs : List ℕ) → IsBytes xs → list_all (λ b. nat_lt b 256) xs ≡ true
 all_bytes [] h = refl
@@ -144,14 +144,14 @@ digest_whole digits bytes h =
     let twice = decode_sized-ok digits 32 bytes h in
     let ok = decode_of-ok digits bytes (sym (decode_sized-twice digits 32 twice) ∙ h) in
     let size : length bytes ≡ 32 = omega (arith, twice, ok.2) in
-    ap (λ r. option_and_then (passing is_digest) (decoded r)) h ∙ let_pass is_digest bytes (λ i. eq-eqb (length bytes) 32 size i && all_bytes bytes ok.3 i)
+    ap (λ r. option_and_then (passing is_digest) (decoded r)) h ∙ passing-true is_digest bytes (λ i. eq-eqb (length bytes) 32 size i && all_bytes bytes ok.3 i)
 
 -- what is decoded into room for it
-pub digest_decoded : (digits out : List ℕ) (u : Unit {0}) (r : Result (List ℕ) FromHexError) → decode_sized digits 32 ≡ r
+pub digest_of_32-decode_sized : (digits out : List ℕ) (u : Unit {0}) (r : Result (List ℕ) FromHexError) → decode_sized digits 32 ≡ r
     → MatchResult r (λ bytes. (◌≡◌ {A = Result (Unit {0}) FromHexError} (Ok u) (Ok tt)) × (out ≡ bytes)) (λ e. ◌≡◌ {A = Result (Unit {0}) FromHexError} (Ok u) (Err e))
     → Some out ≡ digest_of_32 digits
-digest_decoded digits out u (Ok bytes) h m = sym (digest_whole digits out (h ∙ ap Ok (sym m.1)))
-digest_decoded digits out u (Err e) h m = absurd (not_err u e m)
+digest_of_32-decode_sized digits out u (Ok bytes) h m = sym (digest_whole digits out (h ∙ ap Ok (sym m.1)))
+digest_of_32-decode_sized digits out u (Err e) h m = absurd (not_err u e m)
   where
     not_err : (u : Unit {0}) (e : FromHexError) → ◌≡◌ {A = Result (Unit {0}) FromHexError} (Ok u) (Err e) → ⊥
     not_err u e k = cc k

@@ -24,34 +24,34 @@ text_there l t e = let w = l t in ended_by w.0 (sym e ∙ w.1)
     ended_by [] e = cc e
     ended_by (x ∷ front) e = cc e
 
-pub shown_there : AreLines → (s : Shown) (ss : List Shown) → text_shown (s ∷ ss) ≡ [] → ⊥
-shown_there l s ss e = text_there l s.told (first_empty (told_text s.told) (text_shown ss) e)
+pub not_nothing-text_shown : AreLines → (s : Shown) (ss : List Shown) → text_shown (s ∷ ss) ≡ [] → ⊥
+not_nothing-text_shown l s ss e = text_there l s.told (first_empty (told_text s.told) (text_shown ss) e)
   where
     first_empty : (xs ys : List ℕ) → xs ++ ys ≡ [] → xs ≡ []
     first_empty [] ys h = refl
     first_empty (y ∷ xs) ys h = absurd (cc h)
 
-pub suc_zero : (k : ℕ) → suc k ≡ 0 → ⊥
-suc_zero k e = let no : ⊥ = omega (arith, e) in no
+pub not_zero-suc : (k : ℕ) → suc k ≡ 0 → ⊥
+not_zero-suc k e = let no : ⊥ = omega (arith, e) in no
 
 some_text : AreLines → (ss : List Shown) → 0 < length ss → not (length (text_shown ss) == 0) ≡ true
 some_text l [] h = absurd (let no : ⊥ = omega (arith, h) in no)
 some_text l (s ∷ ss) h = by (text_shown (s ∷ ss)) refl
   where
     by : (text : List ℕ) → text_shown (s ∷ ss) ≡ text → not (length text == 0) ≡ true
-    by [] e = absurd (shown_there l s ss e)
-    by (b ∷ bs) e = ap not (ne_eqb (suc (length bs)) 0 (suc_zero (length bs)))
+    by [] e = absurd (not_nothing-text_shown l s ss e)
+    by (b ∷ bs) e = ap not (ne_eqb (suc (length bs)) 0 (not_zero-suc (length bs)))
 
 called_due : AreLines → (c : Client) → (c.dropped ≡ true) ⊎ (0 < length c.sendable) → is_due (kept c) ≡ true
 called_due l c (inl gone) = ap (λ b. b || not (length (text_shown c.sendable) == 0)) gone
 called_due l c (inr some) = or_right c.dropped (not (length (text_shown c.sendable) == 0)) (some_text l c.sendable some)
 
 -- the numbers that a gateway tells of are all that are called
-pub called_behind : AreLines → (f : ℕ → Front → Front) (d : Front) (v x : Gateway) (before slots : List (Option Place)) (told numbers : List ℕ)
+pub IsCalledBehind-at_each : AreLines → (f : ℕ → Front → Front) (d : Front) (v x : Gateway) (before slots : List (Option Place)) (told numbers : List ℕ)
     → IsBehind d v before → numbers ≡ told
     → ((g : Gate) (m : ℕ) (c : Client) → IsGate g v → g.dead ≡ false → client_at g.clients m ≡ Some c → is_due (kept c) ≡ true → Contains told m)
     → IsBehind (at_each f numbers d) x slots → IsCalledBehind f d x slots
-called_behind l f d v x before slots told numbers b same listed stands = record {
+IsCalledBehind-at_each l f d v x before slots told numbers b same listed stands = record {
   numbers = numbers;
   all = λ m called. subst (λ z. Contains z m) (sym same) (listed d.gate m called.0 b.gate b.alive called.1 (called_due l called.0 called.2));
   stands = stands;

@@ -17,9 +17,9 @@ use Rattle.iv_desk.specs.Desks.{IsBehind, IsCalledBehind, IsCalledOut, IsDesk, I
 use Rattle.iv_desk.specs.declared.desk.Desk.{Desk}
 use Rattle.iv_desk.specs.declared.place.Place.{Place}
 use Rattle.iv_desk.specs.declared.place.Hearing.{Hearing}
-use Rattle.iv_desk.proofs.Slots.{nobody_there, none_some}
-use Rattle.iv_desk.proofs.OneNumber.{LeavesMarks, dead_by}
-use Rattle.iv_desk.proofs.StatesAfterStep.{behind_put, free_places, nobody_all, place_there}
+use Rattle.iv_desk.proofs.Slots.{client_at-replicate, not_Some-None}
+use Rattle.iv_desk.proofs.OneNumber.{LeavesMarks, dead-next}
+use Rattle.iv_desk.proofs.StatesAfterStep.{IsBehind-set, is_free-places_of, places_of-replicate, client_at-places_of}
 
 -- ---- dead, and alive
 
@@ -33,48 +33,49 @@ failed_dead g = by g.dead refl
 pub failed_desk : (d : Front) (x : Desk) → x.dead ≡ true → IsDesk (by_event failed d) x
 failed_desk d x e = record { dead = e ∙ sym (failed_dead d.gate); alive = λ h. absurd (false≢true (sym h ∙ failed_dead d.gate)) }
 
-pub live_desk : (d : Front) (x : Desk) → IsBehind d x.gateway x.places.items → x.dead ≡ false → IsDesk d x
-live_desk d x b e = record { dead = e ∙ sym b.alive; alive = λ h. b }
+pub IsDesk-IsBehind : (d : Front) (x : Desk) → IsBehind d x.gateway x.places.items → x.dead ≡ false → IsDesk d x
+IsDesk-IsBehind d x b e = record { dead = e ∙ sym b.alive; alive = λ h. b }
 
-pub desk_alive : (d : Front) (x : Desk) → IsDesk d x → x.dead ≡ false → IsBehind d x.gateway x.places.items
-desk_alive d x b e = b.alive (sym b.dead ∙ e)
+pub IsBehind-IsDesk : (d : Front) (x : Desk) → IsDesk d x → x.dead ≡ false → IsBehind d x.gateway x.places.items
+IsBehind-IsDesk d x b e = b.alive (sym b.dead ∙ e)
 
 -- ---- it begins, and goes on
 
-pub starts_behind : (g : Gate) (most : ℕ) (x : Gateway) (slots : List (Option Place)) → IsGate g x → g.dead ≡ false → slots ≡ replicate most None
+pub IsBehind-front_at_start : (g : Gate) (most : ℕ) (x : Gateway) (slots : List (Option Place)) → IsGate g x → g.dead ≡ false → slots ≡ replicate most None
     → IsBehind (front_at_start g most) x slots
-starts_behind g most x slots b a e =
-    record { alive = a; gate = b; places = e ∙ nobody_all most; lives = λ m s h. absurd (none_some s (sym (nobody_there most m) ∙ h)) }
+IsBehind-front_at_start g most x slots b a e =
+    record { alive = a; gate = b; places = e ∙ places_of-replicate most; lives = λ m s h. absurd (not_Some-None s (sym (client_at-replicate most m) ∙ h)) }
 
-pub event_behind : LeavesMarks → (d : Front) (e : Event) → IsWell e → (v x : Gateway) (slots : List (Option Place)) → IsBehind d v slots → IsGate (next d.gate e) x
+pub IsBehind-by_event : LeavesMarks → (d : Front) (e : Event) → IsWell e → (v x : Gateway) (slots : List (Option Place)) → IsBehind d v slots → IsGate (next d.gate e) x
     → (marked d.gate e).dead ≡ d.gate.dead
     → IsBehind (by_event e d) x slots
-event_behind k d e w v x slots b is same = record { alive = dead_by k d.gate e w b.alive ∙ (same ∙ b.alive); gate = is; places = b.places; lives = b.lives }
+IsBehind-by_event k d e w v x slots b is same =
+    record { alive = dead-next k d.gate e w b.alive ∙ (same ∙ b.alive); gate = is; places = b.places; lives = b.lives }
 
 -- nothing happens to a dead one
-pub dead_forgives : ((g : Gate) (e : Event) → g.dead ≡ true → next g e ≡ g) → (d : Front) (x : Desk) → IsDesk d x → x.dead ≡ true → IsDesk (by_event forgave d) x
-dead_forgives rests d x b e = subst (λ (h : Gate). IsDesk (record d { gate = h }) x) (sym (rests d.gate forgave (sym b.dead ∙ e))) b
+pub IsDesk-forgave : ((g : Gate) (e : Event) → g.dead ≡ true → next g e ≡ g) → (d : Front) (x : Desk) → IsDesk d x → x.dead ≡ true → IsDesk (by_event forgave d) x
+IsDesk-forgave rests d x b e = subst (λ (h : Gate). IsDesk (record d { gate = h }) x) (sym (rests d.gate forgave (sym b.dead ∙ e))) b
 
-pub restored_behind : (d : Front) (journal : List Line) (now : Gate) (v x : Gateway) (slots : List (Option Place)) → IsBehind d v slots
+pub IsBehind-Restores : (d : Front) (journal : List Line) (now : Gate) (v x : Gateway) (slots : List (Option Place)) → IsBehind d v slots
     → Restores d.gate journal now → IsGate now x
     → IsBehind (record d { gate = now }) x slots
-restored_behind d journal now v x slots b r is = record { alive = ap (λ (g : Gate). g.dead) r.leads.gate ∙ b.alive; gate = is; places = b.places; lives = b.lives }
+IsBehind-Restores d journal now v x slots b r is = record { alive = ap (λ (g : Gate). g.dead) r.leads.gate ∙ b.alive; gate = is; places = b.places; lives = b.lives }
 
-pub begun_behind : (d : Front) (m : ℕ) (x : Gateway) (slots : List (Option Place)) (p : Place) → IsBehind d x slots → is_free m slots ≡ true
+pub IsBehind-begun : (d : Front) (m : ℕ) (x : Gateway) (slots : List (Option Place)) (p : Place) → IsBehind d x slots → is_free m slots ≡ true
     → p ≡ place_of fresh → IsBehind (begun m d) x (set slots m (Some p))
-begun_behind d m x slots p b free e =
+IsBehind-begun d m x slots p b free e =
     subst (λ z. IsBehind (cond z (record d { sockets = set d.sockets m (Some fresh) }) d) x (set slots m (Some p)))
-    (sym (sym (free_places m d.sockets) ∙ (ap (is_free m) (sym b.places) ∙ free)))
+    (sym (sym (is_free-places_of m d.sockets) ∙ (ap (is_free m) (sym b.places) ∙ free)))
     (subst (λ q. IsBehind (record d { sockets = set d.sockets m (Some fresh) }) x (set slots m (Some q))) (sym e)
-    (behind_put (Some fresh) ([], [], life.begins) d m d.gate x slots b x b.gate b.alive))
+    (IsBehind-set (Some fresh) ([], [], life.begins) d m d.gate x slots b x b.gate b.alive))
 
 pub begun_same : (d : Front) (m : ℕ) (x : Gateway) (slots : List (Option Place)) → IsBehind d x slots → is_free m slots ≡ false → IsBehind (begun m d) x slots
 begun_same d m x slots b free =
     subst (λ z. IsBehind (cond z (record d { sockets = set d.sockets m (Some fresh) }) d) x slots)
-    (sym (sym (free_places m d.sockets) ∙ (ap (is_free m) (sym b.places) ∙ free))) b
+    (sym (sym (is_free-places_of m d.sockets) ∙ (ap (is_free m) (sym b.places) ∙ free))) b
 
-pub free_is : (d : Front) (m : ℕ) (x : Gateway) (slots : List (Option Place)) → IsBehind d x slots → is_free m slots ≡ is_free m d.sockets
-free_is d m x slots b = ap (is_free m) b.places ∙ free_places m d.sockets
+pub is_free-IsBehind : (d : Front) (m : ℕ) (x : Gateway) (slots : List (Option Place)) → IsBehind d x slots → is_free m slots ≡ is_free m d.sockets
+is_free-IsBehind d m x slots b = ap (is_free m) b.places ∙ is_free-places_of m d.sockets
 
 pub begun_dead : (d : Front) (m : ℕ) → (begun m d).gate.dead ≡ d.gate.dead
 begun_dead d m = by (is_free m d.sockets)
@@ -85,12 +86,13 @@ begun_dead d m = by (is_free m d.sockets)
 
 -- ---- it hears, and calls
 
-pub heard_desk : (d : Front) (m : ℕ) (hearing : Hearing) (x : Desk) → IsHeardBehind d m hearing x.gateway x.places.items → x.dead ≡ false
+pub IsHeard-IsHeardBehind : (d : Front) (m : ℕ) (hearing : Hearing) (x : Desk) → IsHeardBehind d m hearing x.gateway x.places.items → x.dead ≡ false
     → IsHeard d m hearing x
-heard_desk d m hearing x w e = record { now = w.now; heard = w.heard; stands = live_desk w.now x w.stands e }
+IsHeard-IsHeardBehind d m hearing x w e = record { now = w.now; heard = w.heard; stands = IsDesk-IsBehind w.now x w.stands e }
 
-pub called_desk : (f : ℕ → Front → Front) (d : Front) (x : Desk) → IsCalledBehind f d x.gateway x.places.items → x.dead ≡ false → IsCalledOut f d x
-called_desk f d x w e = record { numbers = w.numbers; all = w.all; stands = live_desk (at_each f w.numbers d) x w.stands e }
+pub IsCalledOut-IsCalledBehind : (f : ℕ → Front → Front) (d : Front) (x : Desk) → IsCalledBehind f d x.gateway x.places.items → x.dead ≡ false
+    → IsCalledOut f d x
+IsCalledOut-IsCalledBehind f d x w e = record { numbers = w.numbers; all = w.all; stands = IsDesk-IsBehind (at_each f w.numbers d) x w.stands e }
 
 -- ---- what is read of it
 
@@ -100,7 +102,7 @@ dead_pending d m e = ap (λ b. cond b [] (if_some (socket_at d m) [] (λ s. s.ou
 pub live_pending : (d : Front) (m : ℕ) (x : Gateway) (slots : List (Option Place)) (o : Option Place) → IsBehind d x slots → client_at slots m ≡ o
     → if_some o [] (λ (p : Place). p.peer.output) ≡ pending_at d m
 live_pending d m x slots o b h =
-    let e : o ≡ option_map place_of (socket_at d m) = sym h ∙ (ap (λ z. client_at z m) b.places ∙ place_there m d.sockets) in
+    let e : o ≡ option_map place_of (socket_at d m) = sym h ∙ (ap (λ z. client_at z m) b.places ∙ client_at-places_of m d.sockets) in
     ap (λ z. if_some z [] (λ (p : Place). p.peer.output)) e
     ∙ (by (socket_at d m) ∙ ap (λ z. cond z [] (if_some (socket_at d m) [] (λ s. s.output))) (sym b.alive))
   where
@@ -114,7 +116,7 @@ dead_over d m e = ap (λ b. b || if_some (socket_at d m) true (λ s. s.over)) (s
 pub live_over : (d : Front) (m : ℕ) (x : Gateway) (slots : List (Option Place)) (o : Option Place) → IsBehind d x slots → client_at slots m ≡ o
     → if_some o true (λ (p : Place). p.peer.over) ≡ is_over_at d m
 live_over d m x slots o b h =
-    let e : o ≡ option_map place_of (socket_at d m) = sym h ∙ (ap (λ z. client_at z m) b.places ∙ place_there m d.sockets) in
+    let e : o ≡ option_map place_of (socket_at d m) = sym h ∙ (ap (λ z. client_at z m) b.places ∙ client_at-places_of m d.sockets) in
     ap (λ z. if_some z true (λ (p : Place). p.peer.over)) e ∙ (by (socket_at d m) ∙ ap (λ z. z || if_some (socket_at d m) true (λ s. s.over)) (sym b.alive))
   where
     by : (s : Option Socket) → if_some (option_map place_of s) true (λ (p : Place). p.peer.over) ≡ if_some s true (λ s. s.over)

@@ -23,13 +23,13 @@ use Rattle.iv_peer.specs.Lives.{CarriesAt, listed}
 use Rattle.iv_desk.specs.Front.{Front, by_event, goes_on, has_presented, is_dropped, let_go, most_pending, offered, offered_to, offers, sends, socket_at, syncs}
 use Rattle.iv_desk.specs.Front.{with_both}
 use Rattle.iv_desk.specs.Progress.{HeldAreFreed, IsFree, caught_up, left_at, taken}
-use Rattle.iv_desk.proofs.RunsByCalls.{front_alive}
-use Rattle.iv_desk.proofs.ClientsToTell.{suc_zero}
-use Rattle.iv_desk.proofs.OneNumber.{LeavesMarks, dead_by, offered_parts}
-use Rattle.iv_desk.proofs.PresentedTokens.{has_heard}
-use Rattle.iv_desk.proofs.NumberTraffic.{IsLiving, Laws, LivesClient, LivesFor, LivesNobody, closed_over, goes_or_stays, passed_over, runs_living}
-use Rattle.iv_clients.proofs.Slots.{at_every, at_same, one_some}
-use Rattle.iv_desk.proofs.Slots.{nobody_there, none_some}
+use Rattle.iv_desk.proofs.RunsByCalls.{dead-offered}
+use Rattle.iv_desk.proofs.ClientsToTell.{not_zero-suc}
+use Rattle.iv_desk.proofs.OneNumber.{LeavesMarks, dead-next, offered_to-offered_by}
+use Rattle.iv_desk.proofs.PresentedTokens.{has_presented-Lives}
+use Rattle.iv_desk.proofs.NumberTraffic.{IsLiving, Laws, LivesClient, LivesFor, LivesNobody, over-closed, goes_or_stays, over-passed, IsLiving-FrontRuns}
+use Rattle.iv_clients.proofs.Slots.{client_at-at_all, client_at-at_client, same-Some}
+use Rattle.iv_desk.proofs.Slots.{client_at-replicate, not_Some-None}
 
 -- ---- who has asked was told something since something was handed to it
 
@@ -133,10 +133,10 @@ next_waits : HoldAlways → (cap : ℕ) (g : Gate) (e : Event) → IsWell e → 
 next_waits l cap g e v r k m d there = by g.dead refl
   where
     stays : g.dead ≡ false → (c : Client) → client_at g.clients m ≡ Some c → (e ≡ gone m) ⊎ (e ≡ gone m → ⊥) → AskedWaits d
-    stays a c here (inl goes) = absurd (none_some d (sym ((((l cap g r).1 e v).touched a).leaves m goes) ∙ there))
+    stays a c here (inl goes) = absurd (not_Some-None d (sym ((((l cap g r).1 e v).touched a).leaves m goes) ∙ there))
     stays a c here (inr left) =
         let w = (((l cap g r).1 e v).touched a).stays m c here left in
-        let is : d ≡ record (as_told w.now (itself_behind m c e)) { dropped = c.dropped || drops c e } = sym (one_some w.now d (sym w.there ∙ there)) ∙ w.is in
+        let is : d ≡ record (as_told w.now (itself_behind m c e)) { dropped = c.dropped || drops c e } = sym (same-Some w.now d (sym w.there ∙ there)) ∙ w.is in
         λ alive none. kept_waits l cap g e v r a m c d
         (record { there = here; stays = (or_parts c.dropped (drops c e) (sym (ap (λ (x : Client). x.dropped) is) ∙ alive)).0 })
         (record { there = there; stays = alive }) (ap asked_of is) (k m c here) alive none
@@ -152,12 +152,13 @@ next_waits l cap g e v r k m d there = by g.dead refl
 -- whom a gateway restores has no client
 nobody_waits : (g h : Gate) (journal : List Line) (most m : ℕ) (c : Client) → Restores g journal h → client_at g.clients m ≡ None → client_at h.clients m ≡ Some c
     → AskedWaits c
-nobody_waits g h journal most m c r none there = absurd (none_some c (sym (ap (λ (x : Gate). client_at x.clients m) r.leads.gate ∙ none) ∙ there))
+nobody_waits g h journal most m c r none there = absurd (not_Some-None c (sym (ap (λ (x : Gate). client_at x.clients m) r.leads.gate ∙ none) ∙ there))
 
 all_wait : HoldAlways → (cap : ℕ) (g : Gate) → Runs cap g → (m : ℕ) (c : Client) → client_at g.clients m ≡ Some c → AskedWaits c
-all_wait l cap _ (gate.begins tokens most head journal g r) m c there = nobody_waits _ g journal most m c r (nobody_there most m) there
+all_wait l cap _ (gate.begins tokens most head journal g r) m c there = nobody_waits _ g journal most m c r (client_at-replicate most m) there
 all_wait l cap _ (gate.goes_on g e v r) m c there = next_waits l cap g e v r (all_wait l cap g r) m c there
-all_wait l cap _ (gate.begins_again g disk tokens most h r leaves restores) m c there = nobody_waits _ h disk most m c restores (nobody_there most m) there
+all_wait l cap _ (gate.begins_again g disk tokens most h r leaves restores) m c there =
+    nobody_waits _ h disk most m c restores (client_at-replicate most m) there
 
 -- ---- who takes all has nothing that waits, and may say more
 
@@ -168,7 +169,7 @@ record IsUp (c : Client) : Type 0 where
 
 nothing_left : (xs : List Shown) → (length xs == 0) ≡ true → xs ≡ []
 nothing_left [] e = refl
-nothing_left (x ∷ xs) e = absurd (false≢true (sym (ne_eqb (suc (length xs)) 0 (suc_zero (length xs))) ∙ e))
+nothing_left (x ∷ xs) e = absurd (false≢true (sym (ne_eqb (suc (length xs)) 0 (not_zero-suc (length xs))) ∙ e))
 
 may_again : (c : Client) → c.dropped ≡ false → c.asked ≡ 0 → c.sendable ≡ [] → c.unsynced ≡ [] → may_say c ≡ true
 may_again c stays asked sent kept =
@@ -212,14 +213,15 @@ passed_open n s = by (nat_le n (length s.output))
     by false = refl
 
 taken_socket : (m : ℕ) (d : Front) (o : Option Socket) → socket_at d m ≡ o → socket_at (taken m d) m ≡ option_map passed o
-taken_socket m d None e = at_same m (passing (left_at d m)) d.sockets ∙ ap (option_map (passing (left_at d m))) e
-taken_socket m d (Some s) e = at_same m (passing (left_at d m)) d.sockets ∙ (λ i. option_map (passing (if_some (e i) 0 (λ s. length s.output))) (e i))
+taken_socket m d None e = client_at-at_client m (passing (left_at d m)) d.sockets ∙ ap (option_map (passing (left_at d m))) e
+taken_socket m d (Some s) e =
+    client_at-at_client m (passing (left_at d m)) d.sockets ∙ (λ i. option_map (passing (if_some (e i) 0 (λ s. length s.output))) (e i))
 
 offered_socket : (m : ℕ) (d : Front) (o : Option Socket) → socket_at d m ≡ o → socket_at (offered m d) m ≡ option_map (λ s. (offered_to m d.gate s).1) o
 offered_socket m d None e = ap (λ o. socket_at (if_some o d (λ s. with_both m (offered_to m d.gate s).0 (offered_to m d.gate s).1 d)) m) e ∙ e
 offered_socket m d (Some s) e =
     ap (λ o. socket_at (if_some o d (λ s. with_both m (offered_to m d.gate s).0 (offered_to m d.gate s).1 d)) m) e
-    ∙ (at_same m (λ _. (offered_to m d.gate s).1) d.sockets ∙ ap (option_map (λ _. (offered_to m d.gate s).1)) e)
+    ∙ (client_at-at_client m (λ _. (offered_to m d.gate s).1) d.sockets ∙ ap (option_map (λ _. (offered_to m d.gate s).1)) e)
 
 offered_gate : (m : ℕ) (d : Front) (s : Socket) → socket_at d m ≡ Some s → (offered m d).gate ≡ (offered_to m d.gate s).0
 offered_gate m d s e = ap (λ o. (if_some o d (λ s. with_both m (offered_to m d.gate s).0 (offered_to m d.gate s).1 d)).gate) e
@@ -234,7 +236,7 @@ client_open l c s k going = by s.protocol refl (l.carries (k.token ∷ c.message
 
 -- who is nobody's has presented no token, or is over
 nobody_presents : Laws → (s : Socket) → LivesNobody s → s.over ≡ false → has_presented s ≡ false
-nobody_presents l s k going = has_heard l.carries (listed k.token) [] s k.life ∙ ap (λ o. is_some (slice_get (listed o) 0)) (k.silent going)
+nobody_presents l s k going = has_presented-Lives l.carries (listed k.token) [] s k.life ∙ ap (λ o. is_some (slice_get (listed o) 0)) (k.silent going)
 
 and_false : (b : Bool) → (b && false) ≡ false
 and_false true = refl
@@ -255,16 +257,16 @@ handed_up l cap g h m r a b w c there = by (client_at g.clients m) refl
     disk = ap (λ z. cond z g (on_disk g)) a
 
     released_at : client_at (next g synced).clients m ≡ option_map released (client_at g.clients m)
-    released_at = ap (λ (x : Gate). client_at x.clients m) disk ∙ at_every released g.clients m
+    released_at = ap (λ (x : Gate). client_at x.clients m) disk ∙ client_at-at_all released g.clients m
 
     now : client_at h.clients m ≡ option_map handing (option_map released (client_at g.clients m))
     now = ap (λ (x : Gate). client_at x.clients m) (w.gate ∙ ap (λ z. cond z (next g synced) (hands (next g synced) m)) b)
-        ∙ (at_same m handing (next g synced).clients ∙ ap (option_map handing) released_at)
+        ∙ (client_at-at_client m handing (next g synced).clients ∙ ap (option_map handing) released_at)
 
     by : (o : Option Client) → client_at g.clients m ≡ o → IsUp c
-    by None e = absurd (none_some c (sym (now ∙ ap (λ z. option_map handing (option_map released z)) e) ∙ there))
+    by None e = absurd (not_Some-None c (sym (now ∙ ap (λ z. option_map handing (option_map released z)) e) ∙ there))
     by (Some d) e =
-        let same : handing (released d) ≡ c = one_some (handing (released d)) c (sym (now ∙ ap (λ z. option_map handing (option_map released z)) e) ∙ there) in
+        let same : handing (released d) ≡ c = same-Some (handing (released d)) c (sym (now ∙ ap (λ z. option_map handing (option_map released z)) e) ∙ there) in
         let stays : (released d).dropped ≡ false = ap (λ z. if_some z false (λ (x : Client). x.dropped)) (sym (released_at ∙ ap (option_map released) e))
         ∙ w.stays in
         subst IsUp same (up_again d (all_wait l cap g r m d e) stays)
@@ -279,15 +281,16 @@ offer_hands l g m s t sent same going opened = by (is_open s) (is_dropped (next 
 
     by : (p q : Bool) → is_open s ≡ p → is_dropped (next g synced) m ≡ q → IsHanded g (offered_to m (next g synced) s).0 m
     by false q e f =
-        let left : is_open t ≡ false = ap is_open (same ∙ ap (λ (o : Gate × Socket). passed o.1) (offered_parts (next g synced) m s false q true e f all_sent))
+        let left : is_open t ≡ false =
+          ap is_open (same ∙ ap (λ (o : Gate × Socket). passed o.1) (offered_to-offered_by (next g synced) m s false q true e f all_sent))
         ∙ (passed_open (length s.output) s ∙ e) in
         absurd (false≢true (sym left ∙ opened))
     by true true e f =
         let over : t.over ≡ true = ap (λ (x : Socket). x.over)
-        (same ∙ ap (λ (o : Gate × Socket). passed o.1) (offered_parts (next g synced) m s true true true e f all_sent))
-        ∙ (passed_over (length (let_go s).output) (let_go s) ∙ closed_over 1013 (codes "What was told was not taken.") s) in
+        (same ∙ ap (λ (o : Gate × Socket). passed o.1) (offered_to-offered_by (next g synced) m s true true true e f all_sent))
+        ∙ (over-passed (length (let_go s).output) (let_go s) ∙ over-closed 1013 (codes "What was told was not taken.") s) in
         absurd (false≢true (sym going ∙ over))
-    by true false e f = record { stays = f; gate = ap (λ (o : Gate × Socket). o.0) (offered_parts (next g synced) m s true false true e f all_sent) }
+    by true false e f = record { stays = f; gate = ap (λ (o : Gate × Socket). o.0) (offered_to-offered_by (next g synced) m s true false true e f all_sent) }
 
 pub held_freed : Laws → LeavesMarks → HeldAreFreed
 held_freed l k cap m d s r a there going = by (socket_at d m) refl
@@ -302,12 +305,12 @@ held_freed l k cap m d s r a there going = by (socket_at d m) refl
     third = offered m second
 
     alive : (next d.gate synced).dead ≡ false
-    alive = dead_by k d.gate synced tt a ∙ a
+    alive = dead-next k d.gate synced tt a ∙ a
 
     living : IsLiving cap (caught_up m d)
-    living = runs_living l cap (caught_up m d)
+    living = IsLiving-FrontRuns l cap (caught_up m d)
         (goes_on third (caught_up m d) (goes_on second third (goes_on first second (goes_on d first r a (sends m (left_at d m))) a syncs) alive (offers m))
-        (front_alive k m second alive) (sends m (left_at third m)))
+        (dead-offered k m second alive) (sends m (left_at third m)))
 
     own : LivesFor (client_at (caught_up m d).gate.clients m) (Some s)
     own = subst (LivesFor (client_at (caught_up m d).gate.clients m)) there (living.numbers m)
@@ -320,9 +323,9 @@ held_freed l k cap m d s r a there going = by (socket_at d m) refl
 
     up : (t : Socket) → socket_at d m ≡ Some t → (c : Client) → client_at (caught_up m d).gate.clients m ≡ Some c → IsUp c
     up t e c here =
-        let same : s ≡ passed (offered_to m (next d.gate synced) (passed t)).1 = one_some s _ (sym there ∙ at_end (Some t) e) in
+        let same : s ≡ passed (offered_to m (next d.gate synced) (passed t)).1 = same-Some s _ (sym there ∙ at_end (Some t) e) in
         let w = offer_hands l d.gate m (passed t) s (passed_output t) same going (client_open l c s (subst (λ o. LivesFor o (Some s)) here own) going) in
-        handed_up l.always cap d.gate (caught_up m d).gate m (runs_living l cap d r).runs a alive
+        handed_up l.always cap d.gate (caught_up m d).gate m (IsLiving-FrontRuns l cap d r).runs a alive
         (record { stays = w.stays; gate = offered_gate m second (passed t) (taken_socket m d (Some t) e) ∙ w.gate }) c here
 
     heard : (t : Socket) → socket_at d m ≡ Some t → (o : Option Client) → client_at (caught_up m d).gate.clients m ≡ o → LivesFor o (Some s)
@@ -331,9 +334,9 @@ held_freed l k cap m d s r a there going = by (socket_at d m) refl
     heard t e (Some c) here lives = ap (λ b. has_presented s && not b) (up t e c here).may ∙ and_false (has_presented s)
 
     by : (o : Option Socket) → socket_at d m ≡ o → IsFree (caught_up m d) m s
-    by None e = absurd (none_some s (sym (at_end None e) ∙ there))
+    by None e = absurd (not_Some-None s (sym (at_end None e) ∙ there))
     by (Some t) e =
-        let same : s ≡ passed (offered_to m (next d.gate synced) (passed t)).1 = one_some s _ (sym there ∙ at_end (Some t) e) in
+        let same : s ≡ passed (offered_to m (next d.gate synced) (passed t)).1 = same-Some s _ (sym there ∙ at_end (Some t) e) in
         let empty : s.output ≡ [] = ap (λ (x : Socket). x.output) same ∙ passed_output (offered_to m (next d.gate synced) (passed t)).1 in
         record {
           heard = ap (λ z. nat_lt most_pending (length z) || (has_presented s && not (is_heard (caught_up m d).gate m))) empty

@@ -28,10 +28,10 @@ use Rattle.iv_desk.specs.Front.{goes_on, has_presented, hears, knows, leaves, le
 use Rattle.iv_desk.specs.Front.{offered_to, offers, put_off, sends, socket_at, starts, syncs, takes, text_for, ticks, told_some, turned_away, with_both}
 use Rattle.iv_desk.specs.Front.{is_dropped}
 use Rattle.iv_desk.specs.Served.{BrowsersAreTold, CarriesFor}
-use Rattle.iv_desk.proofs.ClientsToTell.{AreLines, shown_there, suc_zero}
-use Rattle.iv_desk.proofs.PresentedTokens.{AlwaysCarries, has_heard}
-use Rattle.iv_clients.proofs.Slots.{at_other, at_same, free_none, one_some, set_gone, set_other, set_there}
-use Rattle.iv_desk.proofs.Slots.{at_each_number, free_every, nobody_there, none_some}
+use Rattle.iv_desk.proofs.ClientsToTell.{AreLines, not_nothing-text_shown, not_zero-suc}
+use Rattle.iv_desk.proofs.PresentedTokens.{AlwaysCarries, has_presented-Lives}
+use Rattle.iv_clients.proofs.Slots.{client_at-at_other_client, client_at-at_client, client_at-is_free, same-Some, client_at-set_None, client_at-set_other, client_at-set_free}
+use Rattle.iv_desk.proofs.Slots.{at_each_number, is_free-at_all, client_at-replicate, not_Some-None}
 
 -- what holds always of the gateway, and of the life of a socket
 pub record Laws : Type 0 where
@@ -148,7 +148,7 @@ free_with g role m = by (seat_of g.seats role)
   where
     begun_by : (o : Option ℕ) → is_free m (if_some o g (λ n. seated g n role)).clients ≡ is_free m g.clients
     begun_by None = refl
-    begun_by (Some n) = free_every m _ g.clients
+    begun_by (Some n) = is_free-at_all m _ g.clients
 
     by : (o : Option ℕ) → is_free m (if_some o (if_some (begun_for g role) g (λ n. seated g n role)) (λ n. g)).clients ≡ is_free m g.clients
     by None = begun_by (begun_for g role)
@@ -160,7 +160,7 @@ came_as g m t = let h = with_session g t.role in record h { clients = set h.clie
 
 came_there : (g : Gate) (m : ℕ) (t : Token) → is_free m g.clients ≡ true
     → client_at (came_as g m t).clients m ≡ Some (fresh (came_as g m t).entries t (at_text (with_session g t.role) t))
-came_there g m t free = let h = with_session g t.role in set_there m (fresh h.entries t (at_text h t)) h.clients (free_with g t.role m ∙ free)
+came_there g m t free = let h = with_session g t.role in client_at-set_free m (fresh h.entries t (at_text h t)) h.clients (free_with g t.role m ∙ free)
 
 and_true : (b d : Bool) → (b && d) ≡ true → (b ≡ true) × (d ≡ true)
 and_true true d h = (refl, h)
@@ -171,19 +171,19 @@ free_by_token g m token t h = by (token_of g.tokens (sha256 token)) h
   where
     test : (r : Token) (b : Bool) → (is_name r.role && (is_free m g.clients && has_session g r.role)) ≡ b → cond b (Some r) None ≡ Some t → is_free m g.clients ≡ true
     test r true k e = (and_true (is_free m g.clients) (has_session g r.role) (and_true (is_name r.role) (is_free m g.clients && has_session g r.role) k).1).0
-    test r false k e = absurd (none_some t e)
+    test r false k e = absurd (not_Some-None t e)
 
     by : (o : Option Token) → option_and_then (λ (r : Token). cond (is_name r.role && (is_free m g.clients && has_session g r.role)) (Some r) None) o ≡ Some t
         → is_free m g.clients ≡ true
-    by None e = absurd (none_some t e)
+    by None e = absurd (not_Some-None t e)
     by (Some r) e = test r (is_name r.role && (is_free m g.clients && has_session g r.role)) refl e
 
 alive_next : (g : Gate) (m : ℕ) (token : List ℕ) → g.dead ≡ false → next g (presented m token) ≡ came g m token
 alive_next g m token a = ap (λ b. cond b g (came g m token)) a
 
 -- where nobody comes in nothing changes
-pub none_comes : (g : Gate) (m : ℕ) (token : List ℕ) → g.dead ≡ false → token_for g m token ≡ None → next g (presented m token) ≡ g
-none_comes g m token a e = alive_next g m token a ∙ ap (λ o. if_some o g (came_as g m)) e
+pub next-no_token : (g : Gate) (m : ℕ) (token : List ℕ) → g.dead ≡ false → token_for g m token ≡ None → next g (presented m token) ≡ g
+next-no_token g m token a e = alive_next g m token a ∙ ap (λ o. if_some o g (came_as g m)) e
 
 -- ---- one number
 
@@ -220,11 +220,11 @@ client_lives c d s token p l m h = record {
 
 same_lives : (o p : Option Client) (s : Option Socket) → option_map known_of p ≡ option_map known_of o → LivesFor o s → LivesFor p s
 same_lives None None s k l = l
-same_lives None (Some d) s k l = absurd (none_some (known_of d) (sym k))
-same_lives (Some c) None s k l = absurd (none_some (known_of c) k)
+same_lives None (Some d) s k l = absurd (not_Some-None (known_of d) (sym k))
+same_lives (Some c) None s k l = absurd (not_Some-None (known_of c) k)
 same_lives (Some c) (Some d) None k l = l
 same_lives (Some c) (Some d) (Some s) k l =
-    let e = one_some (known_of d) (known_of c) k in
+    let e = same-Some (known_of d) (known_of c) k in
     client_lives c d s l.token (ap (λ (x : Known). x.digest) e ∙ l.presented) l.life (ap (λ (x : Known). x.messages) e) (ap (λ (x : Known). x.handed) e)
 
 -- a step in the life of a socket by which no text is heard or told, and behind which it is over where it was
@@ -237,15 +237,15 @@ step_lives f step over (Some c) None k = k
 step_lives f step over (Some c) (Some s) k =
     record { token = k.token; presented = k.presented; life = step (k.token ∷ c.messages) (map text_shown c.handed) s k.life }
 
-pub closed_over : (code : ℕ) (words : List ℕ) (s : Socket) → (closed code words s).over ≡ true
-closed_over code words s = by (is_open s)
+pub over-closed : (code : ℕ) (words : List ℕ) (s : Socket) → (closed code words s).over ≡ true
+over-closed code words s = by (is_open s)
   where
     by : (b : Bool) → (cond b (socket.telling (socket.answer (socket.close_of code words)) (ended s)) (ended s)).over ≡ true
     by true = refl
     by false = refl
 
-pub passed_over : (n : ℕ) (s : Socket) → (passing n s).over ≡ s.over
-passed_over n s = by (nat_le n (length s.output))
+pub over-passed : (n : ℕ) (s : Socket) → (passing n s).over ≡ s.over
+over-passed n s = by (nat_le n (length s.output))
   where
     by : (b : Bool) → (cond b (record s { output = drop n s.output; sent = s.sent ++ take n s.output }) s).over ≡ s.over
     by true = refl
@@ -256,10 +256,10 @@ takes_lives bytes = step_lives (took bytes) (λ hs ts s l. life.takes hs ts s by
 
 closes_lives : (code : ℕ) (words : List ℕ) (o : Option Client) (s : Option Socket) → LivesFor o s → LivesFor o (option_map (closed code words) s)
 closes_lives code words = step_lives (closed code words) (λ hs ts s l. life.closes hs ts s code words l)
-    (λ s l. absurd (false≢true (sym l ∙ closed_over code words s)))
+    (λ s l. absurd (false≢true (sym l ∙ over-closed code words s)))
 
 sends_lives : (n : ℕ) (o : Option Client) (s : Option Socket) → LivesFor o s → LivesFor o (option_map (passing n) s)
-sends_lives n = step_lives (passing n) (λ hs ts s l. life.sends hs ts s n l) (λ s l. sym (passed_over n s) ∙ l)
+sends_lives n = step_lives (passing n) (λ hs ts s l. life.sends hs ts s n l) (λ s l. sym (over-passed n s) ∙ l)
 
 -- ---- what is heard
 
@@ -299,20 +299,20 @@ other_lives (Some c) s t h k = record {
 }
 
 -- who has heard no text is no client
-pub token_first : Laws → (t : List ℕ) (hs ts : List (List ℕ)) (s : Socket) → Lives (t ∷ hs) ts s → has_presented s ≡ false → ⊥
-token_first l t hs ts s k h = false≢true (sym h ∙ has_heard l.carries (t ∷ hs) ts s k)
+pub not_Lives-not_presented : Laws → (t : List ℕ) (hs ts : List (List ℕ)) (s : Socket) → Lives (t ∷ hs) ts s → has_presented s ≡ false → ⊥
+not_Lives-not_presented l t hs ts s k h = false≢true (sym h ∙ has_presented-Lives l.carries (t ∷ hs) ts s k)
 
 -- a token is heard, which is the first text
-pub first_lives : (s t : Socket) (token : List ℕ) → Hears s (Some token) t → LivesNobody s → Lives (token ∷ []) [] t
-first_lives s t token h k = subst (λ z. Lives (listed z ++ token ∷ []) [] t) (k.silent (heard_over s t (Some token) h))
+pub Lives-Hears : (s t : Socket) (token : List ℕ) → Hears s (Some token) t → LivesNobody s → Lives (token ∷ []) [] t
+Lives-Hears s t token h k = subst (λ z. Lives (listed z ++ token ∷ []) [] t) (k.silent (heard_over s t (Some token) h))
     (life.hears (listed k.token) [] s t (Some token) k.life h)
 
 -- nobody comes in by it
 refused_lives : (code : ℕ) (words : List ℕ) (s t : Socket) (token : List ℕ) → Hears s (Some token) t → LivesNobody s → LivesNobody (closed code words t)
 refused_lives code words s t token h k = record {
   token = Some token;
-  life = life.closes (token ∷ []) [] t code words (first_lives s t token h k);
-  silent = λ l. absurd (false≢true (sym l ∙ closed_over code words t));
+  life = life.closes (token ∷ []) [] t code words (Lives-Hears s t token h k);
+  silent = λ l. absurd (false≢true (sym l ∙ over-closed code words t));
 }
 
 sent_away : (s t : Socket) (token : List ℕ) → Hears s (Some token) t → LivesNobody s → (b : Bool) → LivesNobody (cond b (put_off t) (turned_away t))
@@ -326,16 +326,16 @@ admitted_lives s t d token h k e m n = record {
   token = token;
   presented = e;
   life = subst (λ z. Lives (token ∷ z) (map text_shown d.handed) t) (sym m)
-      (subst (λ z. Lives (token ∷ []) (map text_shown z) t) (sym n) (first_lives s t token h k));
+      (subst (λ z. Lives (token ∷ []) (map text_shown z) t) (sym n) (Lives-Hears s t token h k));
 }
 
 -- the token that is found has the digest by which it is looked for
 digest_of : (ts : List Token) (digest : List ℕ) (t : Token) → token_of ts digest ≡ Some t → t.digest ≡ digest
-digest_of [] digest t h = absurd (none_some t h)
+digest_of [] digest t h = absurd (not_Some-None t h)
 digest_of (x ∷ ts) digest t h = by (bytes_eq x.digest digest) refl (digest_of ts digest t) h
   where
     by : (b : Bool) → bytes_eq x.digest digest ≡ b → (token_of ts digest ≡ Some t → t.digest ≡ digest) → cond b (Some x) (token_of ts digest) ≡ Some t → t.digest ≡ digest
-    by true e rest k = ap (λ (y : Token). y.digest) (sym (one_some x t k)) ∙ (bytes_eq-Decides x.digest digest).0 e
+    by true e rest k = ap (λ (y : Token). y.digest) (sym (same-Some x t k)) ∙ (bytes_eq-Decides x.digest digest).0 e
     by false e rest k = rest k
 
 token_lives : Laws → (cap : ℕ) (g : Gate) (m : ℕ) (s t : Socket) (token : List ℕ) → Runs cap g → g.dead ≡ false → Hears s (Some token) t
@@ -367,7 +367,7 @@ token_lives l cap g m s t token r a h first k = by (client_at g.clients m) refl 
         subst (λ z. LivesFor z (Some t)) (sym there) (is _ ((event_touches l cap g (presented m token) tt r a).comes m _ nobody there) k)
 
     by : (o : Option Client) → client_at g.clients m ≡ o → LivesFor o (Some s) → LivesFor (client_at after.clients m) (Some (let_in g m token t))
-    by (Some c) e k = absurd (token_first l k.token c.messages (map text_shown c.handed) s k.life first)
+    by (Some c) e k = absurd (not_Lives-not_presented l k.token c.messages (map text_shown c.handed) s k.life first)
     by None e k = none e k (token_for g m token) refl
 
 -- a message is heard of a client that is heard
@@ -389,23 +389,23 @@ message_lives l cap g m s t text r a h may k =
     (ap (λ (x : Known). x.digest) heard ∙ own.presented) (life.hears (own.token ∷ w.0.messages) (map text_shown w.0.handed) s t (Some text) own.life h)
     (ap (λ (x : Known). x.messages) heard) (ap (λ (x : Known). x.handed) heard))
 
-pub heard_leads : Laws → (cap m : ℕ) (g : Gate) (s : Socket) (h : Gate) (t : Socket) → Runs cap g → g.dead ≡ false → LivesFor (client_at g.clients m) (Some s)
+pub Led-HearsAt : Laws → (cap m : ℕ) (g : Gate) (s : Socket) (h : Gate) (t : Socket) → Runs cap g → g.dead ≡ false → LivesFor (client_at g.clients m) (Some s)
     → HearsAt m g s h t
     → Led cap m g h t
-heard_leads l cap m g s _ _ r a k nothing = record { runs = r; alive = a; own = k; others = λ n ne. refl }
-heard_leads l cap m g s _ _ r a k (no_text h b t x e) =
-    let w = heard_leads l cap m g s h b r a k x in
+Led-HearsAt l cap m g s _ _ r a k nothing = record { runs = r; alive = a; own = k; others = λ n ne. refl }
+Led-HearsAt l cap m g s _ _ r a k (no_text h b t x e) =
+    let w = Led-HearsAt l cap m g s h b r a k x in
     record { runs = w.runs; alive = w.alive; own = other_lives (client_at h.clients m) b t e w.own; others = w.others }
-heard_leads l cap m g s _ _ r a k (first_text h b t text x first e) =
-    let w = heard_leads l cap m g s h b r a k x in
+Led-HearsAt l cap m g s _ _ r a k (first_text h b t text x first e) =
+    let w = Led-HearsAt l cap m g s h b r a k x in
     record {
       runs = gate.goes_on h (presented m text) tt w.runs;
       alive = event_marks l cap h (presented m text) tt w.runs w.alive ∙ w.alive;
       own = token_lives l cap h m b t text w.runs w.alive e first w.own;
       others = λ n ne. beside_token h m n text ne (event_touches l cap h (presented m text) tt w.runs w.alive) ∙ w.others n ne;
     }
-heard_leads l cap m g s _ _ r a k (later_text h b t text x may e) =
-    let w = heard_leads l cap m g s h b r a k x in
+Led-HearsAt l cap m g s _ _ r a k (later_text h b t text x may e) =
+    let w = Led-HearsAt l cap m g s h b r a k x in
     record {
       runs = gate.goes_on h (message m text) tt w.runs;
       alive = event_marks l cap h (message m text) tt w.runs w.alive ∙ w.alive;
@@ -424,11 +424,11 @@ some_handed l c s [] [] e n is opened k d same =
     client_lives c d s k.token (ap (λ (x : Known). x.digest) kept ∙ k.presented) k.life (ap (λ (x : Known). x.messages) kept)
     (ap (λ (x : Known). x.handed) kept)
 some_handed l c s [] (b ∷ bs) e n is opened k d same = absurd (cc e)
-some_handed l c s (x ∷ ss) [] e n is opened k d same = absurd (shown_there l.lines x ss (sym e))
+some_handed l c s (x ∷ ss) [] e n is opened k d same = absurd (not_nothing-text_shown l.lines x ss (sym e))
 some_handed l c s (x ∷ ss) (b ∷ bs) e n is opened k d same =
     let kept : known_of d ≡ known_of (record c { sendable = []; asked = 0; handed = c.handed ++ c.sendable ∷ [] }) =
     same ∙ ap (λ q. known_of (cond q c (record c { sendable = []; asked = 0; handed = c.handed ++ c.sendable ∷ [] })))
-    (ap (λ z. z == 0) n ∙ ne_eqb (suc (length ss)) 0 (λ q. suc_zero (length ss) q)) in
+    (ap (λ z. z == 0) n ∙ ne_eqb (suc (length ss)) 0 (λ q. not_zero-suc (length ss) q)) in
     let all : map text_shown c.handed ++ (b ∷ bs) ∷ [] ≡ map text_shown (c.handed ++ c.sendable ∷ []) =
     ap (λ z. map text_shown c.handed ++ z ∷ []) (e ∙ ap text_shown (sym is)) ∙ sym (map-append text_shown c.handed (c.sendable ∷ [])) in
     client_lives (record c { sendable = []; asked = 0; handed = c.handed ++ c.sendable ∷ [] }) d (told_in_frame (b ∷ bs) s) k.token
@@ -510,8 +510,8 @@ both_living : (cap : ℕ) (d : Front) (m : ℕ) (s : Socket) (h : Gate) (t : Soc
 both_living cap d m s h t v e w = record {
   runs = w.runs;
   numbers = at_each_number (λ n. LivesFor (client_at h.clients n) (client_at (at_client m (λ _. t) d.sockets) n)) m
-      (subst (LivesFor (client_at h.clients m)) (sym (at_same m (λ _. t) d.sockets ∙ ap (option_map (λ _. t)) e)) w.own)
-      (λ n ne. subst (LivesFor (client_at h.clients n)) (sym (at_other m n (λ _. t) d.sockets ne))
+      (subst (LivesFor (client_at h.clients m)) (sym (client_at-at_client m (λ _. t) d.sockets ∙ ap (option_map (λ _. t)) e)) w.own)
+      (λ n ne. subst (LivesFor (client_at h.clients n)) (sym (client_at-at_other_client m n (λ _. t) d.sockets ne))
       (same_lives (client_at d.gate.clients n) (client_at h.clients n) (socket_at d n) (w.others n ne) (v.numbers n)));
 }
 
@@ -522,8 +522,9 @@ socket_living : (cap : ℕ) (d : Front) (m : ℕ) (f : Socket → Socket) → ((
 socket_living cap d m f step v = record {
   runs = v.runs;
   numbers = at_each_number (λ n. LivesFor (client_at d.gate.clients n) (client_at (at_client m f d.sockets) n)) m
-      (subst (LivesFor (client_at d.gate.clients m)) (sym (at_same m f d.sockets)) (step (client_at d.gate.clients m) (socket_at d m) (v.numbers m)))
-      (λ n ne. subst (LivesFor (client_at d.gate.clients n)) (sym (at_other m n f d.sockets ne)) (v.numbers n));
+      (subst (LivesFor (client_at d.gate.clients m)) (sym (client_at-at_client m f d.sockets))
+        (step (client_at d.gate.clients m) (socket_at d m) (v.numbers m)))
+      (λ n ne. subst (LivesFor (client_at d.gate.clients n)) (sym (client_at-at_other_client m n f d.sockets ne)) (v.numbers n));
 }
 
 -- an event by which no client says or is handed anything
@@ -545,9 +546,9 @@ begun_living cap d m v = by (is_free m d.sockets) refl
     by true e = record {
       runs = v.runs;
       numbers = at_each_number (λ n. LivesFor (client_at d.gate.clients n) (client_at (set d.sockets m (Some socket.fresh)) n)) m
-          (subst (LivesFor (client_at d.gate.clients m)) (sym (set_there m socket.fresh d.sockets e))
-          (nobody (client_at d.gate.clients m) (subst (LivesFor (client_at d.gate.clients m)) (free_none m d.sockets e) (v.numbers m))))
-          (λ n ne. subst (LivesFor (client_at d.gate.clients n)) (sym (set_other m n (Some socket.fresh) d.sockets ne)) (v.numbers n));
+          (subst (LivesFor (client_at d.gate.clients m)) (sym (client_at-set_free m socket.fresh d.sockets e))
+          (nobody (client_at d.gate.clients m) (subst (LivesFor (client_at d.gate.clients m)) (client_at-is_free m d.sockets e) (v.numbers m))))
+          (λ n ne. subst (LivesFor (client_at d.gate.clients n)) (sym (client_at-set_other m n (Some socket.fresh) d.sockets ne)) (v.numbers n));
     }
 
 left_living : Laws → (cap : ℕ) (d : Front) (m : ℕ) → d.gate.dead ≡ false → IsLiving cap d → IsLiving cap (left m d)
@@ -556,8 +557,9 @@ left_living l cap d m a v =
     record {
       runs = gate.goes_on d.gate (gone m) tt v.runs;
       numbers = at_each_number (λ n. LivesFor (client_at (next d.gate (gone m)).clients n) (client_at (set d.sockets m None) n)) m
-          (subst (λ o. LivesFor o (client_at (set d.sockets m None) m)) (sym (t.leaves m refl)) (subst (LivesFor None) (sym (set_gone m d.sockets)) tt))
-          (λ n ne. subst (LivesFor (client_at (next d.gate (gone m)).clients n)) (sym (set_other m n None d.sockets ne))
+          (subst (λ o. LivesFor o (client_at (set d.sockets m None) m)) (sym (t.leaves m refl))
+            (subst (LivesFor None) (sym (client_at-set_None m d.sockets)) tt))
+          (λ n ne. subst (LivesFor (client_at (next d.gate (gone m)).clients n)) (sym (client_at-set_other m n None d.sockets ne))
           (same_lives (client_at d.gate.clients n) (client_at (next d.gate (gone m)).clients n) (socket_at d n) (beside_gone d.gate m n ne t) (v.numbers n)));
     }
 
@@ -573,7 +575,7 @@ happens_living : Laws → (cap : ℕ) (d e : Front) → d.gate.dead ≡ false �
 happens_living l cap d _ a v (begins m) = begun_living cap d m v
 happens_living l cap d _ a v (takes m bytes) = socket_living cap d m (took bytes) (takes_lives bytes) v
 happens_living l cap d _ a v (hears m s t h e x) =
-    both_living cap d m s h t v e (heard_leads l cap m d.gate s h t v.runs a (subst (LivesFor (client_at d.gate.clients m)) e (v.numbers m)) x)
+    both_living cap d m s h t v e (Led-HearsAt l cap m d.gate s h t v.runs a (subst (LivesFor (client_at d.gate.clients m)) e (v.numbers m)) x)
 happens_living l cap d _ a v (offers m) = offered_living l cap d m a v
 happens_living l cap d _ a v (dismisses m) = by (is_dropped d.gate m)
   where
@@ -601,17 +603,17 @@ happens_living l cap d _ a v front_fails =
 starts_living : (cap : ℕ) (g : Gate) (most : ℕ) → Runs cap g → ((m : ℕ) → client_at g.clients m ≡ None) → IsLiving cap (front_at_start g most)
 starts_living cap g most r nobody = record {
   runs = r;
-  numbers = λ m. subst (λ o. LivesFor o (client_at (replicate most None) m)) (sym (nobody m)) (subst (LivesFor None) (sym (nobody_there most m)) tt);
+  numbers = λ m. subst (λ o. LivesFor o (client_at (replicate most None) m)) (sym (nobody m)) (subst (LivesFor None) (sym (client_at-replicate most m)) tt);
 }
 
-pub runs_living : Laws → (cap : ℕ) (d : Front) → FrontRuns cap d → IsLiving cap d
-runs_living l cap _ (starts g most r nobody) = starts_living cap g most r nobody
-runs_living l cap _ (goes_on d e r a h) = happens_living l cap d e a (runs_living l cap d r) h
-runs_living l cap _ (closes d m code words r a may) = socket_living cap d m (closed code words) (closes_lives code words) (runs_living l cap d r)
+pub IsLiving-FrontRuns : Laws → (cap : ℕ) (d : Front) → FrontRuns cap d → IsLiving cap d
+IsLiving-FrontRuns l cap _ (starts g most r nobody) = starts_living cap g most r nobody
+IsLiving-FrontRuns l cap _ (goes_on d e r a h) = happens_living l cap d e a (IsLiving-FrontRuns l cap d r) h
+IsLiving-FrontRuns l cap _ (closes d m code words r a may) = socket_living cap d m (closed code words) (closes_lives code words) (IsLiving-FrontRuns l cap d r)
 
 pub browsers_told : Laws → BrowsersAreTold
 browsers_told l cap d r =
-    let v = runs_living l cap d r in
+    let v = IsLiving-FrontRuns l cap d r in
     record {
       numbers = λ m. carries_for l (client_at d.gate.clients m) (socket_at d m) (v.numbers m);
       gate = (l.always cap d.gate v.runs).0;

@@ -15,21 +15,23 @@ heard_at : (hs ts : List (List ℕ)) (s : Socket) (k : Option Connection) → Ca
 heard_at hs ts s None u = u.heard ∙ ap texts_of (sym u.effects)
 heard_at hs ts s (Some conn) o = o.heard
 
-pub texts_heard : AlwaysCarries → (hs ts : List (List ℕ)) (s : Socket) → Lives hs ts s → hs ≡ texts_of s.effects
-texts_heard l hs ts s k = heard_at hs ts s s.protocol (l hs ts s k).carries
+pub texts_of-Lives : AlwaysCarries → (hs ts : List (List ℕ)) (s : Socket) → Lives hs ts s → hs ≡ texts_of s.effects
+texts_of-Lives l hs ts s k = heard_at hs ts s s.protocol (l hs ts s k).carries
 
-pub has_heard : AlwaysCarries → (hs ts : List (List ℕ)) (s : Socket) → Lives hs ts s → has_presented s ≡ is_some (slice_get hs 0)
-has_heard l hs ts s k = ap (λ z. is_some (slice_get z 0)) (sym (texts_heard l hs ts s k))
+pub has_presented-Lives : AlwaysCarries → (hs ts : List (List ℕ)) (s : Socket) → Lives hs ts s → has_presented s ≡ is_some (slice_get hs 0)
+has_presented-Lives l hs ts s k = ap (λ z. is_some (slice_get z 0)) (sym (texts_of-Lives l hs ts s k))
 
-pub no_text_presents : AlwaysCarries → (hs ts us : List (List ℕ)) (s t : Socket) → Lives hs ts s → Lives (hs ++ []) us t → has_presented s ≡ has_presented t
-no_text_presents l hs ts us s t k m = has_heard l hs ts s k ∙ (ap (λ z. is_some (slice_get z 0)) (sym (append-nil hs)) ∙ sym (has_heard l (hs ++ []) us t m))
+pub has_presented-no_text : AlwaysCarries → (hs ts us : List (List ℕ)) (s t : Socket) → Lives hs ts s → Lives (hs ++ []) us t
+    → has_presented s ≡ has_presented t
+has_presented-no_text l hs ts us s t k m =
+    has_presented-Lives l hs ts s k ∙ (ap (λ z. is_some (slice_get z 0)) (sym (append-nil hs)) ∙ sym (has_presented-Lives l (hs ++ []) us t m))
 
 some_first : (hs : List (List ℕ)) (text : List ℕ) → is_some (slice_get (hs ++ text ∷ []) 0) ≡ true
 some_first [] text = refl
 some_first (h ∷ hs) text = refl
 
-pub text_presents : AlwaysCarries → (hs ts : List (List ℕ)) (text : List ℕ) (t : Socket) → Lives (hs ++ text ∷ []) ts t → has_presented t ≡ true
-text_presents l hs ts text t m = has_heard l (hs ++ text ∷ []) ts t m ∙ some_first hs text
+pub has_presented-text : AlwaysCarries → (hs ts : List (List ℕ)) (text : List ℕ) (t : Socket) → Lives (hs ++ text ∷ []) ts t → has_presented t ≡ true
+has_presented-text l hs ts text t m = has_presented-Lives l (hs ++ text ∷ []) ts t m ∙ some_first hs text
 
 -- ---- a step by which nothing is heard
 
@@ -41,33 +43,33 @@ SameEffects f = (s : Socket) → (f s).effects ≡ s.effects
 abbrev pub Forgets : (Socket → Socket) → Type 0
 Forgets f = (s : Socket) → forget (f (forget s)) ≡ forget (f s)
 
-pub effects_present : (f : Socket → Socket) → SameEffects f → (s : Socket) → has_presented s ≡ has_presented (f s)
-effects_present f e s = ap (λ z. is_some (slice_get (texts_of z) 0)) (sym (e s))
+pub has_presented-SameEffects : (f : Socket → Socket) → SameEffects f → (s : Socket) → has_presented s ≡ has_presented (f s)
+has_presented-SameEffects f e s = ap (λ z. is_some (slice_get (texts_of z) 0)) (sym (e s))
 
-pub closed_effects : (code : ℕ) (words : List ℕ) → SameEffects (closed code words)
-closed_effects code words s = by (is_open s)
+pub SameEffects-closed : (code : ℕ) (words : List ℕ) → SameEffects (closed code words)
+SameEffects-closed code words s = by (is_open s)
   where
     by : (b : Bool) → (cond b (telling (answer (close_of code words)) (ended s)) (ended s)).effects ≡ s.effects
     by true = refl
     by false = refl
 
-pub closed_forgets : (code : ℕ) (words : List ℕ) → Forgets (closed code words)
-closed_forgets code words s = by (is_open s)
+pub Forgets-closed : (code : ℕ) (words : List ℕ) → Forgets (closed code words)
+Forgets-closed code words s = by (is_open s)
   where
     by : (b : Bool) → forget (cond b (telling (answer (close_of code words)) (ended (forget s))) (ended (forget s))) ≡ forget
         (cond b (telling (answer (close_of code words)) (ended s)) (ended s))
     by true = refl
     by false = refl
 
-pub passed_effects : (n : ℕ) → SameEffects (passing n)
-passed_effects n s = by (nat_le n (length s.output))
+pub SameEffects-passing : (n : ℕ) → SameEffects (passing n)
+SameEffects-passing n s = by (nat_le n (length s.output))
   where
     by : (b : Bool) → (cond b (record s { output = drop n s.output; sent = s.sent ++ take n s.output }) s).effects ≡ s.effects
     by true = refl
     by false = refl
 
-pub passed_forgets : (n : ℕ) → Forgets (passing n)
-passed_forgets n s = by (nat_le n (length s.output))
+pub Forgets-passing : (n : ℕ) → Forgets (passing n)
+Forgets-passing n s = by (nat_le n (length s.output))
   where
     by : (b : Bool) → forget (cond b (record (forget s) { output = drop n s.output; sent = (forget s).sent ++ take n s.output }) (forget s))
         ≡ forget (cond b (record s { output = drop n s.output; sent = s.sent ++ take n s.output }) s)
@@ -88,10 +90,10 @@ text_forgets bytes s = by (is_open s)
     by true = refl
     by false = refl
 
-pub told_effects : (text : List ℕ) → SameEffects (told_some text)
-told_effects [] s = refl
-told_effects (b ∷ bs) s = text_effects (b ∷ bs) s
+pub SameEffects-told_some : (text : List ℕ) → SameEffects (told_some text)
+SameEffects-told_some [] s = refl
+SameEffects-told_some (b ∷ bs) s = text_effects (b ∷ bs) s
 
-pub told_forgets : (text : List ℕ) → Forgets (told_some text)
-told_forgets [] s = refl
-told_forgets (b ∷ bs) s = text_forgets (b ∷ bs) s
+pub Forgets-told_some : (text : List ℕ) → Forgets (told_some text)
+Forgets-told_some [] s = refl
+Forgets-told_some (b ∷ bs) s = text_forgets (b ∷ bs) s

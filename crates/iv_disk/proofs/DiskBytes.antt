@@ -62,27 +62,28 @@ none_on a old None b z s h = tt
 none_on a None (Some ys) b z s h = tells_not ys (s refl)
 none_on a (Some xs) (Some ys) b z s h = h ∙ sym (b.given ∙ ap given_in (no_lines a.end.lines b.lines b.ended.lines z))
 
--- pushed to nothing behind nothing
-pub pushed : (epoch before was chain out seen : List ℕ) → before ≡ no_digest → was ≡ [] → seen ≡ out → IsPushed (head_line epoch) before chain was out
+-- IsPushed-seen to nothing behind nothing
+pub IsPushed-seen : (epoch before was chain out seen : List ℕ) → before ≡ no_digest → was ≡ [] → seen ≡ out → IsPushed (head_line epoch) before chain was out
     → IsPushed (head_line epoch) no_digest chain [] seen
-pushed epoch before was chain out seen e f g h =
+IsPushed-seen epoch before was chain out seen e f g h =
     subst (λ (y : List ℕ). IsPushed (head_line epoch) no_digest chain [] y) (sym g)
     (subst (λ (z : List ℕ). IsPushed (head_line epoch) z chain [] out) e (subst (λ (w : List ℕ). IsPushed (head_line epoch) before chain w out) f h))
 
-pub headed : (epoch chain out : List ℕ) (old new : Option (List ℕ)) → IfSome old (λ xs. xs ≡ []) → Appends old new out → IsSilent old new → IsPushed (head_line epoch) no_digest chain [] out
+pub IsJournalTo-IsPushed : (epoch chain out : List ℕ) (old new : Option (List ℕ)) → IfSome old (λ xs. xs ≡ []) → Appends old new out → IsSilent old new → IsPushed (head_line epoch) no_digest chain [] out
     → IfSome new (IsJournalTo chain)
-headed epoch chain out None None h p s q = tt
-headed epoch chain out None (Some ys) h p s q = tells_not ys (s refl)
-headed epoch chain out (Some xs) None h p s q = absurd p
-headed epoch chain out (Some xs) (Some ys) h p s q =
+IsJournalTo-IsPushed epoch chain out None None h p s q = tt
+IsJournalTo-IsPushed epoch chain out None (Some ys) h p s q = tells_not ys (s refl)
+IsJournalTo-IsPushed epoch chain out (Some xs) None h p s q = absurd p
+IsJournalTo-IsPushed epoch chain out (Some xs) (Some ys) h p s q =
     record { head = head_line epoch; lines = []; journal = p ∙ (ap (λ z. z ++ out) h ∙ q.bytes); ends = q.digest; texts = (q.is, tt) }
 
-pub headed_none : BytesHaveLines → (epoch chain out : List ℕ) (old new : Option (List ℕ)) → IfSome old (λ xs. xs ≡ []) → Appends old new out → IsSilent old new
+pub lines_in-IsPushed : BytesHaveLines → (epoch chain out : List ℕ) (old new : Option (List ℕ)) → IfSome old (λ xs. xs ≡ []) → Appends old new out
+    → IsSilent old new
     → IsPushed (head_line epoch) no_digest chain [] out → IfSome new (λ ys. lines_in ys ≡ [])
-headed_none law epoch chain out None None h p s q = tt
-headed_none law epoch chain out None (Some ys) h p s q = tells_not ys (s refl)
-headed_none law epoch chain out (Some xs) None h p s q = absurd p
-headed_none law epoch chain out (Some xs) (Some ys) h p s q = ap lines_in (p ∙ (ap (λ z. z ++ out) h ∙ q.bytes)) ∙ law (head_line epoch ∷ []) (q.is, tt)
+lines_in-IsPushed law epoch chain out None None h p s q = tt
+lines_in-IsPushed law epoch chain out None (Some ys) h p s q = tells_not ys (s refl)
+lines_in-IsPushed law epoch chain out (Some xs) None h p s q = absurd p
+lines_in-IsPushed law epoch chain out (Some xs) (Some ys) h p s q = ap lines_in (p ∙ (ap (λ z. z ++ out) h ∙ q.bytes)) ∙ law (head_line epoch ∷ []) (q.is, tt)
 
 pub whole_on : GoOn → (digest : List ℕ) (o : Option (List ℕ)) → IfSome o (IsJournalTo digest) → is_whole o ≡ true
 whole_on law digest None h = refl
@@ -90,32 +91,35 @@ whole_on law digest (Some ys) h = ap ends_line h.journal ∙ law.ended h.head h.
 
 -- ---- it goes on
 
-pub records : (t : ℕ) (shares : List Share) (given : List Line) (d e was out seen : List ℕ) → was ≡ [] → seen ≡ out → GoesOnWith (Some t) shares given d e was out
+pub GoesOnWith-seen : (t : ℕ) (shares : List Share) (given : List Line) (d e was out seen : List ℕ) → was ≡ [] → seen ≡ out → GoesOnWith (Some t) shares given d e was out
     → GoesOnWith (Some t) shares given d e [] seen
-records t shares given d e was out seen f g h =
+GoesOnWith-seen t shares given d e was out seen f g h =
     subst (λ (y : List ℕ). GoesOnWith (Some t) shares given d e [] y) (sym g) (subst (λ (w : List ℕ). GoesOnWith (Some t) shares given d e w out) f h)
 
 -- what was given before, and these
 abbrev pub GivenMore : Option (List ℕ) → Option (List ℕ) → List Line → Type 0
 GivenMore old new given = given_to new ≡ option_map (λ ls. ls ++ given) (given_to old)
 
-pub whole_given : GoOn → (t : ℕ) (shares : List Share) (given : List Line) (d e out : List ℕ) (old new : Option (List ℕ)) → t < 2 ^ 64 → is_whole old ≡ true
+pub GivenMore-GoesOnWith : GoOn → (t : ℕ) (shares : List Share) (given : List Line) (d e out : List ℕ) (old new : Option (List ℕ)) → t < 2 ^ 64
+    → is_whole old ≡ true
     → GoesOnWith (Some t) shares given d e [] out → Appends old new out → IsSilent old new → GivenMore old new given
-whole_given law t shares given d e out None new s h g p q = ap given_to (q refl)
-whole_given law t shares given d e out (Some xs) None s h g p q = absurd p
-whole_given law t shares given d e out (Some xs) (Some ys) s h g p q = ap Some (ap lines_in p ∙ (law.bytes xs (Some t) shares given d e out h s g).whole)
+GivenMore-GoesOnWith law t shares given d e out None new s h g p q = ap given_to (q refl)
+GivenMore-GoesOnWith law t shares given d e out (Some xs) None s h g p q = absurd p
+GivenMore-GoesOnWith law t shares given d e out (Some xs) (Some ys) s h g p q =
+    ap Some (ap lines_in p ∙ (law.bytes xs (Some t) shares given d e out h s g).whole)
 
-pub still_whole : GoOn → (t : ℕ) (shares : List Share) (given : List Line) (d e out : List ℕ) (old new : Option (List ℕ)) → t < 2 ^ 64 → is_whole old ≡ true
+pub is_whole-GoesOnWith : GoOn → (t : ℕ) (shares : List Share) (given : List Line) (d e out : List ℕ) (old new : Option (List ℕ)) → t < 2 ^ 64
+    → is_whole old ≡ true
     → GoesOnWith (Some t) shares given d e [] out → Appends old new out → IsSilent old new → is_whole new ≡ true
-still_whole law t shares given d e out old None s h g p q = refl
-still_whole law t shares given d e out None (Some ys) s h g p q = tells_not ys (q refl)
-still_whole law t shares given d e out (Some xs) (Some ys) s h g p q = ap ends_line p ∙ (law.bytes xs (Some t) shares given d e out h s g).ended
+is_whole-GoesOnWith law t shares given d e out old None s h g p q = refl
+is_whole-GoesOnWith law t shares given d e out None (Some ys) s h g p q = tells_not ys (q refl)
+is_whole-GoesOnWith law t shares given d e out (Some xs) (Some ys) s h g p q = ap ends_line p ∙ (law.bytes xs (Some t) shares given d e out h s g).ended
 
-pub still_stands : GoOn → (t : ℕ) (shares : List Share) (given : List Line) (d e out : List ℕ) (old new : Option (List ℕ)) → GoesOnWith (Some t) shares given d e [] out → Appends old new out
+pub IsJournalTo-GoesOnWith : GoOn → (t : ℕ) (shares : List Share) (given : List Line) (d e out : List ℕ) (old new : Option (List ℕ)) → GoesOnWith (Some t) shares given d e [] out → Appends old new out
     → IsSilent old new → IfSome old (IsJournalTo d) → IfSome new (IsJournalTo e)
-still_stands law t shares given d e out old None g p q h = tt
-still_stands law t shares given d e out None (Some ys) g p q h = tells_not ys (q refl)
-still_stands law t shares given d e out (Some xs) (Some ys) g p q h =
+IsJournalTo-GoesOnWith law t shares given d e out old None g p q h = tt
+IsJournalTo-GoesOnWith law t shares given d e out None (Some ys) g p q h = tells_not ys (q refl)
+IsJournalTo-GoesOnWith law t shares given d e out (Some xs) (Some ys) g p q h =
     let k = law.journals (h.head ∷ h.lines) (Some t) shares given e out h.texts (subst (λ (z : List ℕ). GoesOnWith (Some t) shares given z e [] out) h.ends g) in
     record { head = h.head; lines = h.lines ++ k.more; journal = p ∙ (ap (λ z. z ++ out) h.journal ∙ k.journal); ends = k.digest; texts = k.texts }
 
@@ -123,15 +127,15 @@ still_stands law t shares given d e out (Some xs) (Some ys) g p q h =
 abbrev pub GivenFirst : Option (List ℕ) → Option (List ℕ) → List Line → Type 0
 GivenFirst old new given = (n : ℕ) × (n ≤ length given) × GivenMore old new (take n given)
 
-pub torn_given : GoOn → (t : ℕ) (shares : List Share) (given : List Line) (d e out : List ℕ) (old new : Option (List ℕ)) (n : ℕ) → t < 2 ^ 64 → is_whole old ≡ true
+pub GivenFirst-GoesOnWith : GoOn → (t : ℕ) (shares : List Share) (given : List Line) (d e out : List ℕ) (old new : Option (List ℕ)) (n : ℕ) → t < 2 ^ 64 → is_whole old ≡ true
     → GoesOnWith (Some t) shares given d e [] out → Appends old new (take n out) → IsSilent old new → GivenFirst old new given
-torn_given law t shares given d e out None new n s h g p q = (0, omega arith, ap given_to (q refl))
-torn_given law t shares given d e out (Some xs) None n s h g p q = absurd p
-torn_given law t shares given d e out (Some xs) (Some ys) n s h g p q =
+GivenFirst-GoesOnWith law t shares given d e out None new n s h g p q = (0, omega arith, ap given_to (q refl))
+GivenFirst-GoesOnWith law t shares given d e out (Some xs) None n s h g p q = absurd p
+GivenFirst-GoesOnWith law t shares given d e out (Some xs) (Some ys) n s h g p q =
     let m = (law.bytes xs (Some t) shares given d e out h s g).torn n in
     (m.0, m.1, ap Some (ap lines_in p ∙ m.2))
 
 -- nothing was written
-pub none_given : (o : Option (List ℕ)) (given : List Line) → GivenFirst o o given
-none_given None given = (0, omega arith, refl)
-none_given (Some xs) given = (0, omega arith, ap Some (sym (append-nil (lines_in xs))))
+pub GivenFirst-itself : (o : Option (List ℕ)) (given : List Line) → GivenFirst o o given
+GivenFirst-itself None given = (0, omega arith, refl)
+GivenFirst-itself (Some xs) given = (0, omega arith, ap Some (sym (append-nil (lines_in xs))))

@@ -9,9 +9,9 @@ use Rattle.iv_disk.specs.Disk.{first_known}
 
 -- ---- writes
 
-pub on_err : {X E P : Type 0} (r : Result X E) → P → OnErr r P
-on_err (Ok x) p = tt
-on_err (Err e) p = p
+pub OnErr-whatever : {X E P : Type 0} (r : Result X E) → P → OnErr r P
+OnErr-whatever (Ok x) p = tt
+OnErr-whatever (Err e) p = p
 
 -- nothing was appended
 kept_of : (a b : Option (List ℕ)) → Appends a b [] → Keeps a b
@@ -19,27 +19,28 @@ kept_of None b p = tt
 kept_of (Some xs) None p = absurd p
 kept_of (Some xs) (Some ys) p = p ∙ append-nil xs
 
-pub kept_none : (a b : Option (List ℕ)) (n : ℕ) (bs : List ℕ) → n ≡ 0 → Appends a b (take n bs) → Keeps a b
-kept_none a b n bs h p = kept_of a b (subst (λ m. Appends a b (take m bs)) h p)
+pub Keeps-Appends_none : (a b : Option (List ℕ)) (n : ℕ) (bs : List ℕ) → n ≡ 0 → Appends a b (take n bs) → Keeps a b
+Keeps-Appends_none a b n bs h p = kept_of a b (subst (λ m. Appends a b (take m bs)) h p)
 
 -- where nothing was written, a front of it was
-pub none_torn : (a : Option (List ℕ)) (bs : List ℕ) → (k : ℕ) × Appends a a (take k bs)
-none_torn a bs = (0, Appends-nil a)
+pub Appends-none : (a : Option (List ℕ)) (bs : List ℕ) → (k : ℕ) × Appends a a (take k bs)
+Appends-none a bs = (0, Appends-nil a)
 
 -- a front of the rest goes to what is done
-pub moves_front : (all done rest : List ℕ) (n : ℕ) → all ≡ done ++ rest → all ≡ (done ++ take n rest) ++ take (length rest - n) (drop n rest)
-moves_front all done rest n e =
+pub append-moved_front : (all done rest : List ℕ) (n : ℕ) → all ≡ done ++ rest → all ≡ (done ++ take n rest) ++ take (length rest - n) (drop n rest)
+append-moved_front all done rest n e =
     e ∙ ap (λ l. done ++ l) (sym (take-append-drop n rest)) ∙ sym (append_assoc done (take n rest) (drop n rest)) ∙ ap (λ l. (done ++ take n rest) ++ l) (sym (take_rest rest n))
 
 -- what is done is a front of all
-pub front_of : (a b : Option (List ℕ)) (all done rest : List ℕ) → all ≡ done ++ rest → Appends a b done → (n : ℕ) × Appends a b (take n all)
-front_of a b all done rest e p = (length done, subst (Appends a b) (sym (ap (take (length done)) e ∙ take-append_seam done rest)) p)
+pub Appends-take_of_done : (a b : Option (List ℕ)) (all done rest : List ℕ) → all ≡ done ++ rest → Appends a b done → (n : ℕ) × Appends a b (take n all)
+Appends-take_of_done a b all done rest e p = (length done, subst (Appends a b) (sym (ap (take (length done)) e ∙ take-append_seam done rest)) p)
 
-pub front_kept : (a b c : Option (List ℕ)) (all done rest : List ℕ) → all ≡ done ++ rest → Appends a b done → Keeps b c → (k : ℕ) × Appends a c (take k all)
-front_kept a b c all done rest e p q = front_of a c all done rest e (Appends-kept a b c done p q)
+pub Appends-Keeps_front : (a b c : Option (List ℕ)) (all done rest : List ℕ) → all ≡ done ++ rest → Appends a b done → Keeps b c
+    → (k : ℕ) × Appends a c (take k all)
+Appends-Keeps_front a b c all done rest e p q = Appends-take_of_done a c all done rest e (Appends-kept a b c done p q)
 
-pub whole_kept : (a b c : Option (List ℕ)) (bs : List ℕ) → Appends a b bs → Keeps b c → (k : ℕ) × Appends a c (take k bs)
-whole_kept a b c bs p q = front_kept a b c bs bs [] (sym (append-nil bs)) p q
+pub Appends-Keeps_whole : (a b c : Option (List ℕ)) (bs : List ℕ) → Appends a b bs → Keeps b c → (k : ℕ) × Appends a c (take k bs)
+Appends-Keeps_whole a b c bs p q = Appends-Keeps_front a b c bs bs [] (sym (append-nil bs)) p q
 
 -- ---- cuts
 
@@ -52,7 +53,8 @@ cut_back (Some xs) (Some ys) (Some zs) bs end l p k =
     k ∙ (ap (λ n. take n ys) l ∙ (ap (take (length xs)) p ∙ (take-append_seam xs bs ∙ sym (append-nil xs))))
 
 -- whether it succeeds or not, a front is left
-pub front_cut : {X E : Type 0} (r : Result X E) (a b c : Option (List ℕ)) (bs : List ℕ) (n end : ℕ) → IfSome a (λ xs. end ≡ length xs) → Appends a b (take n bs)
+pub Appends-first_known : {X E : Type 0} (r : Result X E) (a b c : Option (List ℕ)) (bs : List ℕ) (n end : ℕ) → IfSome a (λ xs. end ≡ length xs)
+    → Appends a b (take n bs)
     → OnOk r (Keeps (first_known end b) c) → OnErr r (Keeps b c) → (k : ℕ) × Appends a c (take k bs)
-front_cut (Ok x) a b c bs n end l p cut fails = (0, cut_back a b c (take n bs) end l p cut)
-front_cut (Err e) a b c bs n end l p cut fails = (n, Appends-kept a b c (take n bs) p fails)
+Appends-first_known (Ok x) a b c bs n end l p cut fails = (0, cut_back a b c (take n bs) end l p cut)
+Appends-first_known (Err e) a b c bs n end l p cut fails = (n, Appends-kept a b c (take n bs) p fails)

@@ -30,22 +30,22 @@ use Rattle.iv_readers.specs.Changes.{TookChange}
 use Rattle.iv_readers.specs.Each.{Each}
 use Rattle.iv_readers.specs.Readers.{is_for}
 use Rattle.iv_command.specs.declared.command.Line.{Line}
-use Rattle.iv_readers.proofs.Lists.{all_map, all_zip}
-use Rattle.iv_store.proofs.SubscriptionRounds.{all_beside, those_counted}
+use Rattle.iv_readers.proofs.Lists.{AllByRecursion-map, AllByRecursion-zip}
+use Rattle.iv_store.proofs.SubscriptionRounds.{AllByRecursion-IsBeside, those_counted}
 use Rattle.iv_store.proofs.Due.{all_ready, beyond_by}
-use Rattle.iv_store.proofs.FilteredLists.{all_pass}
-use Rattle.iv_store.proofs.ReplacedCircuits.{IsSameReader, place_same, read_still, readers_same}
-use Rattle.iv_store.proofs.WriteLines.{AreLinesAt, each_within, lines_are}
-use Rattle.iv_store.proofs.SubscriptionViews.{lists_behind, stands_behind}
+use Rattle.iv_store.proofs.FilteredLists.{AllByRecursion-filtered_pass}
+use Rattle.iv_store.proofs.ReplacedCircuits.{IsSameReader, place_same, AllByRecursion-IsSameReader, readers_same}
+use Rattle.iv_store.proofs.WriteLines.{AreLinesAt, AllByRecursion-list_all, lines_are}
+use Rattle.iv_store.proofs.SubscriptionViews.{lists_behind, Stands-IsStored}
 use Rattle.iv_store.proofs.Touches.{as_many, more_rounds, rounds_taken}
 use Rattle.iv_store.proofs.Unread.{place_found}
 use Rattle.iv_engine.specs.Carried.{AreCarriedTo, IsStillEmpty, IsTakenIn}
 use Rattle.iv_engine.specs.Stepped.{AreCountedOnce}
 use Rattle.iv_engine.specs.Summed.{AreTold, AreWritten}
 use Rattle.iv_engine.specs.declared.sums.Sums.{Sums}
-use Rattle.iv_engine.proofs.Left.{still_within}
+use Rattle.iv_engine.proofs.Left.{within-first_cause}
 use Rattle.iv_engine.proofs.Looking.{IsLooked, all_back, step_taken, taken_as}
-use Rattle.iv_engine.proofs.WriteSteps.{all_taken, made_long, moved}
+use Rattle.iv_engine.proofs.WriteSteps.{all_taken, length-IsMadeOf, minus-of_sum}
 
 -- why a subscription stays open
 stays_by : (m w : Bool) → not m ≡ true → w ≡ true → first_cause m w ≡ None
@@ -67,14 +67,14 @@ module _ (e d : Store) (given : Given) (tables : List ℕ) (h : IsSoundStore e) 
   after_at : (T U : Lists) → Stands T e.tables → Stands U d.tables → IsAfter e given T U
   after_at T U s t = record {
     stands = s;
-    moves = λ k q. moved (weight_of (given k) q) (weight_of (rows_of e.tables k) q) (copies q (T k)) (copies q (U k)) (s k q)
+    moves = λ k q. minus-of_sum (weight_of (given k) q) (weight_of (rows_of e.tables k) q) (copies q (T k)) (copies q (U k)) (s k q)
         (sym (weight_of-append (given k) (rows_of e.tables k) q) ∙ sym (w.sums k q) ∙ t k q);
     kinds = λ k. HasKinds-Counts (schema_of e.catalog k) (rows_of d.tables k) (U k)
         (subst (λ (es : List CatalogEntry). HoldsKinds (schema_of es k) (rows_of d.tables k)) w.catalog (g.stored.database.kinds k)) (t k);
   }
 
   followed : IsFollowed e given
-  followed = record { before = lists_behind e; after = lists_behind d; leads = after_at (lists_behind e) (lists_behind d) (stands_behind e h.stored) (stands_behind d g.stored) }
+  followed = record { before = lists_behind e; after = lists_behind d; leads = after_at (lists_behind e) (lists_behind d) (Stands-IsStored e h.stored) (Stands-IsStored d g.stored) }
 
   -- changes may be prepared for the circuits
   pub ready_now : AreReady v given
@@ -82,10 +82,10 @@ module _ (e d : Store) (given : Given) (tables : List ℕ) (h : IsSoundStore e) 
 
   module _ (lines : List Line) (new : Store) (f : HaveFollowed v given lines new) where
     circuits : AllByRecursion (IsRoleCircuit v) new.circuits
-    circuits = all_taken e given v (lists_behind e) (λ U t. after_at (lists_behind e) U (stands_behind e h.stored) t) refl refl refl e.circuits f.prepared new.circuits h.circuits f.made f.circuits
+    circuits = all_taken e given v (lists_behind e) (λ U t. after_at (lists_behind e) U (Stands-IsStored e h.stored) t) refl refl refl e.circuits f.prepared new.circuits h.circuits f.made f.circuits
 
     same : Each IsSameReader e.circuits new.circuits
-    same = readers_same TookChange (λ k p n t. record { role = t.role; rel = t.rel }) e.circuits f.prepared new.circuits (made_long given e.circuits f.prepared f.made) f.circuits
+    same = readers_same TookChange (λ k p n t. record { role = t.role; rel = t.rel }) e.circuits f.prepared new.circuits (length-IsMadeOf given e.circuits f.prepared f.made) f.circuits
 
     module _ (T U : Lists) (s : Stands T e.tables) (t : Stands U d.tables) where
       told : AreLinesAt e e.subscriptions f.prepared T U
@@ -93,8 +93,8 @@ module _ (e d : Store) (given : Given) (tables : List ℕ) (h : IsSoundStore e) 
 
       -- nothing ends a subscription
       stay : AllByRecursion (λ x. ending (at v U) x ≡ None) e.subscriptions
-      stay = all_zip (λ x. may_read e x ≡ true) (λ x. is_within (at e U) x ≡ true) (λ x. ending (at v U) x ≡ None) e.subscriptions
-          (λ x a b. stays_by (is_some (missing_for (frame_of e) (actor (frame_of e) x.session) x.rel)) (is_within (at e U) x) a b) h.served (each_within (is_within (at e U)) e.subscriptions told.within)
+      stay = AllByRecursion-zip (λ x. may_read e x ≡ true) (λ x. is_within (at e U) x ≡ true) (λ x. ending (at v U) x ≡ None) e.subscriptions
+          (λ x a b. stays_by (is_some (missing_for (frame_of e) (actor (frame_of e) x.session) x.rel)) (is_within (at e U) x) a b) h.served (AllByRecursion-list_all (is_within (at e U)) e.subscriptions told.within)
 
     module _ (U : Lists) where
       all_stay : (ss : List Subscription) → AllByRecursion (λ x. ending (at v U) x ≡ None) ss → filter (stays_open v U) ss ≡ ss
@@ -106,16 +106,16 @@ module _ (e d : Store) (given : Given) (tables : List ℕ) (h : IsSoundStore e) 
       lines_by T (x ∷ ss) a = λ i. turned_by (a.0 i) x (shown_rows e T x) (shown_rows v U x) ++ lines_by T ss a.1 i
 
     there : AllByRecursion (λ x. is_some (place_of (record v { circuits = new.circuits }) x) ≡ true) e.subscriptions
-    there = all_map (λ x. is_some (place_of e x) ≡ true) (λ x. is_some (place_of (record v { circuits = new.circuits }) x) ≡ true) e.subscriptions
+    there = AllByRecursion-map (λ x. is_some (place_of e x) ≡ true) (λ x. is_some (place_of (record v { circuits = new.circuits }) x) ≡ true) e.subscriptions
         (λ x p. ap (λ o. is_some o) (place_same (actor (frame_of e) x.session) x.rel e.circuits new.circuits same) ∙ p) h.there
 
     at_v : IsLooked e v lines new
     at_v = record {
-      left = λ U t. ap (λ (x : Store). x.subscriptions) f.state ∙ sym (all_stay U e.subscriptions (stay (lists_behind e) U (stands_behind e h.stored) t));
+      left = λ U t. ap (λ (x : Store). x.subscriptions) f.state ∙ sym (all_stay U e.subscriptions (stay (lists_behind e) U (Stands-IsStored e h.stored) t));
       told = λ T U s t. f.told ∙ (told T U s t).sent ∙ sym (lines_by U T e.subscriptions (stay T U s t));
       circuits = circuits;
       there = subst (λ (x : Store). AllByRecursion (λ y. is_some (place_of x y) ≡ true) x.subscriptions) (sym f.state) there;
-      read = subst (λ (x : Store). AllByRecursion (λ k. is_read (frame_of x) k ≡ true) new.circuits) (sym f.state) (read_still (frame_of e) e.circuits new.circuits same h.read);
+      read = subst (λ (x : Store). AllByRecursion (λ k. is_read (frame_of x) k ≡ true) new.circuits) (sym f.state) (AllByRecursion-IsSameReader (frame_of e) e.circuits new.circuits same h.read);
       state = f.state ∙ ap (λ (ss : List Subscription). record v { subscriptions = ss; circuits = new.circuits }) (sym (ap (λ (x : Store). x.subscriptions) f.state));
     }
 
@@ -133,7 +133,8 @@ module _ (e d : Store) (given : Given) (tables : List ℕ) (h : IsSoundStore e) 
   left_stored = record {
     numbers = record { unique = stored.numbers.unique; given = stored.numbers.given };
     database = stored.database;
-    shows = all_map (IsOpen (v e d given tables h g w)) (IsOpen left) e.subscriptions (λ s o. record { session = o.session; known = o.known }) stored.shows;
+    shows = AllByRecursion-map (IsOpen (v e d given tables h g w)) (IsOpen left) e.subscriptions
+      (λ s o. record { session = o.session; known = o.known }) stored.shows;
   }
 
   one_counted : (s : Subscription) → is_some (place_of e s) ≡ true → IsCounted (seen e) (seen left) s.rel (rounds_of e s) (rounds_of left s)
@@ -146,8 +147,8 @@ module _ (e d : Store) (given : Given) (tables : List ℕ) (h : IsSoundStore e) 
       }
 
   pub counted_once : AreCountedOnce (seen e) (seen new)
-  counted_once = subst (λ (x : Store). AreCountedOnce (seen e) (seen x)) (sym f.state) (those_counted e left left_stored (λ s was now. IsCounted (seen e) (seen left) s.rel was now) (all_beside e h.stored)
-      (all_map (λ s. is_some (place_of e s) ≡ true) (λ s. IsCounted (seen e) (seen left) s.rel (rounds_of e s) (rounds_of left s)) e.subscriptions one_counted h.there))
+  counted_once = subst (λ (x : Store). AreCountedOnce (seen e) (seen x)) (sym f.state) (those_counted e left left_stored (λ s was now. IsCounted (seen e) (seen left) s.rel was now) (AllByRecursion-IsBeside e h.stored)
+      (AllByRecursion-map (λ s. is_some (place_of e s) ≡ true) (λ s. IsCounted (seen e) (seen left) s.rel (rounds_of e s) (rounds_of left s)) e.subscriptions one_counted h.there))
 
 -- ---- where a circuit could not follow somebody is ended
 
@@ -164,13 +165,13 @@ module _ (e d : Store) (given : Given) (tables : List ℕ) (h : IsSoundStore e) 
   somebody_ends new left broken same =
       let T = lists_behind e in
       let U = lists_behind d in
-      let s = stands_behind e h.stored in
-      let t = stands_behind d g.stored in
+      let s = Stands-IsStored e h.stored in
+      let t = Stands-IsStored d g.stored in
       let c = v e d given tables h g w in
       let all : e.subscriptions ≡ filter (stays_open c U) e.subscriptions = sym same ∙ left U t ∙ ap (λ (x : Store). filter (stays_open x U) e.subscriptions) (v_is e d given tables h g w) in
-      let open_all : AllByRecursion (λ x. stays_open c U x ≡ true) e.subscriptions = subst (AllByRecursion (λ x. stays_open c U x ≡ true)) (sym all) (all_pass (stays_open c U) e.subscriptions) in
-      let within : list_all (is_within (at e U)) e.subscriptions ≡ true = all_listed (is_within (at e U)) e.subscriptions (all_map (λ x. stays_open c U x ≡ true) (λ x. is_within (at e U) x ≡ true) e.subscriptions
-      (λ x o. still_within (is_some (missing_for (frame_of e) (actor (frame_of e) x.session) x.rel)) (is_within (at e U) x) o) open_all) in
+      let open_all : AllByRecursion (λ x. stays_open c U x ≡ true) e.subscriptions = subst (AllByRecursion (λ x. stays_open c U x ≡ true)) (sym all) (AllByRecursion-filtered_pass (stays_open c U) e.subscriptions) in
+      let within : list_all (is_within (at e U)) e.subscriptions ≡ true = all_listed (is_within (at e U)) e.subscriptions (AllByRecursion-map (λ x. stays_open c U x ≡ true) (λ x. is_within (at e U) x ≡ true) e.subscriptions
+      (λ x o. within-first_cause (is_some (missing_for (frame_of e) (actor (frame_of e) x.session) x.rel)) (is_within (at e U) x) o) open_all) in
       let beyond = beyond_by e given h [] None (record { place = broken.place; read = broken.read; broken = broken.broken }) T U (after_at e d given tables h g w T U s t) in
       clash (sym within ∙ beyond)
 

@@ -26,10 +26,10 @@ use Rattle.iv_store.specs.Store.{database_of, with_database, IsRoleCircuit, IsSo
 use Rattle.iv_readers.specs.Readers.{RoleCircuit}
 use Rattle.iv_store.specs.Turned.{AreReadersTold, AreWaiting}
 use Rattle.iv_command.specs.declared.answer.Answer.{Answer}
-use Rattle.iv_store.proofs.RelationCircuits.{seen_circuit}
-use Rattle.iv_store.proofs.RequestSteps.{refused_step}
-use Rattle.iv_engine.proofs.RightsSteps.{StaysStill, told_as, waiting_as, flag_beside, reads_same, righted_step, righted_stored, waiting}
-use Rattle.iv_store.proofs.VisibleRows.{sees_same}
+use Rattle.iv_store.proofs.RelationCircuits.{IsCircuitFor-may_see}
+use Rattle.iv_store.proofs.RequestSteps.{IsRefused-frame_refusal}
+use Rattle.iv_engine.proofs.RightsSteps.{StaysStill, AreReadersTold-same, AreWaiting-same, flag_beside, role_reads-ReachesAlike, righted_step, righted_stored, waiting}
+use Rattle.iv_store.proofs.VisibleRows.{may_see-ReachesAlike}
 use Rattle.iv_store.proofs.Touches.{scans_alike}
 
 -- ---- one guard of many
@@ -85,9 +85,9 @@ module _ (e : Store) (table : ℕ) (change : Guard → Guard) where
 
   pub guard_still : StaysStill e e.known.rights.members us e.known.rights.grants (by_table e table)
   guard_still k far i reads = record {
-    is = seen_circuit e c.known.rights k.role (plan_at e.catalog k.rel) k.circuit
-        (λ j x lt row. sees_same c.known.rights e.known.rights k.role _ (λ o. refl) refl (other_guard change table _ e.known.rights.guards (apart (scans_of k.circuit.node) (far_scans k far i) j x lt)) row) i.is;
-    reads = reads_same e c.known.rights k.role k.rel (λ o. refl) refl ∙ reads;
+    is = IsCircuitFor-may_see e c.known.rights k.role (plan_at e.catalog k.rel) k.circuit
+        (λ j x lt row. may_see-ReachesAlike c.known.rights e.known.rights k.role _ (λ o. refl) refl (other_guard change table _ e.known.rights.guards (apart (scans_of k.circuit.node) (far_scans k far i) j x lt)) row) i.is;
+    reads = role_reads-ReachesAlike e c.known.rights k.role k.rel (λ o. refl) refl ∙ reads;
   }
 
   pub guard_waiting : IsSoundStore e → AreWaiting c (scanning e table)
@@ -153,24 +153,24 @@ pub record IsGuarding (e : Store) (n : ℕ) (act : Act) (rel : Name) : Type 0 wh
   pub steps : (new : Store) (a : Answer) → IsSoundStore e → frame_refusal (frame_of e) n act ≡ None
       → AreReadersTold (kept_after e n act) (scanning e (rel_of e.catalog rel)) a new → IsAccepted e n act a new
 
-pub security_guards : (e : Store) (n : ℕ) (rel : Name) (enable force : Bool) → IsGuarding e n (row_security rel enable force) rel
-security_guards e n rel enable force = record {
+pub IsGuarding-row_security : (e : Store) (n : ℕ) (rel : Name) (enable force : Bool) → IsGuarding e n (row_security rel enable force) rel
+IsGuarding-row_security e n rel enable force = record {
   same = λ v. refl;
   scans = λ t. refl;
   waits = guard_waiting e (rel_of e.catalog rel) (λ g. record g { enabled = enable; forced = force });
   steps = λ new a h. security_step e n h new a rel enable force;
 }
 
-pub drop_guards : (e : Store) (n : ℕ) (rel name : Name) → IsGuarding e n (drop_policy rel name) rel
-drop_guards e n rel name = record {
+pub IsGuarding-drop_policy : (e : Store) (n : ℕ) (rel name : Name) → IsGuarding e n (drop_policy rel name) rel
+IsGuarding-drop_policy e n rel name = record {
   same = λ v. refl;
   scans = λ t. refl;
   waits = guard_waiting e (rel_of e.catalog rel) (λ g. record g { policies = remove_policy name g.policies });
   steps = λ new a h. drop_step e n h new a rel name;
 }
 
-pub policy_guards : (e : Store) (n : ℕ) (p : PolicyText) → IsGuarding e n (create_policy p) p.rel
-policy_guards e n p = record {
+pub IsGuarding-create_policy : (e : Store) (n : ℕ) (p : PolicyText) → IsGuarding e n (create_policy p) p.rel
+IsGuarding-create_policy e n p = record {
   same = λ v. refl;
   scans = λ t. refl;
   waits = guard_waiting e (rel_of e.catalog p.rel) (λ g. record g { policies = insert_policy (policy_for (frame_of e) p) g.policies });
@@ -191,11 +191,11 @@ module _ (e u : Store) (d : Database) (n : ℕ) (act : Act) (rel : Name) (is : u
     flags = ap (λ (v : Store). scanning v table.0) guard_is ∙ g.scans table.0 ∙ ap (scanning e) (sym told.1 ∙ ap (λ (v : Store). rel_of v.catalog rel) is)
 
     pub guard_waits : AreWaiting (with_database d u) (scanning (with_database d u) table.0)
-    guard_waits = waiting_as (with_database d u) (kept_after e n act) _ _ guard_is flags (g.waits h)
+    guard_waits = AreWaiting-same (with_database d u) (kept_after e n act) _ _ guard_is flags (g.waits h)
 
     pub guard_steps : (new : Store) (a : Answer) → AreReadersTold (with_database d u) (scanning (with_database d u) table.0) a new → IsAccepted e n act a new
-    guard_steps new a readers = g.steps new a h passed (told_as (with_database d u) (kept_after e n act) _ _ a new guard_is flags readers)
+    guard_steps new a readers = g.steps new a h passed (AreReadersTold-same (with_database d u) (kept_after e n act) _ _ a new guard_is flags readers)
 
   pub guard_stops : (stop : Stop) → IsGuarded (database_of u) n act rel (Err stop) d → IsStep e n act (Err stop) (with_database d u)
-  guard_stops (Refused r) told = refused_step e (with_database d u) n act r (ap (λ (v : Store). frame_refusal (frame_of v) n act) (sym is) ∙ sym (g.same u) ∙ told.0) (ap (λ x. with_database x u) told.1 ∙ is)
+  guard_stops (Refused r) told = IsRefused-frame_refusal e (with_database d u) n act r (ap (λ (v : Store). frame_refusal (frame_of v) n act) (sym is) ∙ sym (g.same u) ∙ told.0) (ap (λ x. with_database x u) told.1 ∙ is)
   guard_stops Memory told = tt

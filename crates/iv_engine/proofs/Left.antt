@@ -13,25 +13,25 @@ use Rattle.iv_store.specs.Store.{IsOpen, IsRoleCircuit, IsSoundStore, IsStored, 
 use Rattle.iv_store.specs.Turned.{stays_open, turned_by, turned_line}
 use Rattle.iv_database.specs.Stands.{Stands}
 use Rattle.iv_readers.specs.Readers.{RoleCircuit}
-use Rattle.iv_store.proofs.RelationCircuits.{same_circuit}
-use Rattle.iv_store.proofs.FilteredLists.{all_kept, all_pass}
-use Rattle.iv_store.proofs.SubscriptionViews.{each_found, kept_found, kept_one, lists_behind, shown_is, stands_behind}
-use Rattle.iv_store.proofs.RequestSteps.{same_lines}
-use Rattle.iv_readers.proofs.Lists.{all_map, all_zip}
+use Rattle.iv_store.proofs.RelationCircuits.{IsCircuitFor-other_readers}
+use Rattle.iv_store.proofs.FilteredLists.{AllByRecursion-filter, AllByRecursion-filtered_pass}
+use Rattle.iv_store.proofs.SubscriptionViews.{subscription_of-each, subscription_of-kept_one, kept_one, lists_behind, shown_is, Stands-IsStored}
+use Rattle.iv_store.proofs.RequestSteps.{flat_map-each_same}
+use Rattle.iv_readers.proofs.Lists.{AllByRecursion-map, AllByRecursion-zip}
 
 -- why a subscription stays open
-pub still_reads : (m w : Bool) → not (is_some (first_cause m w)) ≡ true → not m ≡ true
-still_reads true w h = cc
-still_reads false w h = refl
+pub not-first_cause : (m w : Bool) → not (is_some (first_cause m w)) ≡ true → not m ≡ true
+not-first_cause true w h = cc
+not-first_cause false w h = refl
 
-pub still_within : (m w : Bool) → not (is_some (first_cause m w)) ≡ true → w ≡ true
-still_within true w h = cc
-still_within false true h = refl
-still_within false false h = cc
+pub within-first_cause : (m w : Bool) → not (is_some (first_cause m w)) ≡ true → w ≡ true
+within-first_cause true w h = cc
+within-first_cause false true h = refl
+within-first_cause false false h = cc
 
-pub if_found : (o : Option ℕ) (P : ℕ → Type 0) → ((i : ℕ) → o ≡ Some i → P i) → IfSome o P
-if_found None P go = tt
-if_found (Some i) P go = go i refl
+pub IfSome-each : (o : Option ℕ) (P : ℕ → Type 0) → ((i : ℕ) → o ≡ Some i → P i) → IfSome o P
+IfSome-each None P go = tt
+IfSome-each (Some i) P go = go i refl
 
 -- ---- what is left of a store, where subscriptions end that something ends
 
@@ -41,7 +41,7 @@ module _ (c : Store) (stored : IsStored c) where
     numbers = record { unique = AreUnique-filter p c.subscriptions stored.numbers.unique; given = AreGiven-filter c.last p c.subscriptions stored.numbers.given };
     database = stored.database;
     shows = let new : Store = record c { subscriptions = filter p c.subscriptions; circuits = cs } in
-        all_kept (IsOpen new) p c.subscriptions (all_map (IsOpen c) (IsOpen new) c.subscriptions (λ s o. record { session = o.session; known = o.known }) stored.shows);
+        AllByRecursion-filter (IsOpen new) p c.subscriptions (AllByRecursion-map (IsOpen c) (IsOpen new) c.subscriptions (λ s o. record { session = o.session; known = o.known }) stored.shows);
   }
 
   each_within : (ks : List Subscription) → ((T : Lists) → Stands T c.tables → AllByRecursion (λ s. is_within (at c T) s ≡ true) ks) → AllByRecursion (IsWithin c) ks
@@ -56,15 +56,16 @@ module _ (c : Store) (stored : IsStored c) where
       → AllByRecursion (λ k. is_read (frame_of (record c { subscriptions = ks; circuits = cs })) k ≡ true) cs → IsSoundStore (record c { subscriptions = ks; circuits = cs })
   left_sound ks cs keeps circuits there read =
       let T = lists_behind c in
-      let is = keeps T (stands_behind c stored) in
+      let is = keeps T (Stands-IsStored c stored) in
       record {
         stored = subst (λ (xs : List Subscription). IsStored (record c { subscriptions = xs; circuits = cs })) (sym is) (kept_stored (stays_open c T) cs);
         served = subst (AllByRecursion (λ s. may_read c s ≡ true)) (sym is)
-            (all_map (λ s. stays_open c T s ≡ true) (λ s. may_read c s ≡ true) (filter (stays_open c T) c.subscriptions) (λ s o. still_reads (lacks s) (is_within (at c T) s) o) (all_pass (stays_open c T) c.subscriptions));
+            (AllByRecursion-map (λ s. stays_open c T s ≡ true) (λ s. may_read c s ≡ true) (filter (stays_open c T) c.subscriptions) (λ s o. not-first_cause (lacks s) (is_within (at c T) s) o) (AllByRecursion-filtered_pass (stays_open c T) c.subscriptions));
         within = each_within ks (λ U stands. subst (AllByRecursion (λ s. is_within (at c U) s ≡ true)) (sym (keeps U stands))
-            (all_map (λ s. stays_open c U s ≡ true) (λ s. is_within (at c U) s ≡ true) (filter (stays_open c U) c.subscriptions) (λ s o. still_within (lacks s) (is_within (at c U) s) o) (all_pass (stays_open c U) c.subscriptions)));
-        circuits = all_map (IsRoleCircuit c) (IsRoleCircuit (record c { subscriptions = ks; circuits = cs })) cs
-            (λ k i. record { known = i.known; is = same_circuit c ks cs c.last k.role (plan_at c.catalog k.rel) k.circuit i.is; opened = i.opened }) circuits;
+            (AllByRecursion-map (λ s. stays_open c U s ≡ true) (λ s. is_within (at c U) s ≡ true) (filter (stays_open c U) c.subscriptions) (λ s o. within-first_cause (lacks s) (is_within (at c U) s) o) (AllByRecursion-filtered_pass (stays_open c U) c.subscriptions)));
+        circuits = AllByRecursion-map (IsRoleCircuit c) (IsRoleCircuit (record c { subscriptions = ks; circuits = cs })) cs
+            (λ k i. record { known = i.known; is = IsCircuitFor-other_readers c ks cs c.last k.role
+              (plan_at c.catalog k.rel) k.circuit i.is; opened = i.opened }) circuits;
         there = there;
         read = read;
       }
@@ -87,9 +88,10 @@ module _ (e c : Store) (unique : AreUnique e.subscriptions) (T U : Lists) where
   line_is s x = (λ i. machine_line (ending (at c U) s) s (difference (shown_is e T s x.before i) (if_some (x.after i) [] (view_shown (at left U))))) ∙ line_by s (ending (at c U) s)
 
   found : AllByRecursion Found e.subscriptions
-  found = all_zip (λ s. subscription_of e.subscriptions s.number ≡ Some s) (λ s. subscription_of (filter (stays_open c U) e.subscriptions) s.number ≡ kept_one (stays_open c U) s) Found e.subscriptions
-      (λ s a b. record { before = a; after = b }) (each_found e.subscriptions unique) (kept_found (stays_open c U) e.subscriptions unique)
+  found = AllByRecursion-zip (λ s. subscription_of e.subscriptions s.number ≡ Some s) (λ s. subscription_of (filter (stays_open c U) e.subscriptions) s.number ≡ kept_one (stays_open c U) s) Found e.subscriptions
+      (λ s a b. record { before = a; after = b }) (subscription_of-each e.subscriptions unique)
+        (subscription_of-kept_one (stays_open c U) e.subscriptions unique)
 
   pub turned_lines : flat_map (line_for (at e T) (at left U) (ending (at c U))) e.subscriptions ≡ flat_map (λ s. turned_line c U s (shown_rows e T s)) e.subscriptions
-  turned_lines = same_lines (line_for (at e T) (at left U) (ending (at c U))) (λ s. turned_line c U s (shown_rows e T s)) e.subscriptions
-      (all_map Found (λ s. line_for (at e T) (at left U) (ending (at c U)) s ≡ turned_line c U s (shown_rows e T s)) e.subscriptions line_is found)
+  turned_lines = flat_map-each_same (line_for (at e T) (at left U) (ending (at c U))) (λ s. turned_line c U s (shown_rows e T s)) e.subscriptions
+      (AllByRecursion-map Found (λ s. line_for (at e T) (at left U) (ending (at c U)) s ≡ turned_line c U s (shown_rows e T s)) e.subscriptions line_is found)

@@ -7,7 +7,7 @@ use Rattle.iv_zset.specs.Limits.{Counts}
 use Rattle.iv_algebra.specs.Plans.{Lists}
 use Rattle.iv_machine.specs.State.{Frame, Session, State, Subscription, actor, session_of}
 use Rattle.iv_steps.specs.Steps.{Fact, all_carried, among, looked_at, shared}
-use Rattle.iv_steps.proofs.FactSteps.{all_carry}
+use Rattle.iv_steps.proofs.FactSteps.{Led-all_carried}
 use Rattle.iv_database.proofs.StoredFacts.{sessions_stored}
 use Rattle.iv_store.specs.Answering.{seen}
 use Rattle.iv_store.specs.Aside.{AreBack, IsAsideOf, all_concerned, nobody_in, with_those_of}
@@ -24,13 +24,13 @@ use Rattle.iv_command.specs.declared.command.Reply.TheVariants.{Ok}
 use Rattle.iv_store.proofs.RelationCircuits.{bag_for}
 use Rattle.iv_store.proofs.SubscriptionViews.{lists_behind}
 use Rattle.iv_store.proofs.Totals.{total_counts}
-use Rattle.iv_readers.proofs.Lists.{all_map, all_zip}
+use Rattle.iv_readers.proofs.Lists.{AllByRecursion-map, AllByRecursion-zip}
 use Rattle.iv_engine.specs.Carried.{AreCarried, AreCarriedTo, IsEmpty, IsStillEmpty, IsTakenIn}
 use Rattle.iv_engine.specs.Stepped.{IsTaken, RefusesStep}
 use Rattle.iv_engine.specs.declared.facts.StepFault.{StepFault}
 use Rattle.iv_engine.specs.declared.facts.StepFault.TheVariants.{Memory, Failed, Refused}
-use Rattle.iv_engine.proofs.Carried.{is_at, some_behind}
-use Rattle.iv_engine.proofs.Left.{if_found, left_sound, turned_lines}
+use Rattle.iv_engine.proofs.Carried.{at-IsBehind, IsBehind-lists_behind}
+use Rattle.iv_engine.proofs.Left.{IfSome-each, left_sound, turned_lines}
 
 -- who was there in the one store has been looked at in the other, where the subscriptions and circuits are the same
 pub record IsLooked (e c : Store) (lines : List Line) (new : Store) : Type 0 where
@@ -54,8 +54,9 @@ module _ (e d : Store) (h : IsSoundStore e) (g : IsSoundStore d) (roles : length
   back_stored = record {
     numbers = record { unique = h.stored.numbers.unique; given = h.stored.numbers.given };
     database = sessions_stored (database_of d) g.stored.database e.sessions
-        (all_map (λ (s : Session). s.role < length e.known.rights.roles) (λ (s : Session). s.role < length d.known.rights.roles) e.sessions (λ s b. at_most _ _ s.role b roles) h.stored.database.roles);
-    shows = all_map (IsOpen e) (IsOpen c) e.subscriptions (λ s o. record { session = o.session; known = at_most _ _ s.rel o.known relations }) h.stored.shows;
+        (AllByRecursion-map (λ (s : Session). s.role < length e.known.rights.roles) (λ (s : Session). s.role < length d.known.rights.roles) e.sessions (λ s b. at_most _ _ s.role b roles) h.stored.database.roles);
+    shows = AllByRecursion-map (IsOpen e) (IsOpen c) e.subscriptions
+      (λ s o. record { session = o.session; known = at_most _ _ s.rel o.known relations }) h.stored.shows;
   }
 
   -- each acts for the role that it acted for
@@ -72,18 +73,18 @@ module _ (e d : Store) (h : IsSoundStore e) (g : IsSoundStore d) (roles : length
   pub are_back : AreBack c
   are_back = record {
     stored = back_stored;
-    shown = all_map (IsRoleCircuit e) (WasShown c) e.circuits
+    shown = AllByRecursion-map (IsRoleCircuit e) (WasShown c) e.circuits
         (λ k i. record { known = at_most _ _ k.rel i.known relations; bag = bag_for e k.role k.rel k.circuit i.is h.stored; opened = i.opened }) h.circuits;
-    there = all_zip (IsOpen e) (λ s. is_some (place_of e s) ≡ true) (λ s. is_some (place_of c s) ≡ true) e.subscriptions (λ s o t. ap (λ p. is_some p) (place_stays s o) ∙ t) h.stored.shows h.there;
+    there = AllByRecursion-zip (IsOpen e) (λ s. is_some (place_of e s) ≡ true) (λ s. is_some (place_of c s) ≡ true) e.subscriptions (λ s o t. ap (λ p. is_some p) (place_stays s o) ∙ t) h.stored.shows h.there;
   }
 
   module _ (T : Lists) (stands : Stands T e.tables) where
     showed_by : (s : Subscription) → IsOpen e s → IfSome (place_of c s) (λ place. Counts (total_at c place) (shown_rows e T s))
     showed_by s o = subst (λ p. IfSome p (λ place. Counts (total_at e place) (shown_rows e T s))) (sym (place_stays s o))
-        (if_found (place_of e s) (λ place. Counts (total_at e place) (shown_rows e T s)) (λ i found. total_counts e h.circuits T stands s i found))
+        (IfSome-each (place_of e s) (λ place. Counts (total_at e place) (shown_rows e T s)) (λ i found. total_counts e h.circuits T stands s i found))
 
     pub all_showed : AreShowed c (shown_rows e T)
-    all_showed = all_map (IsOpen e) (λ s. IfSome (place_of c s) (λ place. Counts (total_at c place) (shown_rows e T s))) e.subscriptions showed_by h.stored.shows
+    all_showed = AllByRecursion-map (IsOpen e) (λ s. IfSome (place_of c s) (λ place. Counts (total_at c place) (shown_rows e T s))) e.subscriptions showed_by h.stored.shows
 
   -- ---- the lines
 
@@ -113,7 +114,7 @@ module _ (e d : Store) (h : IsSoundStore e) (g : IsSoundStore d) (roles : length
       now_is = λ i. record { frame = record (a.frame i) { sessions = (b.frame i).sessions; subscriptions = (b.frame i).subscriptions; last = (b.frame i).last }; rows = t.rows }
 
       looked_is : looked_at s (among s t) ≡ looked_at (at e s.rows) (at c t.rows)
-      looked_is = λ i. looked_at (sym (is_at s e b) i) (now_is i)
+      looked_is = λ i. looked_at (sym (at-IsBehind s e b) i) (now_is i)
 
       new_behind : IsBehind (looked_at (at e s.rows) (at c t.rows)).state (seen new)
       new_behind = subst (λ (v : Store). IsBehind (at (record c { subscriptions = filter (stays_open c t.rows) e.subscriptions }) t.rows) (seen v))
@@ -130,7 +131,7 @@ module _ (e d : Store) (h : IsSoundStore e) (g : IsSoundStore d) (roles : length
 -- roles and relations only come
 pub roles_come : (e d : Store) (facts : List Fact) (s t : State) → IsBehind s (seen e) → all_carried facts (shared s) ≡ Some t → IsBehind t (seen d) → length e.known.rights.roles ≤ length d.known.rights.roles
 roles_come e d facts s t b carried a =
-    let led = all_carry facts s t carried in
+    let led = Led-all_carried facts s t carried in
     let more : length s.frame.rights.roles ≤ length led.now.frame.rights.roles = led.grows.roles in
     let old : length s.frame.rights.roles ≡ length e.known.rights.roles = ap (λ (f : Frame). length f.rights.roles) b.frame in
     let new : length t.frame.rights.roles ≡ length led.now.frame.rights.roles = ap (λ (x : State). length x.frame.rights.roles) led.is in
@@ -139,7 +140,7 @@ roles_come e d facts s t b carried a =
 
 pub relations_come : (e d : Store) (facts : List Fact) (s t : State) → IsBehind s (seen e) → all_carried facts (shared s) ≡ Some t → IsBehind t (seen d) → length e.catalog ≤ length d.catalog
 relations_come e d facts s t b carried a =
-    let led = all_carry facts s t carried in
+    let led = Led-all_carried facts s t carried in
     let more : length s.frame.catalog ≤ length led.now.frame.catalog = led.grows.relations in
     let old : length s.frame.catalog ≡ length e.catalog = ap (λ (f : Frame). length f.catalog) b.frame in
     let new : length t.frame.catalog ≡ length led.now.frame.catalog = ap (λ (x : State). length x.frame.catalog) led.is in
@@ -152,19 +153,19 @@ relations_come e d facts s t b carried a =
 behind_nobody : (s : State) (e : Store) → IsBehind s (seen e) → IsBehind (shared s) (seen (nobody_in e))
 behind_nobody s e b = record { frame = (λ i. record (b.frame i) { sessions = []; subscriptions = []; last = 0 }); rows = b.rows }
 
-pub nobody_there : (e : Store) → IsEmpty (nobody_in e)
-nobody_there e = record { sessions = refl; subscriptions = refl; last = refl }
+pub IsEmpty-nobody_in : (e : Store) → IsEmpty (nobody_in e)
+IsEmpty-nobody_in e = record { sessions = refl; subscriptions = refl; last = refl }
 
 -- what was put back is what was there
-pub aside_back : (e d : Store) (a : Aside) → IsAsideOf e a → record d { sessions = a.sessions; subscriptions = a.subscriptions.items; circuits = a.circuits; last = a.last } ≡ with_those_of e d
-aside_back e d a h = λ i. record d { sessions = h.sessions i; subscriptions = h.subscriptions i; circuits = h.circuits i; last = h.last i }
+pub with_those_of-IsAsideOf : (e d : Store) (a : Aside) → IsAsideOf e a → record d { sessions = a.sessions; subscriptions = a.subscriptions.items; circuits = a.circuits; last = a.last } ≡ with_those_of e d
+with_those_of-IsAsideOf e d a h = λ i. record d { sessions = h.sessions i; subscriptions = h.subscriptions i; circuits = h.circuits i; last = h.last i }
 
 module _ (e d : Store) (facts : List Fact) (h : IsSoundStore e) (carried : IsStillEmpty d × ((s : State) → IsBehind s (seen (nobody_in e)) → AreCarriedTo s facts d)) where
   from_shared : (s : State) → IsBehind s (seen e) → AreCarriedTo (shared s) facts d
   from_shared s b = carried.1 (shared s) (behind_nobody s e b)
 
   first_behind : IsBehind (at e (lists_behind e)) (seen e)
-  first_behind = some_behind e h
+  first_behind = IsBehind-lists_behind e h
 
   roles : length e.known.rights.roles ≤ length d.known.rights.roles
   roles = let k = from_shared (at e (lists_behind e)) first_behind in roles_come e d facts (at e (lists_behind e)) k.state first_behind k.is k.behind
@@ -185,20 +186,21 @@ module _ (e d : Store) (facts : List Fact) (h : IsSoundStore e) (carried : IsSti
   step_taken lines new told = taken_as lines new (looked e d h carried.0.sound roles relations lines.items new told)
 
 -- what stops a fact stops the step
-pub step_stopped : (e d new : Store) (facts : List Fact) (fault : StepFault) → AreCarried (nobody_in e) facts (Err fault) d → IsTakenIn e facts (Err fault) new
-step_stopped e d new facts Memory k = tt
-step_stopped e d new facts Failed k = absurd k
-step_stopped e d new facts (Refused n r) k = λ s b.
+pub IsTakenIn-AreCarried : (e d new : Store) (facts : List Fact) (fault : StepFault) → AreCarried (nobody_in e) facts (Err fault) d
+    → IsTakenIn e facts (Err fault) new
+IsTakenIn-AreCarried e d new facts Memory k = tt
+IsTakenIn-AreCarried e d new facts Failed k = absurd k
+IsTakenIn-AreCarried e d new facts (Refused n r) k = λ s b.
     let no = k (shared s) (behind_nobody s e b) in
     record { none = ap (option_map (λ t. looked_at s (among s t))) no.0; first = no.1 }
 
 -- the engine that shows the store
-pub refuses_as : (e : Store) (old : Engine) (new : Store) (facts : List Fact) → ((s : State) → IsBehind s old → IsBehind s (seen e)) → (fault : StepFault) → IsTakenIn e facts (Err fault) new → RefusesStep old facts fault
-refuses_as e old new facts seen_by Memory k = tt
-refuses_as e old new facts seen_by Failed k = tt
-refuses_as e old new facts seen_by (Refused n r) k = λ s b. k s (seen_by s b)
+pub RefusesStep-IsTakenIn : (e : Store) (old : Engine) (new : Store) (facts : List Fact) → ((s : State) → IsBehind s old → IsBehind s (seen e)) → (fault : StepFault) → IsTakenIn e facts (Err fault) new → RefusesStep old facts fault
+RefusesStep-IsTakenIn e old new facts seen_by Memory k = tt
+RefusesStep-IsTakenIn e old new facts seen_by Failed k = tt
+RefusesStep-IsTakenIn e old new facts seen_by (Refused n r) k = λ s b. k s (seen_by s b)
 
-pub had_not_failed : (e new : Store) (facts : List Fact) (fault : StepFault) → IsTakenIn e facts (Err fault) new → fault ≡ Failed → ⊥
-had_not_failed e new facts Memory k is = cc
-had_not_failed e new facts Failed k is = k
-had_not_failed e new facts (Refused n r) k is = cc
+pub not_Failed-IsTakenIn : (e new : Store) (facts : List Fact) (fault : StepFault) → IsTakenIn e facts (Err fault) new → fault ≡ Failed → ⊥
+not_Failed-IsTakenIn e new facts Memory k is = cc
+not_Failed-IsTakenIn e new facts Failed k is = k
+not_Failed-IsTakenIn e new facts (Refused n r) k is = cc

@@ -26,9 +26,9 @@ use Rattle.iv_store.specs.Next.{kept_after}
 use Rattle.iv_store.specs.Engine.{Engine}
 use Rattle.iv_store.specs.Turned.{AreReadersTold, AreWaiting}
 use Rattle.iv_command.specs.declared.answer.Answer.{Answer}
-use Rattle.iv_store.proofs.RelationCircuits.{seen_circuit}
-use Rattle.iv_engine.proofs.RightsSteps.{StaysStill, flag_beside, flags_of, reads_same, righted_step, righted_stored, waiting}
-use Rattle.iv_store.proofs.VisibleRows.{sees_same}
+use Rattle.iv_store.proofs.RelationCircuits.{IsCircuitFor-may_see}
+use Rattle.iv_engine.proofs.RightsSteps.{StaysStill, flag_beside, flags_of, role_reads-ReachesAlike, righted_step, righted_stored, waiting}
+use Rattle.iv_store.proofs.VisibleRows.{may_see-ReachesAlike}
 
 -- ---- flags that differ
 
@@ -49,8 +49,8 @@ differing_maps f g [] = refl
 differing_maps f g (k ∷ ks) = ap (λ bs. differ (f k) (g k) ∷ bs) (differing_maps f g ks)
 
 -- there is one for each circuit
-pub many_flags : (e : Store) (g : Option RoleId) → length (reaching e g) ≡ length e.circuits
-many_flags e g = length-map e.circuits (λ k. reaches_some e.known.rights k.role g)
+pub length-reaching : (e : Store) (g : Option RoleId) → length (reaching e g) ≡ length e.circuits
+length-reaching e g = length-map e.circuits (λ k. reaches_some e.known.rights k.role g)
 
 -- ---- other memberships, by which a role stays as it is unless it comes to reach the group or ceases to
 
@@ -72,9 +72,9 @@ module _ (e : Store) (ms : List Membership) (group : ℕ) (few : StaysUnless e.k
   member_still k off i reads =
       let alike = alike_reach k.role k.rel off in
       record {
-        is = seen_circuit e q k.role (plan_at e.catalog k.rel) k.circuit
-            (λ j x lt row. sees_same q e.known.rights k.role (get_or (scans_of k.circuit.node) j x).table alike refl refl row) i.is;
-        reads = reads_same e q k.role k.rel alike refl ∙ reads;
+        is = IsCircuitFor-may_see e q k.role (plan_at e.catalog k.rel) k.circuit
+            (λ j x lt row. may_see-ReachesAlike q e.known.rights k.role (get_or (scans_of k.circuit.node) j x).table alike refl refl row) i.is;
+        reads = role_reads-ReachesAlike e q k.role k.rel alike refl ∙ reads;
       }
 
   pub member_stored : IsStored e → IsStored c

@@ -16,8 +16,8 @@ use Rattle.iv_store.specs.Store.{IsSoundStore, Store, database_of, frame_of, wit
 use Rattle.iv_store.specs.Next.{kept_after}
 use Rattle.iv_store.specs.Turned.{AreReadersTold, AreWaiting}
 use Rattle.iv_command.specs.declared.answer.Answer.{Answer}
-use Rattle.iv_engine.proofs.MembershipEffects.{joined_step, joined_waiting, many_flags, parted_step, parted_waiting}
-use Rattle.iv_engine.proofs.RightsSteps.{told_as, waiting_as}
+use Rattle.iv_engine.proofs.MembershipEffects.{joined_step, joined_waiting, length-reaching, parted_step, parted_waiting}
+use Rattle.iv_engine.proofs.RightsSteps.{AreReadersTold-same, AreWaiting-same}
 use Rattle.iv_store.proofs.RequestSteps.{TestsAlike, has_become, has_passed}
 
 -- of each circuit, whether its role reaches the role as it did not before
@@ -32,11 +32,13 @@ pub record IsEnrolling (e : Store) (n : ℕ) (act : Act) (role : Name) : Type 0 
   pub steps : (g : Option RoleId) → option_map (λ r. r.0) g ≡ role_of e.known.rights role → (new : Store) (a : Answer) → frame_refusal (frame_of e) n act ≡ None
       → AreReadersTold (kept_after e n act) (turned e n act g) a new → IsAccepted e n act a new
 
-pub joins : (e : Store) (n : ℕ) (role to : Name) → IsSoundStore e → IsEnrolling e n (grant_role role to) role
-joins e n role to h = record { same = λ v. refl; waits = λ g found. joined_waiting e n role to h g found; steps = λ g found. joined_step e n role to h g found }
+pub IsEnrolling-grant_role : (e : Store) (n : ℕ) (role to : Name) → IsSoundStore e → IsEnrolling e n (grant_role role to) role
+IsEnrolling-grant_role e n role to h =
+    record { same = λ v. refl; waits = λ g found. joined_waiting e n role to h g found; steps = λ g found. joined_step e n role to h g found }
 
-pub parts : (e : Store) (n : ℕ) (role to : Name) → IsSoundStore e → IsEnrolling e n (revoke_role role to) role
-parts e n role to h = record { same = λ v. refl; waits = λ g found. parted_waiting e n role to h g found; steps = λ g found. parted_step e n role to h g found }
+pub IsEnrolling-revoke_role : (e : Store) (n : ℕ) (role to : Name) → IsSoundStore e → IsEnrolling e n (revoke_role role to) role
+IsEnrolling-revoke_role e n role to h =
+    record { same = λ v. refl; waits = λ g found. parted_waiting e n role to h g found; steps = λ g found. parted_step e n role to h g found }
 
 -- it has passed, and flags were told of the circuits before
 module _ (e u : Store) (d : Database) (n : ℕ) (act : Act) (role : Name) (is : u ≡ e) (q : IsEnrolling e n act role)
@@ -52,11 +54,11 @@ module _ (e u : Store) (d : Database) (n : ℕ) (act : Act) (role : Name) (is : 
   same_flags = λ i. differing (flags i) (reaching (was i) g)
 
   pub enrolled_long : length before ≡ length (with_database d u).circuits
-  enrolled_long = ap (λ (bs : List Bool). length bs) flags ∙ many_flags e g ∙ sym (ap (λ (v : Store). length v.circuits) was)
+  enrolled_long = ap (λ (bs : List Bool). length bs) flags ∙ length-reaching e g ∙ sym (ap (λ (v : Store). length v.circuits) was)
 
   module _ (found : option_map (λ r. r.0) g ≡ role_of e.known.rights role) where
     pub enrolled_waits : AreWaiting (with_database d u) (differing before (reaching (with_database d u) g))
-    enrolled_waits = waiting_as (with_database d u) (kept_after e n act) _ _ was same_flags (q.waits g found passed)
+    enrolled_waits = AreWaiting-same (with_database d u) (kept_after e n act) _ _ was same_flags (q.waits g found passed)
 
     pub enrolled_steps : (new : Store) (a : Answer) → AreReadersTold (with_database d u) (differing before (reaching (with_database d u) g)) a new → IsAccepted e n act a new
-    enrolled_steps new a readers = q.steps g found new a passed (told_as (with_database d u) (kept_after e n act) _ _ a new was same_flags readers)
+    enrolled_steps new a readers = q.steps g found new a passed (AreReadersTold-same (with_database d u) (kept_after e n act) _ _ a new was same_flags readers)

@@ -28,9 +28,9 @@ past ns k h = by (slice_get_cases ns k).1
     by (inr x) = x.0
 
 -- with one relation more, it is told where it passes
-pub told_more : (p : Name → Bool) (rs : List Relation) (k : ℕ) (name : Name) → Some name ≡ relation_name rs k
+pub filter-relation_name : (p : Name → Bool) (rs : List Relation) (k : ℕ) (name : Name) → Some name ≡ relation_name rs k
     → filter p (take (k + 1) (names rs)) ≡ filter p (take k (names rs)) ++ cond (p name) (name ∷ []) []
-told_more p rs k name at =
+filter-relation_name p rs k name at =
     let there : slice_get (names rs) k ≡ Some name = slice_get-map (λ r. r.name) rs k ∙ sym at in
     filter_more p (names rs) k name (slice_get_within (names rs) k name there)
     ∙ ap (λ x. filter p (take k (names rs)) ++ cond (p x) (x ∷ []) []) (get_or_from_slice_get (names rs) k name name there)
@@ -39,13 +39,13 @@ told_more p rs k name at =
 pub told_all : (p : Name → Bool) (rs : List Relation) (k : ℕ) → None ≡ relation_name rs k → filter p (take k (names rs)) ≡ filter p (names rs)
 told_all p rs k at = ap (filter p) (take_all k (names rs) (past (names rs) k (slice_get-map (λ r. r.name) rs k ∙ sym at)))
 
-pub none_passes : (ns : List Name) → filter (λ n. false) ns ≡ []
-none_passes [] = refl
-none_passes (n ∷ ns) = none_passes ns
+pub filter-always_false : (ns : List Name) → filter (λ n. false) ns ≡ []
+filter-always_false [] = refl
+filter-always_false (n ∷ ns) = filter-always_false ns
 
-pub if_also : {X E : Type 0} (o : Result X E) {P Q : X → Type 0} → ((x : X) → P x → Q x) → IfOk o P → IfOk o Q
-if_also (Ok x) go p = go x p
-if_also (Err e) go p = tt
+pub IfOk-map : {X E : Type 0} (o : Result X E) {P Q : X → Type 0} → ((x : X) → P x → Q x) → IfOk o P → IfOk o Q
+IfOk-map (Ok x) go p = go x p
+IfOk-map (Err e) go p = tt
 
 -- ---- by name
 

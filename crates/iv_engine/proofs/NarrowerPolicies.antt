@@ -18,8 +18,8 @@ use Rattle.iv_machine.specs.Changing.{policy_for}
 use Rattle.iv_machine.specs.State.{rel_of}
 use Rattle.iv_store.specs.Store.{database_of, with_database, IsRoleCircuit, IsSoundStore, Store, frame_of}
 use Rattle.iv_store.specs.Turned.{IsNarrowed}
-use Rattle.iv_readers.proofs.Lists.{all_map}
-use Rattle.iv_engine.proofs.GuardChanges.{guard_is, guarded, policy_guards}
+use Rattle.iv_readers.proofs.Lists.{AllByRecursion-map}
+use Rattle.iv_engine.proofs.GuardChanges.{guard_is, guarded, IsGuarding-create_policy}
 
 same_number : (n m : ℕ) → (n == m) ≡ true → n ≡ m
 same_number n m h = grind (arith, nat_tests)
@@ -50,7 +50,7 @@ neither_way true h g = cc
 neither_way false h g = cc
 
 narrowed : (e : Store) (t : ℕ) (p : Policy) → p.restrictive ≡ true → IsSoundStore e → AllByRecursion (IsNarrowed (guarded t (further p) e) None) e.circuits
-narrowed e t p restrictive h = all_map (IsRoleCircuit e) (IsNarrowed (guarded t (further p) e) None) e.circuits
+narrowed e t p restrictive h = AllByRecursion-map (IsRoleCircuit e) (IsNarrowed (guarded t (further p) e) None) e.circuits
     (λ k i. record {
       rights = e.known.rights;
       is = i.is;
@@ -58,8 +58,9 @@ narrowed e t p restrictive h = all_map (IsRoleCircuit e) (IsNarrowed (guarded t 
       kept = λ some. let no : false ≡ true = some in cc;
     }) h.circuits
 
-pub policy_narrows : (e u : Store) (d : Database) (n : ℕ) (p : PolicyText) (is : u ≡ e) (h : IsSoundStore e) (table : RelId) → IsGuarded (database_of u) n (create_policy p) p.rel (Ok table) d
+pub IsNarrowed-create_policy : (e u : Store) (d : Database) (n : ℕ) (p : PolicyText) (is : u ≡ e) (h : IsSoundStore e) (table : RelId) → IsGuarded (database_of u) n (create_policy p) p.rel (Ok table) d
     → p.restrictive ≡ true → AllByRecursion (IsNarrowed (with_database d u) None) (with_database d u).circuits
-policy_narrows e u d n p is h table told restrictive =
-    subst (λ (v : Store). AllByRecursion (IsNarrowed v None) v.circuits) (sym (guard_is e u d n (create_policy p) p.rel is (policy_guards e n p) h table told))
+IsNarrowed-create_policy e u d n p is h table told restrictive =
+    subst (λ (v : Store). AllByRecursion (IsNarrowed v None) v.circuits)
+      (sym (guard_is e u d n (create_policy p) p.rel is (IsGuarding-create_policy e n p) h table told))
     (narrowed e (rel_of e.catalog p.rel) (policy_for (frame_of e) p) restrictive h)

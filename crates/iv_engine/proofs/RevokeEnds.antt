@@ -17,9 +17,9 @@ use Rattle.iv_store.specs.Store.{IsSoundStore, IsStored, Store, database_of, fra
 use Rattle.iv_store.specs.Next.{kept_after}
 use Rattle.iv_store.specs.Turned.{AreReadersTold, AreWaiting}
 use Rattle.iv_command.specs.declared.answer.Answer.{Answer}
-use Rattle.iv_store.proofs.RelationCircuits.{seen_circuit}
-use Rattle.iv_engine.proofs.RightsSteps.{StaysStill, flag_beside, righted_step, righted_stored, told_as, waiting, waiting_as}
-use Rattle.iv_store.proofs.VisibleRows.{sees_same}
+use Rattle.iv_store.proofs.RelationCircuits.{IsCircuitFor-may_see}
+use Rattle.iv_engine.proofs.RightsSteps.{StaysStill, flag_beside, righted_step, righted_stored, AreReadersTold-same, waiting, AreWaiting-same}
+use Rattle.iv_store.proofs.VisibleRows.{may_see-ReachesAlike}
 use Rattle.iv_store.proofs.RequestSteps.{has_become, has_passed}
 
 reads_still : (b : Bool) → not b ≡ false → b ≡ true
@@ -47,8 +47,8 @@ module _ (e : Store) (n : ℕ) (name : Name) (ps : List Privilege) (to : Option 
   -- the circuits of the others stay: what a role sees does not depend on privileges
   pub revoke_still : StaysStill e e.known.rights.members e.known.rights.guards gs lost
   revoke_still k off i reads = record {
-    is = seen_circuit e q k.role (plan_at e.catalog k.rel) k.circuit
-        (λ j x lt row. sees_same q e.known.rights k.role (get_or (scans_of k.circuit.node) j x).table (λ o. refl) refl refl row) i.is;
+    is = IsCircuitFor-may_see e q k.role (plan_at e.catalog k.rel) k.circuit
+        (λ j x lt row. may_see-ReachesAlike q e.known.rights k.role (get_or (scans_of k.circuit.node) j x).table (λ o. refl) refl refl row) i.is;
     reads = reads_still (role_reads (with_rights q e) k.role k.rel) off;
   }
 
@@ -79,8 +79,8 @@ module _ (e u : Store) (d : Database) (n : ℕ) (name : Name) (ps : List Privile
   was = has_become e u d n (revoke name ps to) is refl told.0 told.1
 
   pub revoke_waits : (flags : List Bool) → flags ≡ unreadable (with_database d u) → AreWaiting (with_database d u) flags
-  revoke_waits flags same = waiting_as (with_database d u) (kept_after e n (revoke name ps to)) _ _ was (same ∙ ap unreadable was) (revoked_waiting e n name ps to h)
+  revoke_waits flags same = AreWaiting-same (with_database d u) (kept_after e n (revoke name ps to)) _ _ was (same ∙ ap unreadable was) (revoked_waiting e n name ps to h)
 
   pub revoke_steps : (flags : List Bool) → flags ≡ unreadable (with_database d u) → (new : Store) (a : Answer) → AreReadersTold (with_database d u) flags a new → IsAccepted e n (revoke name ps to) a new
   revoke_steps flags same new a readers = revoked_step e n name ps to new a h (has_passed e u d n (revoke name ps to) is refl told.0)
-      (told_as (with_database d u) (kept_after e n (revoke name ps to)) _ _ a new was (same ∙ ap unreadable was) readers)
+      (AreReadersTold-same (with_database d u) (kept_after e n (revoke name ps to)) _ _ a new was (same ∙ ap unreadable was) readers)

@@ -31,30 +31,30 @@ use Rattle.iv_command.specs.Views.{line_of, reply_of}
 use Rattle.iv_command.specs.declared.answer.Answer.{Answer}
 use Rattle.iv_store.proofs.Beside.{beside_each}
 use Rattle.iv_store.proofs.RelationCircuits.{bag_for}
-use Rattle.iv_store.proofs.SubscriptionRounds.{IsBeside, all_beside, those_counted}
-use Rattle.iv_store.proofs.FilteredLists.{all_kept, all_pass}
-use Rattle.iv_store.proofs.SubscriptionViews.{lists_behind, stands_behind}
-use Rattle.iv_readers.proofs.Lists.{all_map, all_zip}
-use Rattle.iv_store.proofs.Sound.{has_same}
-use Rattle.iv_store.proofs.RequestSteps.{no_refusal}
+use Rattle.iv_store.proofs.SubscriptionRounds.{IsBeside, AllByRecursion-IsBeside, those_counted}
+use Rattle.iv_store.proofs.FilteredLists.{AllByRecursion-filter, AllByRecursion-filtered_pass}
+use Rattle.iv_store.proofs.SubscriptionViews.{lists_behind, Stands-IsStored}
+use Rattle.iv_readers.proofs.Lists.{AllByRecursion-map, AllByRecursion-zip}
+use Rattle.iv_store.proofs.Sound.{has-ReachesAlike}
+use Rattle.iv_store.proofs.RequestSteps.{not_refused-Ok}
 use Rattle.iv_store.proofs.Totals.{total_counts}
 use Rattle.iv_store.proofs.Unread.{read_has}
-use Rattle.iv_engine.proofs.Left.{if_found, left_sound, still_reads, turned_lines}
+use Rattle.iv_engine.proofs.Left.{IfSome-each, left_sound, not-first_cause, turned_lines}
 
 -- ---- what a role may read
 
 first_same : (r q : Rights) (role : ℕ) → ReachesAlike q r.members role → (ps : List (Privilege × ℕ)) → r.grants ≡ q.grants → first_missing r role ps ≡ first_missing q role ps
 first_same r q role reach [] h = refl
-first_same r q role reach (p ∷ ps) h = λ i. cond (has_same r q role reach p.0 p.1 h i) (first_same r q role reach ps h i) (Some p)
+first_same r q role reach (p ∷ ps) h = λ i. cond (has-ReachesAlike r q role reach p.0 p.1 h i) (first_same r q role reach ps h i) (Some p)
 
 -- the same where it reaches the same roles and the grants are the same
-pub reads_same : (e : Store) (q : Rights) (role rel : ℕ) → ReachesAlike e.known.rights q.members role → q.grants ≡ e.known.rights.grants → role_reads (with_rights q e) role rel ≡ role_reads e role rel
-reads_same e q role rel reach grants = ap (λ o. not (is_some o)) (first_same q e.known.rights role reach (map (λ r. (Select, r)) (needs_at e.catalog rel)) grants)
+pub role_reads-ReachesAlike : (e : Store) (q : Rights) (role rel : ℕ) → ReachesAlike e.known.rights q.members role → q.grants ≡ e.known.rights.grants → role_reads (with_rights q e) role rel ≡ role_reads e role rel
+role_reads-ReachesAlike e q role rel reach grants = ap (λ o. not (is_some o)) (first_same q e.known.rights role reach (map (λ r. (Select, r)) (needs_at e.catalog rel)) grants)
 
 -- of a circuit that is read the role may read the relation
 circuits_read : (e : Store) → (ss : List Subscription) → AllByRecursion (λ s. may_read e s ≡ true) e.subscriptions → (ks : List RoleCircuit)
     → AllByRecursion (λ k. is_read (frame_of e) k ≡ true) ks → AllByRecursion (λ k. role_reads e k.role k.rel ≡ true) ks
-circuits_read e ss served ks read = all_map (λ k. is_read (frame_of e) k ≡ true) (λ k. role_reads e k.role k.rel ≡ true) ks
+circuits_read e ss served ks read = AllByRecursion-map (λ k. is_read (frame_of e) k ≡ true) (λ k. role_reads e k.role k.rel ≡ true) ks
     (λ k mine. read_has (frame_of e) k (λ role rel. role_reads e role rel ≡ true) mine served) read
 
 -- ---- which circuits a change concerns
@@ -81,15 +81,16 @@ each_of P (s ∷ ss) go = (go s, each_of P ss go)
 -- ---- circuits before readers are told
 
 pub were_read_now : (e : Store) → IsSoundStore e → AllByRecursion (WasRead e) e.circuits
-were_read_now e h = all_map (IsRoleCircuit e) (WasRead e) e.circuits
+were_read_now e h = AllByRecursion-map (IsRoleCircuit e) (WasRead e) e.circuits
     (λ k i. record { known = i.known; bag = bag_for e k.role k.rel k.circuit i.is h.stored; rights = e.known.rights; is = i.is; opened = i.opened }) h.circuits
 
 -- in another state with other flags, where both are the same
-pub waiting_as : (v u : Store) (bs cs : List Bool) → v ≡ u → bs ≡ cs → AreWaiting u cs → AreWaiting v bs
-waiting_as v u bs cs is same h = subst (λ (x : Store). AreWaiting x bs) (sym is) (subst (AreWaiting u) (sym same) h)
+pub AreWaiting-same : (v u : Store) (bs cs : List Bool) → v ≡ u → bs ≡ cs → AreWaiting u cs → AreWaiting v bs
+AreWaiting-same v u bs cs is same h = subst (λ (x : Store). AreWaiting x bs) (sym is) (subst (AreWaiting u) (sym same) h)
 
-pub told_as : (v u : Store) (bs cs : List Bool) (a : Answer) (new : Store) → v ≡ u → bs ≡ cs → AreReadersTold v bs a new → AreReadersTold u cs a new
-told_as v u bs cs a new is same h = subst (λ (x : Store). AreReadersTold x cs a new) is (subst (λ (xs : List Bool). AreReadersTold v xs a new) same h)
+pub AreReadersTold-same : (v u : Store) (bs cs : List Bool) (a : Answer) (new : Store) → v ≡ u → bs ≡ cs → AreReadersTold v bs a new → AreReadersTold u cs a new
+AreReadersTold-same v u bs cs a new is same h =
+    subst (λ (x : Store). AreReadersTold x cs a new) is (subst (λ (xs : List Bool). AreReadersTold v xs a new) same h)
 
 -- ---- other memberships, grants and guards
 
@@ -105,13 +106,13 @@ module _ (e : Store) (ms : List Membership) (us : List Guard) (gs : List Grant) 
   righted_stored guards h = record {
     numbers = record { unique = h.numbers.unique; given = h.numbers.given };
     database = IsDatabase-with_rights (database_of e) q guards refl h.database;
-    shows = all_map (IsOpen e) (IsOpen c) e.subscriptions (λ s o. record { session = o.session; known = o.known }) h.shows;
+    shows = AllByRecursion-map (IsOpen e) (IsOpen c) e.subscriptions (λ s o. record { session = o.session; known = o.known }) h.shows;
   }
 
   -- ---- what is asked of the state in which readers are told
 
   were_read : IsSoundStore e → AllByRecursion (WasRead c) c.circuits
-  were_read h = all_map (IsRoleCircuit e) (WasRead c) e.circuits
+  were_read h = AllByRecursion-map (IsRoleCircuit e) (WasRead c) e.circuits
       (λ k i. record { known = i.known; bag = bag_for e k.role k.rel k.circuit i.is h.stored; rights = e.known.rights; is = i.is; opened = i.opened }) h.circuits
 
   -- a circuit stays as it is that the change does not concern
@@ -160,7 +161,7 @@ module _ (e : Store) (ms : List Membership) (us : List Guard) (gs : List Grant) 
     -- the circuits show what was shown before
     all_showed : (T : Lists) → Stands T e.tables → AreShowed c (shown_rows e T)
     all_showed T stands = each_of (λ s. IfSome (place_of c s) (λ place. Counts (total_at c place) (shown_rows e T s))) e.subscriptions
-        (λ s. if_found (place_of c s) (λ place. Counts (total_at c place) (shown_rows e T s)) (λ i found. total_counts e h.circuits T stands s i found))
+        (λ s. IfSome-each (place_of c s) (λ place. Counts (total_at c place) (shown_rows e T s)) (λ i found. total_counts e h.circuits T stands s i found))
 
     -- its circuit was there, and it may still be read
     record WasThere (s : Subscription) : Type 0 where
@@ -169,9 +170,10 @@ module _ (e : Store) (ms : List Membership) (us : List Guard) (gs : List Grant) 
 
     kept_there : (T : Lists) (ks : List Subscription) → ks ≡ filter (stays_open c T) e.subscriptions → AllByRecursion WasThere ks
     kept_there T ks is = subst (AllByRecursion WasThere) (sym is)
-        (all_zip (λ s. is_some (place_of e s) ≡ true) (λ s. stays_open c T s ≡ true) WasThere (filter (stays_open c T) e.subscriptions)
-        (λ s there stays. record { there = there; reads = still_reads (is_some (missing_for (frame_of c) (actor (frame_of c) s.session) s.rel)) (is_within (at c T) s) stays })
-        (all_kept (λ s. is_some (place_of e s) ≡ true) (stays_open c T) e.subscriptions h.there) (all_pass (stays_open c T) e.subscriptions))
+        (AllByRecursion-zip (λ s. is_some (place_of e s) ≡ true) (λ s. stays_open c T s ≡ true) WasThere (filter (stays_open c T) e.subscriptions)
+        (λ s there stays. record { there = there; reads = not-first_cause (is_some (missing_for (frame_of c) (actor (frame_of c) s.session) s.rel)) (is_within (at c T) s) stays })
+        (AllByRecursion-filter (λ s. is_some (place_of e s) ≡ true) (stays_open c T) e.subscriptions h.there)
+          (AllByRecursion-filtered_pass (stays_open c T) e.subscriptions))
 
     pub righted_step : (new : Store) (a : Answer) → frame_refusal (frame_of e) n act ≡ None → AreReadersTold c concerned a new → IsAccepted e n act a new
     righted_step new a passed told =
@@ -184,17 +186,18 @@ module _ (e : Store) (ms : List Membership) (us : List Guard) (gs : List Grant) 
         (subst (λ (v : Store). AllByRecursion (λ s. is_some (place_of v s) ≡ true) ks) told.state told.there)
         (subst (λ (v : Store). AllByRecursion (λ k. is_read (frame_of v) k ≡ true) cs) told.state told.read)) in
         let T = lists_behind e in
-        let were : AllByRecursion (IsBeside e) ks = subst (AllByRecursion (IsBeside e)) (sym (left T (stands_behind e h.stored))) (all_kept (IsBeside e) (stays_open c T) e.subscriptions (all_beside e h.stored)) in
-        let was_there : AllByRecursion WasThere ks = kept_there T ks (left T (stands_behind e h.stored)) in
+        let were : AllByRecursion (IsBeside e) ks = subst (AllByRecursion (IsBeside e)) (sym (left T (Stands-IsStored e h.stored))) (AllByRecursion-filter (IsBeside e) (stays_open c T) e.subscriptions (AllByRecursion-IsBeside e h.stored)) in
+        let was_there : AllByRecursion WasThere ks = kept_there T ks (left T (Stands-IsStored e h.stored)) in
         let R : (v : Store) → Subscription → ℕ → ℕ → Type 0 = λ v s was now. TurnsRounds (seen e) (seen v) act (actor (frame_of v) s.session) s.rel was now in
         let counted : AllByRecursion (λ s. R new s (rounds_of e s) (rounds_of new s)) ks =
-        all_zip WasThere (λ s. rounds_of new s ≡ cond (beside_of false c concerned s) 0 (rounds_of e s)) (λ s. R new s (rounds_of e s) (rounds_of new s)) ks
+        AllByRecursion-zip WasThere (λ s. rounds_of new s ≡ cond (beside_of false c concerned s) 0 (rounds_of e s))
+          (λ s. R new s (rounds_of e s) (rounds_of new s)) ks
         (λ s w r. subst (λ (v : Store). R v s (rounds_of e s) (rounds_of new s)) (sym told.state) (g.counts ks cs s (rounds_of e s) (rounds_of new s) w.there w.reads r)) was_there told.rounds in
         record {
           answer = λ T stands. (act_refusal T stands passed, ap reply_of told.done ∙ g.reply, sent T stands ∙ sym (act_sent T stands));
           left = λ T stands. subst (λ (t : State). IsBehind t (seen new)) (sym (act_left T stands))
               (subst (λ (v : Store). IsBehind (at (still T stands) T) (seen v)) (sym (told.state ∙ ap (λ (ss : List Subscription). record c { subscriptions = ss; circuits = cs }) (left T stands))) (record { frame = refl; rows = stands }));
-          accepts = no_refusal a.reply told.done;
+          accepts = not_refused-Ok a.reply told.done;
           rounds = those_counted e new kept.stored (R new) were counted;
           sound = kept;
         }

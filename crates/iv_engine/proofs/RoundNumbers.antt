@@ -179,9 +179,9 @@ rounds_of_open e h = record {
 }
 
 -- whether it has failed or not
-pub rounds_shown : (e : Store) (failed : Bool) → AreNumbersUnique (frame_of e) → HasRoundsOfOpen (shown_by e failed)
-rounds_shown e failed h = let x = rounds_of_open e h in record { rising = x.rising; those = x.those }
+pub HasRoundsOfOpen-shown_by : (e : Store) (failed : Bool) → AreNumbersUnique (frame_of e) → HasRoundsOfOpen (shown_by e failed)
+HasRoundsOfOpen-shown_by e failed h = let x = rounds_of_open e h in record { rising = x.rising; those = x.those }
 
 -- none at the start
-pub none_at_start : (cap : ℕ) (e : Store) → (start cap).frame ≡ frame_of e → rounds e ≡ []
-none_at_start cap e h = ap (λ (f : Frame). by_number (rounds_of e) f.subscriptions 0 (suc e.last)) (sym h) ∙ none_listed (rounds_of e) 0 (suc e.last)
+pub rounds-at_start : (cap : ℕ) (e : Store) → (start cap).frame ≡ frame_of e → rounds e ≡ []
+rounds-at_start cap e h = ap (λ (f : Frame). by_number (rounds_of e) f.subscriptions 0 (suc e.last)) (sym h) ∙ none_listed (rounds_of e) 0 (suc e.last)

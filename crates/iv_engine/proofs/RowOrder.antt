@@ -64,5 +64,5 @@ sound_alike s t e h k = subst (λ f. IsSoundState (state_of f t.rows)) e (sound_
 same_count : (m n : ℕ) → pos m ≡ pos n → m ≡ n
 same_count m n h = cc
 
-pub sound_behind : (s t : State) (e : Engine) → IsBehind s e → IsBehind t e → IsSoundState s → IsSoundState t
-sound_behind s t e b d k = sound_alike s t (b.frame ∙ sym d.frame) (λ n q. same_count (copies q (s.rows n)) (copies q (t.rows n)) (sym (b.rows n q) ∙ d.rows n q)) k
+pub IsSoundState-IsBehind : (s t : State) (e : Engine) → IsBehind s e → IsBehind t e → IsSoundState s → IsSoundState t
+IsSoundState-IsBehind s t e b d k = sound_alike s t (b.frame ∙ sym d.frame) (λ n q. same_count (copies q (s.rows n)) (copies q (t.rows n)) (sym (b.rows n q) ∙ d.rows n q)) k

@@ -32,16 +32,16 @@ use Rattle.iv_store.specs.Answering.{IsAccepted, IsStep, seen}
 use Rattle.iv_store.specs.Engine.{IsBehind}
 use Rattle.iv_store.specs.Store.{IsStored, Store, at, database_of}
 use Rattle.iv_store.specs.Taken.{AreGivenMore}
-use Rattle.iv_store.proofs.SubscriptionViews.{lists_behind, stands_behind}
-use Rattle.iv_store.proofs.PreparedForReaders.{no_change}
+use Rattle.iv_store.proofs.SubscriptionViews.{lists_behind, Stands-IsStored}
+use Rattle.iv_store.proofs.PreparedForReaders.{change_at-not_changed}
 use Rattle.iv_engine.proofs.WriteSteps.{write_left}
 use Rattle.iv_engine.specs.Stepped.{is_write}
 use Rattle.iv_engine.specs.Summed.{AreSumsOf, AreWritten}
 use Rattle.iv_engine.specs.declared.sums.Sums.{Sums}
 
 -- nothing yet
-pub none_written : (e : Store) (given : Given) → ((t : ℕ) → given t ≡ []) → AreWritten e given [] e
-none_written e given none = record {
+pub AreWritten-none : (e : Store) (given : Given) → ((t : ℕ) → given t ≡ []) → AreWritten e given [] e
+AreWritten-none e given none = record {
   cap = refl;
   rights = refl;
   catalog = refl;
@@ -84,7 +84,7 @@ module _ (before d : Store) (given : Given) (tables : List ℕ) (w : AreWritten 
       (rows : (t : ℕ) → SameZ (rows_of n.tables t) (change_at changes t ++ rows_of d.tables t)) where
     none_more : (t : ℕ) → list_any (λ s. t == s) tables ≡ false → list_any (λ s. t == s) (map (λ c. c.rel) changes) ≡ false → more t ≡ []
     none_more t a b = empty (more t) (sym (rows_in-IsZSet (more t) (m.zsets t)) ∙ rows_in-SameZ (more t) []
-        (λ q. m.same t q ∙ (λ i. weight_of (no_change t changes b i ++ w.others t a i) q)))
+        (λ q. m.same t q ∙ (λ i. weight_of (change_at-not_changed t changes b i ++ w.others t a i) q)))
 
     pub more_written : AreWritten before more (tables ++ map (λ c. c.rel) changes) n
     more_written = record {
@@ -116,12 +116,12 @@ module _ (before d : Store) (given : Given) (tables : List ℕ) (w : AreWritten 
 
 -- ---- the tables of changes
 
-pub none_noted : {X : Type 0} (f : X → ℕ) (xs : List X) (ts : List ℕ) → ts ≡ ts ++ map f (take 0 xs)
-none_noted f xs ts = sym (append-nil ts)
+pub append-map_take_none : {X : Type 0} (f : X → ℕ) (xs : List X) (ts : List ℕ) → ts ≡ ts ++ map f (take 0 xs)
+append-map_take_none f xs ts = sym (append-nil ts)
 
-pub one_noted : {X : Type 0} (f : X → ℕ) (xs : List X) (i : ℕ) (x : X) (y : ℕ) (base ts new : List ℕ) → i < length xs → x ≡ get_or xs i x → ts ≡ base ++ map f (take i xs) → y ≡ f x → new ≡ ts ++ y ∷ []
+pub append-map_take_next : {X : Type 0} (f : X → ℕ) (xs : List X) (i : ℕ) (x : X) (y : ℕ) (base ts new : List ℕ) → i < length xs → x ≡ get_or xs i x → ts ≡ base ++ map f (take i xs) → y ≡ f x → new ≡ ts ++ y ∷ []
     → new ≡ base ++ map f (take (i + 1) xs)
-one_noted f xs i x y base ts new low at so_far one is =
+append-map_take_next f xs i x y base ts new low at so_far one is =
     is ∙ (λ j. so_far j ++ one j ∷ []) ∙ append_assoc base (map f (take i xs)) (f x ∷ [])
     ∙ ap (λ zs. base ++ zs) (sym (map-append f (take i xs) (x ∷ [])) ∙ sym (ap (map f) (take_more xs i x low ∙ ap (λ z. take i xs ++ z ∷ []) (sym at))))
 
@@ -138,7 +138,7 @@ module _ (before e one : Store) (given : Given) (tables : List ℕ) (n : ℕ) (a
   T = lists_behind e
 
   stands : Stands T e.tables
-  stands = stands_behind e stored
+  stands = Stands-IsStored e stored
 
   pub begun_sums : (role : Name) → IsAccepted e n (begin role) a one → AreWritten before given tables e → AreWritten before given tables one
   begun_sums role k w = kept_sums before e one given tables (settled (begin role) (after (at e T) n (begin role))) (k.left T stands) refl refl refl stands w
@@ -155,33 +155,33 @@ module _ (before e one : Store) (given : Given) (tables : List ℕ) (n : ℕ) (a
 
 -- ---- acts of the code
 
-pub on_ok : {A E : Type 0} (r : Result A E) (P : Type 0) → P → OnOk r P
-on_ok (Ok a) P p = p
-on_ok (Err x) P p = tt
+pub OnOk-whatever : {A E : Type 0} (r : Result A E) (P : Type 0) → P → OnOk r P
+OnOk-whatever (Ok a) P p = p
+OnOk-whatever (Err x) P p = tt
 
 -- one that is no write
-pub no_write : (a : Act) → ((entries : Vec Entry) → a ≡ Write entries → ⊥) → is_write (act_of a) ≡ true → ⊥
-no_write (Begin role) n h = cc
-no_write Finish n h = cc
-no_write (CreateRole name) n h = cc
-no_write (CreateTable name owner columns) n h = cc
-no_write (CreateView name owner query) n h = cc
-no_write (Grant rel privileges grantee) n h = cc
-no_write (Revoke rel privileges grantee) n h = cc
-no_write (GrantRole role to) n h = cc
-no_write (RevokeRole role to) n h = cc
-no_write (RowSecurity rel enable force) n h = cc
-no_write (CreatePolicy policy) n h = cc
-no_write (DropPolicy rel name) n h = cc
-no_write (Write entries) n h = n entries refl
-no_write (Subscribe rel) n h = cc
-no_write (Unsubscribe sub) n h = cc
+pub not_is_write-act_of : (a : Act) → ((entries : Vec Entry) → a ≡ Write entries → ⊥) → is_write (act_of a) ≡ true → ⊥
+not_is_write-act_of (Begin role) n h = cc
+not_is_write-act_of Finish n h = cc
+not_is_write-act_of (CreateRole name) n h = cc
+not_is_write-act_of (CreateTable name owner columns) n h = cc
+not_is_write-act_of (CreateView name owner query) n h = cc
+not_is_write-act_of (Grant rel privileges grantee) n h = cc
+not_is_write-act_of (Revoke rel privileges grantee) n h = cc
+not_is_write-act_of (GrantRole role to) n h = cc
+not_is_write-act_of (RevokeRole role to) n h = cc
+not_is_write-act_of (RowSecurity rel enable force) n h = cc
+not_is_write-act_of (CreatePolicy policy) n h = cc
+not_is_write-act_of (DropPolicy rel name) n h = cc
+not_is_write-act_of (Write entries) n h = n entries refl
+not_is_write-act_of (Subscribe rel) n h = cc
+not_is_write-act_of (Unsubscribe sub) n h = cc
 
 -- what an answered write makes of the sums, where it was one that passed
-pub noted : (e two : Store) (s t : Sums) (n : ℕ) (es : List Entry) (changes : List Change) → IsStored e → Passes (database_of e) n es changes → (r : Result Answer Stop) → IsStep e n (write es) r two
+pub AreSumsOf-IsStep : (e two : Store) (s t : Sums) (n : ℕ) (es : List Entry) (changes : List Change) → IsStored e → Passes (database_of e) n es changes → (r : Result Answer Stop) → IsStep e n (write es) r two
     → AreGivenMore (change_in s.deltas) changes (change_in t.deltas) → t.tables.items ≡ s.tables.items ++ map (λ c. c.rel) changes → t.others ≡ s.others
     → OnOk r ((before : Store) → IsDatabase (database_of before) → AreSumsOf before s e → AreSumsOf before t two)
-noted e two s t n es changes stored p (Err x) k m tables others = tt
-noted e two s t n es changes stored p (Ok a) k m tables others = λ before d h writes.
+AreSumsOf-IsStep e two s t n es changes stored p (Err x) k m tables others = tt
+AreSumsOf-IsStep e two s t n es changes stored p (Ok a) k m tables others = λ before d h writes.
     subst (λ ts. AreWritten before (change_in t.deltas) ts two) (sym tables)
     (write_sums before e two (change_in s.deltas) s.tables.items n a stored es changes p k (change_in t.deltas) m (h (sym others ∙ writes)))

@@ -31,8 +31,8 @@ use Rattle.iv_machine.specs.State.{rel_of}
 use Rattle.iv_store.specs.Store.{database_of, with_database, IsRoleCircuit, IsSoundStore, Store}
 use Rattle.iv_engine.specs.Restricted.{is_user, names_user, IsHidden, IsRestricted}
 use Rattle.iv_store.specs.Turned.{IsNarrowed}
-use Rattle.iv_readers.proofs.Lists.{all_map}
-use Rattle.iv_engine.proofs.GuardChanges.{drop_guards, guard_is, guarded}
+use Rattle.iv_readers.proofs.Lists.{AllByRecursion-map}
+use Rattle.iv_engine.proofs.GuardChanges.{IsGuarding-drop_policy, guard_is, guarded}
 
 -- ---- conditions that do not read the name of the user
 
@@ -245,7 +245,7 @@ module _ (e : Store) (t : ℕ) (name : Name) (c : Condition) (each : AllByRecurs
       self n = grind (arith, nat_tests)
 
   pub widened : IsSoundStore e → AllByRecursion (IsNarrowed (guarded t (dropped name) e) (Some h)) e.circuits
-  widened sound = all_map (IsRoleCircuit e) (IsNarrowed (guarded t (dropped name) e) (Some h)) e.circuits
+  widened sound = AllByRecursion-map (IsRoleCircuit e) (IsNarrowed (guarded t (dropped name) e) (Some h)) e.circuits
       (λ k i. record {
         rights = e.known.rights;
         is = i.is;
@@ -260,7 +260,7 @@ pub policy_widens : (e u : Store) (d : Database) (n : ℕ) (rel name : Name) (is
     → (c : Condition) → IsRestricted e rel name c → (h : HiddenRows) → IsHidden (with_database d u) table.0 (Some c) h
     → AllByRecursion (IsNarrowed (with_database d u) (Some h)) (with_database d u).circuits
 policy_widens e u d n rel name is s table told c asked h found =
-    let after = guard_is e u d n (drop_policy rel name) rel is (drop_guards e n rel name) s table told in
+    let after = guard_is e u d n (drop_policy rel name) rel is (IsGuarding-drop_policy e n rel name) s table told in
     let t : rel_of e.catalog rel ≡ table.0 = ap (λ (v : Store). rel_of v.catalog rel) (sym is) ∙ told.1 in
     let same : found.condition ≡ c = own c found.condition found.asked in
     subst (λ (v : Store). AllByRecursion (IsNarrowed v (Some h)) v.circuits) (sym after)
@@ -284,28 +284,29 @@ if_some_as f P None h = tt
 if_some_as f P (Some x) h = h
 
 -- the same by the predicate that was found, and of rows that are lent
-pub rows_brought : {A B : Type 0} (now : B → HiddenRows) (l : Option B) (condition : A → Condition) (found : Option A) (hidden : Option HiddenRows) → option_map now l ≡ hidden
+pub IsNarrowed-drop_policy : {A B : Type 0} (now : B → HiddenRows) (l : Option B) (condition : A → Condition) (found : Option A) (hidden : Option HiddenRows) → option_map now l ≡ hidden
     → (e u : Store) (d : Database) (n : ℕ) (rel name : Name) (is : u ≡ e) (s : IsSoundStore e) (table : RelId) → IsGuarded (database_of u) n (drop_policy rel name) rel (Ok table) d
     → IfSome found (λ p. IsRestricted e rel name (condition p)) → IfSome hidden (IsHidden (with_database d u) table.0 (option_map condition found))
     → is_some hidden ≡ true → AllByRecursion (IsNarrowed (with_database d u) (option_map now l)) (with_database d u).circuits
-rows_brought now l condition found hidden lent e u d n rel name is s table told r h some =
+IsNarrowed-drop_policy now l condition found hidden lent e u d n rel name is s table told r h some =
     subst (λ (o : Option HiddenRows). AllByRecursion (IsNarrowed (with_database d u) o) (with_database d u).circuits) (sym lent)
     (policy_brings e u d n rel name is s table told (option_map condition found) (if_some_as condition (IsRestricted e rel name) found r) hidden h some)
 
 -- ---- the condition, and the rows, by what calls answered
 
-pub restricted_by : (e : Store) (k : Access) (rel name : Name) (t : ℕ) (u c : Condition) → k ≡ e.known → rel_of e.catalog rel ≡ t → c ≡ u
+pub IsRestricted-policies_of : (e : Store) (k : Access) (rel name : Name) (t : ℕ) (u c : Condition) → k ≡ e.known → rel_of e.catalog rel ≡ t → c ≡ u
     → AllByRecursion (IsRestriction name u) (policies_of (slice_get k.rights.guards t)) → names_user u ≡ false → IsRestricted e rel name c
-restricted_by e k rel name t u c known number same each plain = record {
+IsRestricted-policies_of e k rel name t u c known number same each plain = record {
   each = subst (λ (x : Condition). AllByRecursion (IsRestriction name x) (policies_of (slice_get e.known.rights.guards (rel_of e.catalog rel)))) (sym same)
       (subst (λ (n : ℕ). AllByRecursion (IsRestriction name u) (policies_of (slice_get e.known.rights.guards n))) (sym number)
       (subst (λ (x : Access). AllByRecursion (IsRestriction name u) (policies_of (slice_get x.rights.guards t))) known each));
   plain = ap names_user same ∙ plain;
 }
 
-pub hidden_by : (e : Store) (ts : List Table) (t : ℕ) (h : HiddenRows) (asked : Option Condition) (c : Condition) → ts ≡ e.tables → h.table ≡ t → asked ≡ Some c
+pub IsHidden-filter : (e : Store) (ts : List Table) (t : ℕ) (h : HiddenRows) (asked : Option Condition) (c : Condition) → ts ≡ e.tables → h.table ≡ t
+    → asked ≡ Some c
     → SameZ h.rows (filter (λ x. not (holds c [] x.0)) (rows_of ts t)) → IsHidden e t asked h
-hidden_by e ts t h asked c tables here is rows = record {
+IsHidden-filter e ts t h asked c tables here is rows = record {
   table = here;
   condition = c;
   asked = is;

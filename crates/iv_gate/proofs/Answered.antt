@@ -7,7 +7,7 @@ use Rattle.iv_clients.specs.Names.{limits, place_text}
 use Rattle.iv_once.specs.Names.{Ask, Known, Limits, Named, Names, Own, Place, carry, by_count, by_found, find_named, is_over, is_place, learned, named, own_of, spent_by, spent_more, verdict, with_entry, Verdict}
 use Rattle.iv_once.specs.Names as verdicts
 use Rattle.iv_once.specs.Laws.{times, Among}
-use Rattle.iv_once.proofs.Lists.{and_both, itself, le_true, lt_false, same_bytes, same_place, some_is_none, take_less, zero_more, among_take, is_place_itself}
+use Rattle.iv_once.proofs.Lists.{and-both_true, bytes_eq-itself, le-nat_le, le-nat_lt_false, same-bytes_eq, same-is_place, not_None-Some, take-take_more, plus-zero_left, Among-take, is_place-itself}
 use Rattle.iv_gate.specs.Gate as gates
 use Rattle.iv_gate.specs.Replies as replies
 use Rattle.iv_gate.specs.Arriving as arriving
@@ -16,7 +16,7 @@ use Rattle.iv_gate.specs.Gate.{Gate, known_by, known_of, place_of, spent_in, Hea
 use Rattle.iv_gate.specs.Replies.{count_of, place_behind, IsAnswer, IsUndecided, many, names_by, refused_often}
 use Rattle.std.proofs.lemmas.List.Elements.{Contains-append_left, Contains-append_right, Contains-push}
 use Rattle.std.proofs.lemmas.Bool.{ltb-true, false≢true}
-use Rattle.iv_once.proofs.Kept.{found}
+use Rattle.iv_once.proofs.Kept.{Among-find_named}
 use Rattle.std.proofs.lemmas.List.Sums.{sum_by-cons}
 
 abbrev pub names_of : List ℕ → List Named → List Named
@@ -28,7 +28,7 @@ own_same : (e : Named) (k : Known) (holder : List ℕ) → bytes_eq e.ask.holder
 own_same e k holder t =
     let o = own_of k e.ask.holder in
     ap (λ b. unwrap_or (cond b (Some (with_entry limits.names e o)) (k.owns holder)) (record { epoch = k.epoch; count = 0; recent = [] })) t
-    ∙ ap (λ z. with_entry limits.names e (own_of k z)) (same_bytes e.ask.holder holder t)
+    ∙ ap (λ z. with_entry limits.names e (own_of k z)) (same-bytes_eq e.ask.holder holder t)
 
 own_other : (e : Named) (k : Known) (holder : List ℕ) → bytes_eq e.ask.holder holder ≡ false → own_of (learned limits (named e) k) holder ≡ own_of k holder
 own_other e k holder t =
@@ -40,7 +40,7 @@ own_other e k holder t =
 -- j entries of the holder came after one with the name, whose place was not ahead then: while that is kept, it is among the last ones
 pub record IsUsed (name : List ℕ) (at : Place) (j : ℕ) (o : Own) : Type 0 where
   pub count : at.count + (1 + j) ≤ o.count
-  pub found : j < 64 → is_some (find_named name (take (suc j) o.recent)) ≡ true
+  pub Among-find_named : j < 64 → is_some (find_named name (take (suc j) o.recent)) ≡ true
 
 found_here : (name : List ℕ) (e : Named) (es : List Named) → bytes_eq e.ask.name name ≡ true → is_some (find_named name (e ∷ es)) ≡ true
 found_here name e es t = ap (λ b. is_some (cond b (Some e) (find_named name es))) t
@@ -63,13 +63,13 @@ found_in_more name (suc k) (e ∷ es) h = by (bytes_eq e.ask.name name) h (λ g.
     by false g more = more g
 
 used_first : (e : Named) (o : Own) → e.ask.at.count ≤ o.count → IsUsed e.ask.name e.ask.at 0 (with_entry limits.names e o)
-used_first e o h = record { count = omega (arith, h); found = λ l. found_here e.ask.name e [] (itself e.ask.name) }
+used_first e o h = record { count = omega (arith, h); found = λ l. found_here e.ask.name e [] (bytes_eq-itself e.ask.name) }
 
 used_more : (name : List ℕ) (at : Place) (j : ℕ) (e : Named) (o : Own) → IsUsed name at j o → IsUsed name at (suc j) (with_entry limits.names e o)
 used_more name at j e o u = record {
   count = let c = u.count in omega (arith, c);
   found = λ l. found_behind name e (take (suc j) (take 63 o.recent))
-      (ap (λ z. is_some (find_named name z)) (take_less (suc j) 63 o.recent (omega (arith, l))) ∙ u.found (omega (arith, l)));
+      (ap (λ z. is_some (find_named name z)) (take-take_more (suc j) 63 o.recent (omega (arith, l))) ∙ u.found (omega (arith, l)));
 }
 
 true_le : (m n : ℕ) → m ≤ n → nat_le m n ≡ true
@@ -83,8 +83,8 @@ no_both false f g = cc f
 used_is_known : (e : Named) (k : Known) (j : ℕ) → IsUsed e.ask.name e.ask.at j (own_of k e.ask.holder) → is_new k e.ask ≡ true → ⊥
 used_is_known e k j u h =
     let o = own_of k e.ask.holder in let early = nat_le e.ask.at.count o.count in let late = nat_le o.count (e.ask.at.count + 64) in
-    let parts = and_both (not (is_some (find_named e.ask.name o.recent))) (early && late) h in
-    let l : o.count ≤ e.ask.at.count + 64 = le_true o.count (e.ask.at.count + 64) (and_both early late parts.1).1 in
+    let parts = and-both_true (not (is_some (find_named e.ask.name o.recent))) (early && late) h in
+    let l : o.count ≤ e.ask.at.count + 64 = le-nat_le o.count (e.ask.at.count + 64) (and-both_true early late parts.1).1 in
     let c = u.count in
     no_both (is_some (find_named e.ask.name o.recent)) (found_in_more e.ask.name (suc j) o.recent (u.found (omega (arith, c, l)))) parts.0
 
@@ -101,12 +101,12 @@ left_in_front e es rest n k holder name at j h u = by (is_new k e.ask) refl h
     here : first_known (n + 1) es more ≡ None → is_new k e.ask ≡ true → bytes_eq e.ask.holder holder ≡ true → (b : Bool) → (bytes_eq e.ask.name name && is_place e.ask.at at) ≡ b
         → cond b 1 0 + times name at (names_of holder es) ≡ 0
     here g t q true r =
-        let p = and_both (bytes_eq e.ask.name name) (is_place e.ask.at at) r in
-        let at_one : IsUsed e.ask.name at j (own_of k holder) = subst (λ z. IsUsed z at j (own_of k holder)) (sym (same_bytes e.ask.name name p.0)) u in
-        let placed : IsUsed e.ask.name e.ask.at j (own_of k holder) = subst (λ z. IsUsed e.ask.name z j (own_of k holder)) (sym (same_place e.ask.at at p.1)) at_one in
-        absurd (used_is_known e k j (subst (λ z. IsUsed e.ask.name e.ask.at j (own_of k z)) (sym (same_bytes e.ask.holder holder q)) placed) t)
+        let p = and-both_true (bytes_eq e.ask.name name) (is_place e.ask.at at) r in
+        let at_one : IsUsed e.ask.name at j (own_of k holder) = subst (λ z. IsUsed z at j (own_of k holder)) (sym (same-bytes_eq e.ask.name name p.0)) u in
+        let placed : IsUsed e.ask.name e.ask.at j (own_of k holder) = subst (λ z. IsUsed e.ask.name z j (own_of k holder)) (sym (same-is_place e.ask.at at p.1)) at_one in
+        absurd (used_is_known e k j (subst (λ z. IsUsed e.ask.name e.ask.at j (own_of k z)) (sym (same-bytes_eq e.ask.holder holder q)) placed) t)
     here g t q false r =
-        zero_more (times name at (names_of holder es))
+        plus-zero_left (times name at (names_of holder es))
         ∙ rest (n + 1) more holder name at (suc j) g (subst (IsUsed name at (suc j)) (sym (own_same e k holder q)) (used_more name at j e (own_of k holder) u))
 
     whose : first_known (n + 1) es more ≡ None → is_new k e.ask ≡ true → (d : Bool) → bytes_eq e.ask.holder holder ≡ d → times name at (cond d (e ∷ names_of holder es) (names_of holder es)) ≡ 0
@@ -115,7 +115,7 @@ left_in_front e es rest n k holder name at j h u = by (is_new k e.ask) refl h
 
     by : (b : Bool) → is_new k e.ask ≡ b → cond b (first_known (n + 1) es more) (Some (arriving.not_new n)) ≡ None → times name at (names_of holder (e ∷ es)) ≡ 0
     by true t g = whose g t (bytes_eq e.ask.holder holder) refl
-    by false t g = absurd (some_is_none (arriving.not_new n) g)
+    by false t g = absurd (not_None-Some (arriving.not_new n) g)
 
 none_left : (es : List Named) → NoneLeft es
 none_left [] n k holder name at j h u = refl
@@ -133,15 +133,15 @@ once_in_front e es rest n k holder name at h = by (is_new k e.ask) refl h
     early : is_new k e.ask ≡ true → e.ask.at.count ≤ (own_of k e.ask.holder).count
     early t =
         let o = own_of k e.ask.holder in let a = nat_le e.ask.at.count o.count in let b = nat_le o.count (e.ask.at.count + 64) in
-        le_true e.ask.at.count o.count (and_both a b (and_both (not (is_some (find_named e.ask.name o.recent))) (a && b) t).1).0
+        le-nat_le e.ask.at.count o.count (and-both_true a b (and-both_true (not (is_some (find_named e.ask.name o.recent))) (a && b) t).1).0
 
     here : first_known (n + 1) es more ≡ None → is_new k e.ask ≡ true → bytes_eq e.ask.holder holder ≡ true → (b : Bool) → (bytes_eq e.ask.name name && is_place e.ask.at at) ≡ b
         → cond b 1 0 + times name at (names_of holder es) ≤ 1
     here g t q true r =
-        let p = and_both (bytes_eq e.ask.name name) (is_place e.ask.at at) r in let o = own_of k holder in
-        let first : IsUsed e.ask.name e.ask.at 0 (with_entry limits.names e o) = used_first e o (subst (λ z. e.ask.at.count ≤ (own_of k z).count) (same_bytes e.ask.holder holder q) (early t)) in
-        let named_so : IsUsed name e.ask.at 0 (with_entry limits.names e o) = subst (λ z. IsUsed z e.ask.at 0 (with_entry limits.names e o)) (same_bytes e.ask.name name p.0) first in
-        let placed : IsUsed name at 0 (with_entry limits.names e o) = subst (λ z. IsUsed name z 0 (with_entry limits.names e o)) (same_place e.ask.at at p.1) named_so in
+        let p = and-both_true (bytes_eq e.ask.name name) (is_place e.ask.at at) r in let o = own_of k holder in
+        let first : IsUsed e.ask.name e.ask.at 0 (with_entry limits.names e o) = used_first e o (subst (λ z. e.ask.at.count ≤ (own_of k z).count) (same-bytes_eq e.ask.holder holder q) (early t)) in
+        let named_so : IsUsed name e.ask.at 0 (with_entry limits.names e o) = subst (λ z. IsUsed z e.ask.at 0 (with_entry limits.names e o)) (same-bytes_eq e.ask.name name p.0) first in
+        let placed : IsUsed name at 0 (with_entry limits.names e o) = subst (λ z. IsUsed name z 0 (with_entry limits.names e o)) (same-is_place e.ask.at at p.1) named_so in
         let none = none_left es (n + 1) more holder name at 0 g (subst (IsUsed name at 0) (sym (own_same e k holder q)) placed) in
         omega (arith, none)
     here g t q false r = let once = rest (n + 1) more holder name at g in omega (arith, once)
@@ -152,21 +152,22 @@ once_in_front e es rest n k holder name at h = by (is_new k e.ask) refl h
 
     by : (b : Bool) → is_new k e.ask ≡ b → cond b (first_known (n + 1) es more) (Some (arriving.not_new n)) ≡ None → times name at (names_of holder (e ∷ es)) ≤ 1
     by true t g = whose g t (bytes_eq e.ask.holder holder) refl
-    by false t g = absurd (some_is_none (arriving.not_new n) g)
+    by false t g = absurd (not_None-Some (arriving.not_new n) g)
 
 all_once : (es : List Named) → AreOnce es
 all_once [] n k holder name at h = omega arith
 all_once (e ∷ es) n k holder name at h = once_in_front e es (all_once es) n k holder name at h
 
-pub each_once : (n : ℕ) (es : List Named) (k : Known) (holder name : List ℕ) (at : Place) → first_known n es k ≡ None → times name at (names_of holder es) ≤ 1
-each_once n es k holder name at h = all_once es n k holder name at h
+pub le-times_first_known : (n : ℕ) (es : List Named) (k : Known) (holder name : List ℕ) (at : Place) → first_known n es k ≡ None
+    → times name at (names_of holder es) ≤ 1
+le-times_first_known n es k holder name at h = all_once es n k holder name at h
 
 -- ---- one name more
 
 -- names after names are new at their turns
-pub known_more : (n : ℕ) (es fs : List Named) (k : Known) → first_known n es k ≡ None → ((m : ℕ) → first_known m fs (known_by k es) ≡ None) → first_known n (es ++ fs) k ≡ None
-known_more n [] fs k h more = more n
-known_more n (e ∷ es) fs k h more = by (is_new k e.ask) h (λ g. known_more (n + 1) es fs (learned limits (named e) k) g more)
+pub first_known-append : (n : ℕ) (es fs : List Named) (k : Known) → first_known n es k ≡ None → ((m : ℕ) → first_known m fs (known_by k es) ≡ None) → first_known n (es ++ fs) k ≡ None
+first_known-append n [] fs k h more = more n
+first_known-append n (e ∷ es) fs k h more = by (is_new k e.ask) h (λ g. first_known-append (n + 1) es fs (learned limits (named e) k) g more)
   where
     by : (b : Bool) → cond b (first_known (n + 1) es (learned limits (named e) k)) (Some (arriving.not_new n)) ≡ None
         → (first_known (n + 1) es (learned limits (named e) k) ≡ None → first_known (n + 1) (es ++ fs) (learned limits (named e) k) ≡ None)
@@ -175,8 +176,8 @@ known_more n (e ∷ es) fs k h more = by (is_new k e.ask) h (λ g. known_more (n
     by false g go = g
 
 -- what is carried out is new
-pub carried_new : (n : Names) (a : Ask) → n.limits ≡ limits → verdict n a ≡ carry → is_new n.known a ≡ true
-carried_new n a same h = by (find_named a.name o.recent) refl h
+pub is_new-verdict : (n : Names) (a : Ask) → n.limits ≡ limits → verdict n a ≡ carry → is_new n.known a ≡ true
+is_new-verdict n a same h = by (find_named a.name o.recent) refl h
   where
     o : Own
     o = own_of n.known a.holder
@@ -190,8 +191,8 @@ carried_new n a same h = by (find_named a.name o.recent) refl h
     count f false true ahead l e g = cc g
     count f false false true l e g = cc g
     count f false false false l e g =
-        let early : nat_le a.at.count o.count ≡ true = true_le a.at.count o.count (lt_false o.count a.at.count e) in
-        let kept : o.count ≤ a.at.count + 64 = let z = lt_false (a.at.count + n.limits.names) o.count l in omega (arith, z, most) in
+        let early : nat_le a.at.count o.count ≡ true = true_le a.at.count o.count (le-nat_lt_false o.count a.at.count e) in
+        let kept : o.count ≤ a.at.count + 64 = let z = le-nat_lt_false (a.at.count + n.limits.names) o.count l in omega (arith, z, most) in
         λ i. not (is_some (f i)) && (early i && true_le o.count (a.at.count + 64) kept i)
 
     place : find_named a.name o.recent ≡ None → (b : Bool) → cond b (by_count n o a) verdicts.foreign ≡ carry → is_new n.known a ≡ true
@@ -244,26 +245,27 @@ pub count_is : (g : Gate) (holder : List ℕ) → (own_of (known_of g) holder).c
 count_is g holder = (known_own (names_in g.entries) (known_at g.head) holder).1 ∙ ap (λ (o : Own). o.count + length (names_of holder (names_in g.entries))) (own_at g.head holder)
 
 -- where its names stand, as laws say it
-pub place_is : (g : Gate) (holder : List ℕ) → place_text (place_of g holder) ≡ place_behind g holder 0
-place_is g holder =
+pub place_text-place_behind : (g : Gate) (holder : List ℕ) → place_text (place_of g holder) ≡ place_behind g holder 0
+place_text-place_behind g holder =
     let c : (own_of (known_of g) holder).count ≡ count_of g holder + 0 = let n = count_is g holder in omega (arith, n) in
     λ i. place_text (record { epoch = epoch_is g holder i; count = c i })
 
 -- ---- what is spent
 
-pub spent_is : (es : List Named) (holder : List ℕ) → spent_by (spent_in es) holder ≡ count_by (λ (e : Named). e.refused && bytes_eq e.ask.holder holder) es
-spent_is [] holder = refl
-spent_is (e ∷ es) holder = by e.refused (bytes_eq e.ask.holder holder) refl (spent_is es holder) (spent_is es e.ask.holder) ∙ sym (sum_by-cons (λ (x : Named). cond (x.refused && bytes_eq x.ask.holder holder) 1 0) e es)
+pub spent_by-count_by : (es : List Named) (holder : List ℕ)
+    → spent_by (spent_in es) holder ≡ count_by (λ (e : Named). e.refused && bytes_eq e.ask.holder holder) es
+spent_by-count_by [] holder = refl
+spent_by-count_by (e ∷ es) holder = by e.refused (bytes_eq e.ask.holder holder) refl (spent_by-count_by es holder) (spent_by-count_by es e.ask.holder) ∙ sym (sum_by-cons (λ (x : Named). cond (x.refused && bytes_eq x.ask.holder holder) 1 0) e es)
   where
     count : List ℕ → ℕ
     count h = count_by (λ (x : Named). x.refused && bytes_eq x.ask.holder h) es
 
     by : (r d : Bool) → bytes_eq e.ask.holder holder ≡ d → spent_by (spent_in es) holder ≡ count holder → spent_by (spent_in es) e.ask.holder ≡ count e.ask.holder
         → spent_by (spent_more (spent_in es) (cond r (Some e.ask.holder) None)) holder ≡ cond (r && d) 1 0 + count holder
-    by false d q h k = h ∙ sym (zero_more (count holder))
-    by true false q h k = ap (λ b. unwrap_or (cond b (Some (spent_by (spent_in es) e.ask.holder + 1)) (spent_in es holder)) 0) q ∙ (h ∙ sym (zero_more (count holder)))
+    by false d q h k = h ∙ sym (plus-zero_left (count holder))
+    by true false q h k = ap (λ b. unwrap_or (cond b (Some (spent_by (spent_in es) e.ask.holder + 1)) (spent_in es holder)) 0) q ∙ (h ∙ sym (plus-zero_left (count holder)))
     by true true q h k =
-        let same : count e.ask.holder ≡ count holder = ap count (same_bytes e.ask.holder holder q) in
+        let same : count e.ask.holder ≡ count holder = ap count (same-bytes_eq e.ask.holder holder q) in
         ap (λ b. unwrap_or (cond b (Some (spent_by (spent_in es) e.ask.holder + 1)) (spent_in es holder)) 0) q ∙ (let f : spent_by (spent_in es) e.ask.holder + 1 ≡ 1 + count holder = omega (arith, k, same) in f)
 
 -- ---- why a request gets its verdict
@@ -277,8 +279,8 @@ pub data Reason (n : Names) (a : Ask) : Verdict → Type 0 where
   is_ahead : nat_lt (own_of n.known a.holder).count a.at.count ≡ true → Reason n a verdicts.ahead
   is_carried : is_over n a.holder ≡ false → Reason n a carry
 
-pub reason_of : (n : Names) (a : Ask) → Reason n a (verdict n a)
-reason_of n a = by (find_named a.name (own_of n.known a.holder).recent) refl
+pub Reason-verdict : (n : Names) (a : Ask) → Reason n a (verdict n a)
+Reason-verdict n a = by (find_named a.name (own_of n.known a.holder).recent) refl
   where
     o : Own
     o = own_of n.known a.holder
@@ -315,7 +317,7 @@ among_known (e ∷ es) k holder x h = by (bytes_eq e.ask.holder holder) refl (am
 
     by : (d : Bool) → bytes_eq e.ask.holder holder ≡ d → Among x (own_of (learned limits (named e) k) holder).recent ⊎ Among x (names_of holder es)
         → Among x (own_of k holder).recent ⊎ Among x (cond d (e ∷ names_of holder es) (names_of holder es))
-    by true q (inl i) = here (among_take 64 x (e ∷ (own_of k holder).recent) (subst (λ (o : Own). Among x o.recent) (own_same e k holder q) i))
+    by true q (inl i) = here (Among-take 64 x (e ∷ (own_of k holder).recent) (subst (λ (o : Own). Among x o.recent) (own_same e k holder q) i))
     by true q (inr i) = inr (inr i)
     by false q (inl i) = inl (subst (λ (o : Own). Among x o.recent) (own_other e k holder q) i)
     by false q (inr i) = inr i
@@ -346,34 +348,36 @@ contains_among x (y ∷ ys) (inr h) = Contains-append_right (y ∷ []) ys x (con
 -- a request is the one that was entered
 same_ask : (a : Ask) (x : Named) → bytes_eq x.ask.holder a.holder ≡ true → x.ask.name ≡ a.name → (is_place x.ask.at a.at && bytes_eq x.ask.digest a.digest) ≡ true → x.ask ≡ a
 same_ask a x h n t =
-    let p = and_both (is_place x.ask.at a.at) (bytes_eq x.ask.digest a.digest) t in
-    let holder = same_bytes x.ask.holder a.holder h in let at = same_place x.ask.at a.at p.0 in let digest = same_bytes x.ask.digest a.digest p.1 in
+    let p = and-both_true (is_place x.ask.at a.at) (bytes_eq x.ask.digest a.digest) t in
+    let holder = same-bytes_eq x.ask.holder a.holder h in let at = same-is_place x.ask.at a.at p.0 in let digest = same-bytes_eq x.ask.digest a.digest p.1 in
     λ i. record { holder = holder i; name = n i; at = at i; digest = digest i }
 
-pub again_said : (g : Gate) (a : Ask) (x : Named) → find_named a.name (own_of (known_of g) a.holder).recent ≡ Some x → (is_place x.ask.at a.at && bytes_eq x.ask.digest a.digest) ≡ true → IsAnswer g.entries a x.answer
-again_said g a x f t =
-    let m = found a.name (own_of (known_of g) a.holder).recent x f in
+pub IsAnswer-find_named : (g : Gate) (a : Ask) (x : Named) → find_named a.name (own_of (known_of g) a.holder).recent ≡ Some x → (is_place x.ask.at a.at && bytes_eq x.ask.digest a.digest) ≡ true → IsAnswer g.entries a x.answer
+IsAnswer-find_named g a x f t =
+    let m = Among-find_named a.name (own_of (known_of g) a.holder).recent x f in
     let p = among_filtered (λ (e : Named). bytes_eq e.ask.holder a.holder) x (names_in g.entries) (kept_named g a.holder x m.0) in
     let same = same_ask a x p.1 m.1 t in
     (x.refused, subst (λ z. Contains (names_in g.entries) (record { ask = z; refused = x.refused; answer = x.answer })) same (contains_among x (names_in g.entries) p.0))
 
-pub another_said : (g : Gate) (a : Ask) (x : Named) → find_named a.name (own_of (known_of g) a.holder).recent ≡ Some x → (is_place x.ask.at a.at && bytes_eq x.ask.digest a.digest) ≡ false → IsUndecided g a 101
-another_said g a x f t =
-    let m = found a.name (own_of (known_of g) a.holder).recent x f in
+pub IsUndecided-other_digest : (g : Gate) (a : Ask) (x : Named) → find_named a.name (own_of (known_of g) a.holder).recent ≡ Some x → (is_place x.ask.at a.at && bytes_eq x.ask.digest a.digest) ≡ false → IsUndecided g a 101
+IsUndecided-other_digest g a x f t =
+    let m = Among-find_named a.name (own_of (known_of g) a.holder).recent x f in
     replies.another x (contains_among x (names_by g a.holder) (kept_named g a.holder x m.0)) m.1 (λ h.
-    false≢true (sym t ∙ (ap (λ (z : Ask). is_place z.at a.at && bytes_eq z.digest a.digest) h ∙ (λ i. is_place_itself a.at i && itself a.digest i))))
+    false≢true (sym t ∙ (ap (λ (z : Ask). is_place z.at a.at && bytes_eq z.digest a.digest) h ∙ (λ i. is_place-itself a.at i && bytes_eq-itself a.digest i))))
 
-pub foreign_said : (g : Gate) (a : Ask) → bytes_eq a.at.epoch (own_of (known_of g) a.holder).epoch ≡ false → IsUndecided g a 103
-foreign_said g a t = replies.foreign (λ h. false≢true (sym t ∙ (ap (bytes_eq a.at.epoch) (epoch_is g a.holder ∙ sym h) ∙ itself a.at.epoch)))
+pub IsUndecided-other_epoch : (g : Gate) (a : Ask) → bytes_eq a.at.epoch (own_of (known_of g) a.holder).epoch ≡ false → IsUndecided g a 103
+IsUndecided-other_epoch g a t =
+    replies.foreign (λ h. false≢true (sym t ∙ (ap (bytes_eq a.at.epoch) (epoch_is g a.holder ∙ sym h) ∙ bytes_eq-itself a.at.epoch)))
 
-pub late_said : (g : Gate) (a : Ask) → nat_lt (a.at.count + limits.names) (own_of (known_of g) a.holder).count ≡ true → IsUndecided g a 102
-late_said g a t = replies.late (subst (λ n. a.at.count + 64 < n) (count_is g a.holder) (ltb-true (a.at.count + 64) (own_of (known_of g) a.holder).count t))
+pub IsUndecided-late : (g : Gate) (a : Ask) → nat_lt (a.at.count + limits.names) (own_of (known_of g) a.holder).count ≡ true → IsUndecided g a 102
+IsUndecided-late g a t =
+    replies.late (subst (λ n. a.at.count + 64 < n) (count_is g a.holder) (ltb-true (a.at.count + 64) (own_of (known_of g) a.holder).count t))
 
-pub ahead_said : (g : Gate) (a : Ask) → nat_lt (own_of (known_of g) a.holder).count a.at.count ≡ true → IsUndecided g a 104
-ahead_said g a t = replies.ahead (subst (λ n. n < a.at.count) (count_is g a.holder) (ltb-true (own_of (known_of g) a.holder).count a.at.count t))
+pub IsUndecided-ahead : (g : Gate) (a : Ask) → nat_lt (own_of (known_of g) a.holder).count a.at.count ≡ true → IsUndecided g a 104
+IsUndecided-ahead g a t = replies.ahead (subst (λ n. n < a.at.count) (count_is g a.holder) (ltb-true (own_of (known_of g) a.holder).count a.at.count t))
 
-pub over_said : (g : Gate) (a : Ask) → is_over (gates.names_of g) a.holder ≡ true → IsUndecided g a 104
-over_said g a t = by (nat_le limits.refusals spent) (nat_le limits.holders (known_of g).holders) ((known_of g).owns a.holder) refl refl refl t
+pub IsUndecided-is_over : (g : Gate) (a : Ask) → is_over (gates.names_of g) a.holder ≡ true → IsUndecided g a 104
+IsUndecided-is_over g a t = by (nat_le limits.refusals spent) (nat_le limits.holders (known_of g).holders) ((known_of g).owns a.holder) refl refl refl t
   where
     spent : ℕ
     spent = spent_by (spent_in (names_in (drop g.forgiven g.entries))) a.holder
@@ -382,7 +386,7 @@ over_said g a t = by (nat_le limits.refusals spent) (nat_le limits.holders (know
     none e = sym (count_is g a.holder) ∙ ap (λ o. (unwrap_or {T = Own} o (record { epoch = (known_of g).epoch; count = 0; recent = [] })).count) e
 
     by : (r h : Bool) (o : Option Own) → nat_le limits.refusals spent ≡ r → nat_le limits.holders (known_of g).holders ≡ h → (known_of g).owns a.holder ≡ o → (r || (h && not (is_some o))) ≡ true → IsUndecided g a 104
-    by true h o e f k u = refused_often (subst (λ n. limits.refusals ≤ n) (spent_is (names_in (drop g.forgiven g.entries)) a.holder) (le_true limits.refusals spent e))
-    by false true None e f k u = many (le_true limits.holders (known_of g).holders f) (none k)
+    by true h o e f k u = refused_often (subst (λ n. limits.refusals ≤ n) (spent_by-count_by (names_in (drop g.forgiven g.entries)) a.holder) (le-nat_le limits.refusals spent e))
+    by false true None e f k u = many (le-nat_le limits.holders (known_of g).holders f) (none k)
     by false true (Some o) e f k u = absurd (false≢true u)
     by false false o e f k u = absurd (false≢true u)

@@ -17,17 +17,17 @@ use Rattle.iv_clients.specs.Bounds.{most_subs}
 use Rattle.iv_clients.specs.Clients.{Client, Sub, answered, at_client, client_at, closing, followed_by, fresh, may_say, saying, told, told_one}
 use Rattle.iv_clients.specs.Feeds.{Feed, feed_for, room_for}
 use Rattle.iv_clients.specs.Journal.{Entry, said_by, shape_for, Request, claim_said}
-use Rattle.iv_clients.proofs.Slots.{at_same, one_some, some_is_none}
+use Rattle.iv_clients.proofs.Slots.{client_at-at_client, same-Some, not_None-Some}
 use Rattle.iv_gate.specs.Events.{Event, presented, message, gone, known, ticked, synced, handed, failed, happens, next, arrived, forgave}
 use Rattle.iv_gate.specs.Gate.{Gate, begun_for, closes, done_for, hears, seated, settles, swept, tells, asked_by, at_text, decided_elsewhere, entered, entries_of, may_have, names_of, reply_told}
 use Rattle.iv_gate.specs.Replies.{IsAnswered, IsClient, heard_by, is_opened, is_reply, reading_told, replies, told_by}
 use Rattle.iv_gate.specs.Seen.{IsClosed, has_ended, is_end_of}
-use Rattle.iv_gate.proofs.Growing.{drop_front}
-use Rattle.iv_gate.proofs.Places.{any_before, any_behind, get_last, get_more, none_opened, none_passes, replies_both, none_replied}
-use Rattle.iv_gate.proofs.Hearing.{Hears, ends_for, happens_apart, hears_same, is_own}
-use Rattle.iv_gate.proofs.Replying.{Answer, Behind, IsClosing, act_reply, asked, begun_reply, behind_settles, behind_swept, closed_own, first_reply, heard_answers, read_reply, said_reply, carried_reply, decided_reply, done_reply, shared_reply, verdict_reply}
-use Rattle.iv_gate.proofs.Touching.{alive as is_alive, is_gone, rests, touched}
-use Rattle.iv_gate.proofs.Shaping.{all_made, filter_none, told_fresh, test_of}
+use Rattle.iv_gate.proofs.Growing.{drop-append_front}
+use Rattle.iv_gate.proofs.Places.{list_any-append_front, list_any-append_back, slice_get-append_length, slice_get-append, filter-no_replies, not_nothing-filter, replies-append, replies-none}
+use Rattle.iv_gate.proofs.Hearing.{Hears, ends_for, Hears-happens, Hears-itself, is_own}
+use Rattle.iv_gate.proofs.Replying.{Answer, Behind, IsClosing, act_reply, asked, begun_reply, behind_settles, behind_swept, is_own-filter, first_reply, Answers-hears, read_reply, said_reply, carried_reply, decided_reply, done_reply, shared_reply, verdict_reply}
+use Rattle.iv_gate.proofs.Touching.{next-alive as is_alive, is_gone, next-dead, AreTouched-next}
+use Rattle.iv_gate.proofs.Shaping.{all_made, filter-all_false, told-fresh, cond-either}
 use Rattle.iv_once.specs.Names.{Ask, Verdict, verdict, carry, again, another, late, foreign, ahead, over}
 use Rattle.iv_clients.specs.Names.{Claim}
 use Rattle.iv_clients.specs.Tokens.{Token}
@@ -35,71 +35,73 @@ use Rattle.iv_gate.proofs.Stepping.{request_of}
 
 -- ---- what an event tells
 
-pub drop_text : (c d : Client) (more : List Told) → told d ≡ told c ++ more → told_by c d ≡ more
-drop_text c d more e = ap (drop (length (told c))) e ∙ drop_front (told c) more
+pub told_by-told_more : (c d : Client) (more : List Told) → told d ≡ told c ++ more → told_by c d ≡ more
+told_by-told_more c d more e = ap (drop (length (told c))) e ∙ drop-append_front (told c) more
 
 -- the event is the message
 pub record IsOwn (m : ℕ) (c : Client) (e : Event) (text : List ℕ) : Type 0 where
   pub event : e ≡ message m text
   pub says : may_say c ≡ true
 
-pub heard_is : (m : ℕ) (c : Client) (e : Event) (text : List ℕ) → heard_by m c e ≡ Some text → IsOwn m c e text
-heard_is m c (message n u) text h = by (n == m) (may_say c) refl refl h
+pub IsOwn-heard_by : (m : ℕ) (c : Client) (e : Event) (text : List ℕ) → heard_by m c e ≡ Some text → IsOwn m c e text
+IsOwn-heard_by m c (message n u) text h = by (n == m) (may_say c) refl refl h
   where
     by : (a b : Bool) → (n == m) ≡ a → may_say c ≡ b → cond (a && b) (Some u) None ≡ Some text → IsOwn m c (message n u) text
-    by true true e f g = record { event = (λ i. message (eqb-true n m e i) (one_some u text g i)); says = f }
-    by true false e f g = absurd (some_is_none text (sym g))
-    by false b e f g = absurd (some_is_none text (sym g))
-heard_is m c (presented n token) text h = absurd (some_is_none text (sym h))
-heard_is m c (gone n) text h = absurd (some_is_none text (sym h))
-heard_is m c (known tokens) text h = absurd (some_is_none text (sym h))
-heard_is m c ticked text h = absurd (some_is_none text (sym h))
-heard_is m c synced text h = absurd (some_is_none text (sym h))
-heard_is m c (handed n) text h = absurd (some_is_none text (sym h))
-heard_is m c (arrived st) text h = absurd (some_is_none text (sym h))
-heard_is m c forgave text h = absurd (some_is_none text (sym h))
-heard_is m c failed text h = absurd (some_is_none text (sym h))
+    by true true e f g = record { event = (λ i. message (eqb-true n m e i) (same-Some u text g i)); says = f }
+    by true false e f g = absurd (not_None-Some text (sym g))
+    by false b e f g = absurd (not_None-Some text (sym g))
+IsOwn-heard_by m c (presented n token) text h = absurd (not_None-Some text (sym h))
+IsOwn-heard_by m c (gone n) text h = absurd (not_None-Some text (sym h))
+IsOwn-heard_by m c (known tokens) text h = absurd (not_None-Some text (sym h))
+IsOwn-heard_by m c ticked text h = absurd (not_None-Some text (sym h))
+IsOwn-heard_by m c synced text h = absurd (not_None-Some text (sym h))
+IsOwn-heard_by m c (handed n) text h = absurd (not_None-Some text (sym h))
+IsOwn-heard_by m c (arrived st) text h = absurd (not_None-Some text (sym h))
+IsOwn-heard_by m c forgave text h = absurd (not_None-Some text (sym h))
+IsOwn-heard_by m c failed text h = absurd (not_None-Some text (sym h))
 
 abbrev pub OwnAnswer : Gate → ℕ → Client → List ℕ → Client → Type 0
 OwnAnswer g m c text d = Answer (asked g m text) (said_by text) (said_reply (asked g m text) c text (said_by text)) (saying text c) d
 
-pub heard_next : (g : Gate) (e : Event) (m : ℕ) (c : Client) (text : List ℕ) → g.dead ≡ false → client_at g.clients m ≡ Some c → IsOwn m c e text → next g e ≡ hears g m c text
-heard_next g e m c text live h o =
+pub next-IsOwn : (g : Gate) (e : Event) (m : ℕ) (c : Client) (text : List ℕ) → g.dead ≡ false → client_at g.clients m ≡ Some c → IsOwn m c e text → next g e ≡ hears g m c text
+next-IsOwn g e m c text live h o =
     is_alive g e live ∙ (ap (happens g) o.event
     ∙ (ap (λ x. if_some x g (λ b. cond (may_say b) (hears g m b text) g)) h ∙ ap (λ t. cond t (hears g m c text) g) o.says))
 
-pub own_answer : (g : Gate) (e : Event) (m : ℕ) (c d : Client) (text : List ℕ) → g.dead ≡ false → client_at g.clients m ≡ Some c → client_at (next g e).clients m ≡ Some d → IsOwn m c e text
+pub OwnAnswer-IsOwn : (g : Gate) (e : Event) (m : ℕ) (c d : Client) (text : List ℕ) → g.dead ≡ false → client_at g.clients m ≡ Some c → client_at (next g e).clients m ≡ Some d → IsOwn m c e text
     → OwnAnswer g m c text d
-own_answer g e m c d text live h k o =
-    let p = heard_answers g m c text h in
-    subst (OwnAnswer g m c text) (one_some p.now d (sym p.there ∙ (ap (λ (x : Gate). client_at x.clients m) (sym (heard_next g e m c text live h o)) ∙ k))) p.so
+OwnAnswer-IsOwn g e m c d text live h k o =
+    let p = Answers-hears g m c text h in
+    subst (OwnAnswer g m c text) (same-Some p.now d
+      (sym p.there ∙ (ap (λ (x : Gate). client_at x.clients m) (sym (next-IsOwn g e m c text live h o)) ∙ k))) p.so
 
 -- by what is no message of its own that is heard it is told no reply
-pub other_hears : (g : Gate) (e : Event) (m : ℕ) (c d : Client) → g.dead ≡ false → client_at g.clients m ≡ Some c → client_at (next g e).clients m ≡ Some d → d.dropped ≡ false → heard_by m c e ≡ None → Hears c d
-other_hears g e m c d live h k s u = happens_apart g e m c d h (ap (λ (x : Gate). client_at x.clients m) (sym (is_alive g e live)) ∙ k) s u
+pub Hears-heard_by : (g : Gate) (e : Event) (m : ℕ) (c d : Client) → g.dead ≡ false → client_at g.clients m ≡ Some c → client_at (next g e).clients m ≡ Some d → d.dropped ≡ false → heard_by m c e ≡ None → Hears c d
+Hears-heard_by g e m c d live h k s u = Hears-happens g e m c d h (ap (λ (x : Gate). client_at x.clients m) (sym (is_alive g e live)) ∙ k) s u
 
-pub others_told : (g : Gate) (e : Event) (m : ℕ) (c d : Client) → g.dead ≡ false → IsClient g m c → IsClient (next g e) m d → heard_by m c e ≡ None → replies (told_by c d) ≡ []
-others_told g e m c d live a b u = let x = other_hears g e m c d live a.there b.there b.stays u in ap replies (drop_text c d x.more x.text) ∙ x.quiet
+pub replies-heard_by : (g : Gate) (e : Event) (m : ℕ) (c d : Client) → g.dead ≡ false → IsClient g m c → IsClient (next g e) m d → heard_by m c e ≡ None → replies (told_by c d) ≡ []
+replies-heard_by g e m c d live a b u =
+    let x = Hears-heard_by g e m c d live a.there b.there b.stays u in ap replies (told_by-told_more c d x.more x.text) ∙ x.quiet
 
-pub own_told : (g : Gate) (m : ℕ) (c : Client) (text : List ℕ) (d : Client) (x : OwnAnswer g m c text d) → told_by c d ≡ x.before ++ said_reply (asked g m text) c text (said_by text) ∷ x.others
-own_told g m c text d x = drop_text c d (x.before ++ said_reply (asked g m text) c text (said_by text) ∷ x.others) x.text
+pub told_by-OwnAnswer : (g : Gate) (m : ℕ) (c : Client) (text : List ℕ) (d : Client) (x : OwnAnswer g m c text d) → told_by c d ≡ x.before ++ said_reply (asked g m text) c text (said_by text) ∷ x.others
+told_by-OwnAnswer g m c text d x = told_by-told_more c d (x.before ++ said_reply (asked g m text) c text (said_by text) ∷ x.others) x.text
 
 -- ---- what is closed is followed no more
 
-pub not_followed : (xs : List Sub) (own : ℕ) → is_own own xs ≡ false → followed_by xs own ≡ None
-not_followed [] own h = refl
-not_followed (x ∷ xs) own h = by (own == x.own) h (not_followed xs own)
+pub followed_by-not_is_own : (xs : List Sub) (own : ℕ) → is_own own xs ≡ false → followed_by xs own ≡ None
+followed_by-not_is_own [] own h = refl
+followed_by-not_is_own (x ∷ xs) own h = by (own == x.own) h (followed_by-not_is_own xs own)
   where
     by : (b : Bool) → (b || is_own own xs) ≡ false → (is_own own xs ≡ false → followed_by xs own ≡ None) → option_map (λ (s : Sub). s.feed) (cond b (Some x) (find (λ (s : Sub). own == s.own) xs)) ≡ None
     by true k more = absurd (false≢true (sym k))
     by false k more = more k
 
-pub follows_none : (xs : List Sub) (own : ℕ) → followed_by xs own ≡ None → is_own own xs ≡ false
-follows_none [] own h = refl
-follows_none (x ∷ xs) own h = by (own == x.own) h (follows_none xs own)
+pub is_own-not_followed_by : (xs : List Sub) (own : ℕ) → followed_by xs own ≡ None → is_own own xs ≡ false
+is_own-not_followed_by [] own h = refl
+is_own-not_followed_by (x ∷ xs) own h = by (own == x.own) h (is_own-not_followed_by xs own)
   where
     by : (b : Bool) → option_map (λ (s : Sub). s.feed) (cond b (Some x) (find (λ (s : Sub). own == s.own) xs)) ≡ None → (followed_by xs own ≡ None → is_own own xs ≡ false) → (b || is_own own xs) ≡ false
-    by true k more = absurd (some_is_none x.feed k)
+    by true k more = absurd (not_None-Some x.feed k)
     by false k more = more k
 
 closes_at : (g : Gate) (m : ℕ) (c : Client) (text : List ℕ) (id : Option Data) (own : ℕ) (d : Client) → client_at g.clients m ≡ Some (saying text c) → client_at (settles (closes g m c id own)).clients m ≡ Some d
@@ -112,21 +114,21 @@ closes_at g m c text id own d h k = by (followed_by c.subs own) refl k
     left : (old : Gate) (x : Client) → client_at old.clients m ≡ Some x → is_own own x.subs ≡ false → (new : Gate) → Behind m old.clients new.clients → client_at (settles new).clients m ≡ Some d → is_own own d.subs ≡ false
     left old x t n new f e =
         let p = f x t in let q = behind_settles m new p.now p.there in
-        subst (λ (y : Client). is_own own y.subs ≡ false) (one_some q.now d (sym q.there ∙ e)) (q.so.none own (p.so.none own n))
+        subst (λ (y : Client). is_own own y.subs ≡ false) (same-Some q.now d (sym q.there ∙ e)) (q.so.none own (p.so.none own n))
 
     same : (old : Gate) → Behind m old.clients old.clients
-    same old x t = record { now = x; there = t; so = hears_same x }
+    same old x t = record { now = x; there = t; so = Hears-itself x }
 
     by : (o : Option ℕ) → followed_by c.subs own ≡ o
         → client_at (settles (if_some o (tells g m (replied id (refused unknown_subscription))) (λ i. swept (tells (record g { clients = at_client m (closing own) g.clients }) m (replied id done)) i))).clients m ≡ Some d → is_own own d.subs ≡ false
     by None f e =
         let t = replied id (refused unknown_subscription) in
-        left (tells g m t) (told_one g.entries t (saying text c)) (at_same m (told_one g.entries t) g.clients ∙ ap (option_map (told_one g.entries t)) h) (follows_none c.subs own f) (tells g m t) (same (tells g m t)) e
+        left (tells g m t) (told_one g.entries t (saying text c)) (client_at-at_client m (told_one g.entries t) g.clients ∙ ap (option_map (told_one g.entries t)) h) (is_own-not_followed_by c.subs own f) (tells g m t) (same (tells g m t)) e
     by (Some i) f e =
         let t = replied id done in let n = tells h2 m t in
         left n (told_one g.entries t (closing own (saying text c)))
-        (at_same m (told_one g.entries t) h2.clients ∙ ap (option_map (told_one g.entries t)) (at_same m (closing own) g.clients ∙ ap (option_map (closing own)) h))
-        (closed_own own c.subs) (swept n i) (behind_swept m n i) e
+        (client_at-at_client m (told_one g.entries t) h2.clients ∙ ap (option_map (told_one g.entries t)) (client_at-at_client m (closing own) g.clients ∙ ap (option_map (closing own)) h))
+        (is_own-filter own c.subs) (swept n i) (behind_swept m n i) e
 
 -- behind a message that closes a number it has it no more
 closes_own : (g : Gate) (e : Event) (m : ℕ) (c d : Client) (text : List ℕ) (id : Option Data) (own : ℕ) → g.dead ≡ false → client_at g.clients m ≡ Some c → client_at (next g e).clients m ≡ Some d → IsOwn m c e text
@@ -140,12 +142,13 @@ closes_own g e m c d text id own live a b u s w = marked (client_at (settles did
     did = done_for h m c text (said_by text)
 
     there : option_map (answered c) (client_at (settles did).clients m) ≡ Some d
-    there = sym (at_same m (answered c) (settles did).clients) ∙ (ap (λ (x : Gate). client_at x.clients m) (sym (heard_next g e m c text live a u)) ∙ b)
+    there =
+      sym (client_at-at_client m (answered c) (settles did).clients) ∙ (ap (λ (x : Gate). client_at x.clients m) (sym (next-IsOwn g e m c text live a u)) ∙ b)
 
     marked : (o : Option Client) → client_at (settles did).clients m ≡ o → option_map (answered c) o ≡ Some d → is_own own d.subs ≡ false
-    marked None f k = absurd (some_is_none d (sym k))
-    marked (Some x) f k = subst (λ (y : Client). is_own own y.subs ≡ false) (one_some (answered c x) d k)
-        (closes_at h m c text id own x (at_same m (saying text) g.clients ∙ ap (option_map (saying text)) a)
+    marked None f k = absurd (not_None-Some d (sym k))
+    marked (Some x) f k = subst (λ (y : Client). is_own own y.subs ≡ false) (same-Some (answered c x) d k)
+        (closes_at h m c text id own x (client_at-at_client m (saying text) g.clients ∙ ap (option_map (saying text)) a)
         (sym (ap (λ t. client_at (settles (cond t (closes h m c id own) (tells h m (unasked id (unknown (codes "once")))))).clients m) w) ∙ (ap (λ z. client_at (settles (done_for h m c text z)).clients m) (sym s) ∙ f)))
 
 -- ---- an invariant of clients, by what happens to them
@@ -160,34 +163,36 @@ pub record Came (P : Client → Type 0) : Type 0 where
   pub hears : (c d : Client) → Hears c d → P c → P d
   pub answers : (g : Gate) (m : ℕ) (c : Client) (text : List ℕ) (d : Client) → OwnAnswer g m c text d → Closes text d → P c → P d
 
-pub was_there : (g : Gate) (e : Event) (m : ℕ) (c d : Client) → g.dead ≡ false → client_at g.clients m ≡ Some c → IsClient (next g e) m d → c.dropped ≡ false
-was_there g e m c d live h b = by (is_gone m e) refl
+pub dropped-IsClient : (g : Gate) (e : Event) (m : ℕ) (c d : Client) → g.dead ≡ false → client_at g.clients m ≡ Some c → IsClient (next g e) m d
+    → c.dropped ≡ false
+dropped-IsClient g e m c d live h b = by (is_gone m e) refl
   where
     or_no : (x y : Bool) → (x || y) ≡ false → x ≡ false
     or_no true y k = k
     or_no false y k = refl
 
     by : (t : Bool) → is_gone m e ≡ t → c.dropped ≡ false
-    by true t = absurd (some_is_none d (sym b.there ∙ (touched g e live).leaves m t))
+    by true t = absurd (not_None-Some d (sym b.there ∙ (AreTouched-next g e live).leaves m t))
     by false t =
-        let x = (touched g e live).stays m c h t in
-        or_no c.dropped _ (sym x.dropped ∙ (ap (λ (y : Client). y.dropped) (one_some x.now d (sym x.there ∙ b.there)) ∙ b.stays))
+        let x = (AreTouched-next g e live).stays m c h t in
+        or_no c.dropped _ (sym x.dropped ∙ (ap (λ (y : Client). y.dropped) (same-Some x.now d (sym x.there ∙ b.there)) ∙ b.stays))
 
-pub came_next : (P : Client → Type 0) → Came P → (g : Gate) (e : Event) → ((m : ℕ) (c : Client) → IsClient g m c → P c) → (m : ℕ) (d : Client) → IsClient (next g e) m d → P d
-came_next P k g e before m d b = by g.dead refl
+pub Came-next : (P : Client → Type 0) → Came P → (g : Gate) (e : Event) → ((m : ℕ) (c : Client) → IsClient g m c → P c) → (m : ℕ) (d : Client) → IsClient (next g e) m d → P d
+Came-next P k g e before m d b = by g.dead refl
   where
     heard : g.dead ≡ false → (c : Client) → client_at g.clients m ≡ Some c → c.dropped ≡ false → (o : Option (List ℕ)) → heard_by m c e ≡ o → P d
-    heard live c h s None u = k.hears c d (other_hears g e m c d live h b.there b.stays u) (before m c (record { there = h; stays = s }))
+    heard live c h s None u = k.hears c d (Hears-heard_by g e m c d live h b.there b.stays u) (before m c (record { there = h; stays = s }))
     heard live c h s (Some text) u =
-        let o = heard_is m c e text u in
-        k.answers g m c text d (own_answer g e m c d text live h b.there o) (λ id own. closes_own g e m c d text id own live h b.there o) (before m c (record { there = h; stays = s }))
+        let o = IsOwn-heard_by m c e text u in
+        k.answers g m c text d (OwnAnswer-IsOwn g e m c d text live h b.there o) (λ id own. closes_own g e m c d text id own live h b.there o) (before m c (record { there = h; stays = s }))
 
     there : g.dead ≡ false → (o : Option Client) → client_at g.clients m ≡ o → P d
-    there live None h = let x = (touched g e live).comes m d h b.there in subst P (sym x.is) (k.new (next g e).entries x.token (at_text (next g e) x.token))
-    there live (Some c) h = heard live c h (was_there g e m c d live h b) (heard_by m c e) refl
+    there live None h =
+      let x = (AreTouched-next g e live).comes m d h b.there in subst P (sym x.is) (k.new (next g e).entries x.token (at_text (next g e) x.token))
+    there live (Some c) h = heard live c h (dropped-IsClient g e m c d live h b) (heard_by m c e) refl
 
     by : (t : Bool) → g.dead ≡ t → P d
-    by true t = before m d (record { there = ap (λ (x : Gate). client_at x.clients m) (sym (rests g e t)) ∙ b.there; stays = b.stays })
+    by true t = before m d (record { there = ap (λ (x : Gate). client_at x.clients m) (sym (next-dead g e t)) ∙ b.there; stays = b.stays })
     by false t = there t (client_at g.clients m) refl
 
 -- ---- answered
@@ -259,22 +264,22 @@ act_is g c id text (drop_policy rel name) = shared_is g c id (request_of c text 
 act_is g c id text (write entries) = shared_is g c id (request_of c text (write entries)) (claim_said text)
 
 -- what a message is replied is a reply
-pub said_is : (g : Gate) (c : Client) (text : List ℕ) (s : Message) → is_reply (said_reply g c text s) ≡ true
-said_is g c text no_json = refl
-said_is g c text too_long = refl
-said_is g c text no_object = refl
-said_is g c text (no_request id why) = refl
-said_is g c text (request id act) =
-    test_of (λ t. is_reply t ≡ true) (may_have (claim_said text) act) (act_reply g c id text act) (unasked id (unknown (codes "once"))) (act_is g c id text act) refl
+pub is_reply-said_reply : (g : Gate) (c : Client) (text : List ℕ) (s : Message) → is_reply (said_reply g c text s) ≡ true
+is_reply-said_reply g c text no_json = refl
+is_reply-said_reply g c text too_long = refl
+is_reply-said_reply g c text no_object = refl
+is_reply-said_reply g c text (no_request id why) = refl
+is_reply-said_reply g c text (request id act) =
+    cond-either (λ t. is_reply t ≡ true) (may_have (claim_said text) act) (act_reply g c id text act) (unasked id (unknown (codes "once"))) (act_is g c id text act) refl
 
-pub replies_of : (ts us vs : List Told) (t : Told) → replies us ≡ [] → replies vs ≡ [] → is_reply t ≡ true → replies (ts ++ (us ++ t ∷ vs)) ≡ replies ts ++ t ∷ []
-replies_of ts us vs t a b h =
-    replies_both ts (us ++ t ∷ vs) ∙ ap (λ z. replies ts ++ z) (replies_both us (t ∷ vs) ∙ ((λ i. a i ++ cond (h i) (t ∷ replies vs) (replies vs)) ∙ ap (λ z. t ∷ z) b))
+pub replies-one_reply : (ts us vs : List Told) (t : Told) → replies us ≡ [] → replies vs ≡ [] → is_reply t ≡ true → replies (ts ++ (us ++ t ∷ vs)) ≡ replies ts ++ t ∷ []
+replies-one_reply ts us vs t a b h =
+    replies-append ts (us ++ t ∷ vs) ∙ ap (λ z. replies ts ++ z) (replies-append us (t ∷ vs) ∙ ((λ i. a i ++ cond (h i) (t ∷ replies vs) (replies vs)) ∙ ap (λ z. t ∷ z) b))
 
 opened_of : (ts us vs : List Told) (t : Told) → replies us ≡ [] → replies vs ≡ [] → filter is_opened (ts ++ (us ++ t ∷ vs)) ≡ filter is_opened ts ++ filter is_opened (t ∷ [])
 opened_of ts us vs t a b =
     filter-append is_opened ts (us ++ t ∷ vs)
-    ∙ ap (λ z. filter is_opened ts ++ z) (filter-append is_opened us (t ∷ vs) ∙ ((λ i. none_opened us a i ++ cond (is_opened t) (t ∷ none_opened vs b i) (none_opened vs b i))))
+    ∙ ap (λ z. filter is_opened ts ++ z) (filter-append is_opened us (t ∷ vs) ∙ ((λ i. filter-no_replies us a i ++ cond (is_opened t) (t ∷ filter-no_replies vs b i) (filter-no_replies vs b i))))
 
 -- what a client that comes in is told after its welcome
 abbrev behind_welcome : List Entry → Name → List ℕ → List Told
@@ -282,28 +287,28 @@ behind_welcome es role at = placed at ∷ (shape_for role es ++ settled ∷ [])
 
 -- it is no reply
 greeting_quiet : (es : List Entry) (role : Name) (at : List ℕ) → replies (behind_welcome es role at) ≡ []
-greeting_quiet es role at = none_replied (shape_for role es) (settled ∷ []) (filter_none is_reply (shape_for role es) (all_made (λ t. is_reply t ≡ false) (λ r line. refl) role es)) refl
+greeting_quiet es role at = replies-none (shape_for role es) (settled ∷ []) (filter-all_false is_reply (shape_for role es) (all_made (λ t. is_reply t ≡ false) (λ r line. refl) role es)) refl
 
 greeting_opens : (es : List Entry) (t : Token) (at : List ℕ) → filter is_opened (told (fresh es t at)) ≡ []
-greeting_opens es t at = ap (filter is_opened) (told_fresh es t at) ∙ none_opened (behind_welcome es t.role at) (greeting_quiet es t.role at)
+greeting_opens es t at = ap (filter is_opened) (told-fresh es t at) ∙ filter-no_replies (behind_welcome es t.role at) (greeting_quiet es t.role at)
 
-pub new_answered : (es : List Entry) (t : Token) (at : List ℕ) → IsAnswered (fresh es t at)
-new_answered es t at = record {
-  welcome = (behind_welcome es t.role at, told_fresh es t at);
-  each = ap (λ z. length (replies z)) (told_fresh es t at) ∙ ap (λ z. length (welcome t.role ∷ z)) (greeting_quiet es t.role at);
+pub IsAnswered-fresh : (es : List Entry) (t : Token) (at : List ℕ) → IsAnswered (fresh es t at)
+IsAnswered-fresh es t at = record {
+  welcome = (behind_welcome es t.role at, told-fresh es t at);
+  each = ap (λ z. length (replies z)) (told-fresh es t at) ∙ ap (λ z. length (welcome t.role ∷ z)) (greeting_quiet es t.role at);
   given = ap length (sym (greeting_opens es t at));
 }
 
-pub hears_answered : (c d : Client) → Hears c d → IsAnswered c → IsAnswered d
-hears_answered c d x a = record {
+pub IsAnswered-Hears : (c d : Client) → Hears c d → IsAnswered c → IsAnswered d
+IsAnswered-Hears c d x a = record {
   welcome = (a.welcome.0 ++ x.more, x.text ∙ (ap (λ z. z ++ x.more) a.welcome.1 ∙ ap (λ r. welcome r ∷ (a.welcome.0 ++ x.more)) (sym x.role)));
   each = ap (λ z. length (replies z)) x.text
-      ∙ (ap length (replies_both (told c) x.more ∙ (ap (λ z. replies (told c) ++ z) x.quiet ∙ append-nil (replies (told c)))) ∙ (a.each ∙ ap (λ z. 1 + length z) (sym x.messages)));
-  given = x.given ∙ (a.given ∙ ap length (sym (ap (filter is_opened) x.text ∙ (filter-append is_opened (told c) x.more ∙ (ap (λ z. filter is_opened (told c) ++ z) (none_opened x.more x.quiet) ∙ append-nil (filter is_opened (told c)))))));
+      ∙ (ap length (replies-append (told c) x.more ∙ (ap (λ z. replies (told c) ++ z) x.quiet ∙ append-nil (replies (told c)))) ∙ (a.each ∙ ap (λ z. 1 + length z) (sym x.messages)));
+  given = x.given ∙ (a.given ∙ ap length (sym (ap (filter is_opened) x.text ∙ (filter-append is_opened (told c) x.more ∙ (ap (λ z. filter is_opened (told c) ++ z) (filter-no_replies x.more x.quiet) ∙ append-nil (filter is_opened (told c)))))));
 }
 
-pub answers_answered : (g : Gate) (m : ℕ) (c : Client) (text : List ℕ) (d : Client) → OwnAnswer g m c text d → IsAnswered c → IsAnswered d
-answers_answered g m c text d x a = record {
+pub IsAnswered-OwnAnswer : (g : Gate) (m : ℕ) (c : Client) (text : List ℕ) (d : Client) → OwnAnswer g m c text d → IsAnswered c → IsAnswered d
+IsAnswered-OwnAnswer g m c text d x a = record {
   welcome = (a.welcome.0 ++ more, x.text ∙ (ap (λ z. z ++ more) a.welcome.1 ∙ ap (λ r. welcome r ∷ (a.welcome.0 ++ more)) (sym x.role)));
   each = each;
   given = given;
@@ -320,7 +325,7 @@ answers_answered g m c text d x a = record {
 
     each : length (replies (told d)) ≡ 1 + length d.messages
     each = ap (λ z. length (replies z)) x.text
-        ∙ (ap length (replies_of (told c) x.before x.others t x.started x.alone (said_is (asked g m text) c text (said_by text)))
+        ∙ (ap length (replies-one_reply (told c) x.before x.others t x.started x.alone (is_reply-said_reply (asked g m text) c text (said_by text)))
         ∙ (length-append (replies (told c)) (t ∷ []) ∙ (plus (length (replies (told c))) (length c.messages) a.each ∙ ap (λ z. 1 + z) (sym (ap length x.messages ∙ length-append c.messages (text ∷ []))))))
 
     by : (b : Bool) → is_opened t ≡ b → cond b (c.given + 1) c.given ≡ length (filter is_opened (told c)) + length (cond b (t ∷ []) [])
@@ -334,8 +339,8 @@ answers_answered g m c text d x a = record {
     given = x.given ∙ (by (is_opened t) refl
         ∙ sym (ap (λ z. length (filter is_opened z)) x.text ∙ (ap length (opened_of (told c) x.before x.others t x.started x.alone) ∙ length-append (filter is_opened (told c)) (filter is_opened (t ∷ [])))))
 
-pub keeps_answered : Came IsAnswered
-keeps_answered = record { new = new_answered; hears = hears_answered; answers = λ g m c text d x n. answers_answered g m c text d x }
+pub Came-IsAnswered : Came IsAnswered
+Came-IsAnswered = record { new = IsAnswered-fresh; hears = IsAnswered-Hears; answers = λ g m c text d x n. IsAnswered-OwnAnswer g m c text d x }
 
 -- ---- over
 
@@ -349,23 +354,23 @@ closed_more c d own ms ts m t (place, id, (text, there, asks, reply)) = (
   id,
   (
     text,
-    ap (λ z. slice_get z place) m ∙ get_more c.messages ms place text there,
+    ap (λ z. slice_get z place) m ∙ slice_get-append c.messages ms place text there,
     asks,
-    ap (λ z. slice_get (replies z) (place + 1)) t ∙ (ap (λ z. slice_get z (place + 1)) (replies_both (told c) ts) ∙ get_more (replies (told c)) (replies ts) (place + 1) (replied id done) reply),
+    ap (λ z. slice_get (replies z) (place + 1)) t ∙ (ap (λ z. slice_get z (place + 1)) (replies-append (told c) ts) ∙ slice_get-append (replies (told c)) (replies ts) (place + 1) (replied id done) reply),
   ),
 )
 
 ended_more : (c d : Client) (own : ℕ) (ts : List Told) → told d ≡ told c ++ ts → has_ended c own ≡ true → has_ended d own ≡ true
-ended_more c d own ts t h = ap (list_any (is_end_of own)) t ∙ any_before (is_end_of own) (told c) ts h
+ended_more c d own ts t h = ap (list_any (is_end_of own)) t ∙ list_any-append_front (is_end_of own) (told c) ts h
 
 ended_now : (c d : Client) (own : ℕ) (ts : List Told) → told d ≡ told c ++ ts → ends_for own ts ≡ true → has_ended d own ≡ true
-ended_now c d own ts t h = ap (list_any (is_end_of own)) t ∙ any_behind (is_end_of own) (told c) ts h
+ended_now c d own ts t h = ap (list_any (is_end_of own)) t ∙ list_any-append_back (is_end_of own) (told c) ts h
 
 new_settled : (es : List Entry) (t : Token) (at : List ℕ) → IsSettled (fresh es t at)
-new_settled es t at = (new_answered es t at, λ id own columns k h. absurd (none_passes is_opened (told (fresh es t at)) (opened id own columns) k refl (greeting_opens es t at)))
+new_settled es t at = (IsAnswered-fresh es t at, λ id own columns k h. absurd (not_nothing-filter is_opened (told (fresh es t at)) (opened id own columns) k refl (greeting_opens es t at)))
 
 hears_settled : (c d : Client) → Hears c d → IsSettled c → IsSettled d
-hears_settled c d x a = (hears_answered c d x a.0, λ id own columns k h. by id own columns (Contains-append_cases (told c) x.more (opened id own columns) (subst (λ ts. Contains ts (opened id own columns)) x.text k)) h)
+hears_settled c d x a = (IsAnswered-Hears c d x a.0, λ id own columns k h. by id own columns (Contains-append_cases (told c) x.more (opened id own columns) (subst (λ ts. Contains ts (opened id own columns)) x.text k)) h)
   where
     still : (own : ℕ) → (has_ended c own ≡ true) ⊎ IsClosed c own → (has_ended d own ≡ true) ⊎ IsClosed d own
     still own (inl h) = inl (ended_more c d own x.more x.text h)
@@ -377,11 +382,11 @@ hears_settled c d x a = (hears_answered c d x a.0, λ id own columns k h. by id 
 
     by : (id : Option Data) (own : ℕ) (columns : List Column) → Contains (told c) (opened id own columns) ⊎ Contains x.more (opened id own columns) → is_own own d.subs ≡ false → (has_ended d own ≡ true) ⊎ IsClosed d own
     by id own columns (inl k) h = had id own columns k h (is_own own c.subs) refl
-    by id own columns (inr k) h = absurd (none_passes is_reply x.more (opened id own columns) k refl x.quiet)
+    by id own columns (inr k) h = absurd (not_nothing-filter is_reply x.more (opened id own columns) k refl x.quiet)
 
 answers_settled : (g : Gate) (m : ℕ) (c : Client) (text : List ℕ) (d : Client) → OwnAnswer g m c text d → IsSettled c → IsSettled d
 answers_settled g m c text d x a =
-    (answers_answered g m c text d x a.0, λ id own columns k h. by id own columns (Contains-append_cases (told c) more (opened id own columns) (subst (λ ts. Contains ts (opened id own columns)) x.text k)) h)
+    (IsAnswered-OwnAnswer g m c text d x a.0, λ id own columns k h. by id own columns (Contains-append_cases (told c) more (opened id own columns) (subst (λ ts. Contains ts (opened id own columns)) x.text k)) h)
   where
     t : Told
     t = said_reply (asked g m text) c text (said_by text)
@@ -399,11 +404,11 @@ answers_settled g m c text d x a =
       k.id,
       (
         text,
-        ap (λ z. slice_get z (length c.messages)) x.messages ∙ get_last c.messages text [],
+        ap (λ z. slice_get z (length c.messages)) x.messages ∙ slice_get-append_length c.messages text [],
         k.asks,
         ap (λ z. slice_get (replies z) (length c.messages + 1)) x.text
-            ∙ (ap (λ z. slice_get z (length c.messages + 1)) (replies_of (told c) x.before x.others t x.started x.alone (said_is (asked g m text) c text (said_by text)))
-            ∙ (ap (λ i. slice_get (replies (told c) ++ t ∷ []) i) (sym (a.0.each ∙ plus (length c.messages))) ∙ (get_last (replies (told c)) t [] ∙ ap Some k.tells))),
+            ∙ (ap (λ z. slice_get z (length c.messages + 1)) (replies-one_reply (told c) x.before x.others t x.started x.alone (is_reply-said_reply (asked g m text) c text (said_by text)))
+            ∙ (ap (λ i. slice_get (replies (told c) ++ t ∷ []) i) (sym (a.0.each ∙ plus (length c.messages))) ∙ (slice_get-append_length (replies (told c)) t [] ∙ ap Some k.tells))),
       ),
     )
 
@@ -429,11 +434,11 @@ answers_settled g m c text d x a =
     now : (id : Option Data) (own : ℕ) (columns : List Column) → Contains (t ∷ []) (opened id own columns) ⊎ Contains x.others (opened id own columns) → is_own own d.subs ≡ false
         → (has_ended d own ≡ true) ⊎ IsClosed d own
     now id own columns (inl k) h = opens id own columns (the_one (opened id own columns) k) h
-    now id own columns (inr k) h = absurd (none_passes is_reply x.others (opened id own columns) k refl x.alone)
+    now id own columns (inr k) h = absurd (not_nothing-filter is_reply x.others (opened id own columns) k refl x.alone)
 
     later : (id : Option Data) (own : ℕ) (columns : List Column) → Contains x.before (opened id own columns) ⊎ Contains (t ∷ x.others) (opened id own columns) → is_own own d.subs ≡ false
         → (has_ended d own ≡ true) ⊎ IsClosed d own
-    later id own columns (inl k) h = absurd (none_passes is_reply x.before (opened id own columns) k refl x.started)
+    later id own columns (inl k) h = absurd (not_nothing-filter is_reply x.before (opened id own columns) k refl x.started)
     later id own columns (inr k) h = now id own columns (Contains-append_cases (t ∷ []) x.others (opened id own columns) k) h
 
     by : (id : Option Data) (own : ℕ) (columns : List Column) → Contains (told c) (opened id own columns) ⊎ Contains more (opened id own columns) → is_own own d.subs ≡ false
@@ -441,5 +446,5 @@ answers_settled g m c text d x a =
     by id own columns (inl k) h = had id own columns k h (is_own own c.subs) refl
     by id own columns (inr k) h = later id own columns (Contains-append_cases x.before (t ∷ x.others) (opened id own columns) k) h
 
-pub keeps_settled : Came IsSettled
-keeps_settled = record { new = new_settled; hears = hears_settled; answers = λ g m c text d x n. answers_settled g m c text d x }
+pub Came-IsSettled : Came IsSettled
+Came-IsSettled = record { new = new_settled; hears = hears_settled; answers = λ g m c text d x n. answers_settled g m c text d x }

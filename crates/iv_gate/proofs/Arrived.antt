@@ -18,12 +18,12 @@ use Rattle.iv_steps.specs.Steps.{Fact, all_carried, among, carried, is_shared, l
 use Rattle.iv_gate.specs.Arriving.{Step, entry_of, fact_of, fault_of, is_behind, landed, newly, takes}
 use Rattle.iv_gate.specs.Gate.{Gate, entered, informs, went_on}
 use Rattle.iv_gate.specs.Replies.{ActsAs}
-use Rattle.iv_gate.proofs.Ending.{not_told, step_over}
-use Rattle.iv_gate.proofs.Machine.{number_same, there_some}
-use Rattle.iv_gate.proofs.Running.{all_so, informs_sound, settles_sound}
-use Rattle.iv_gate.proofs.Sound.{IsFeed, IsSoundGate, Sounds, told_quiet, went_on_ready}
+use Rattle.iv_gate.proofs.Ending.{not_IsToldEnd-ends_in, shown-stepped}
+use Rattle.iv_gate.proofs.Machine.{rel_of-named, Some-is_some}
+use Rattle.iv_gate.proofs.Running.{AllByRecursion-map, IsSoundGate-informs, IsSoundGate-settles}
+use Rattle.iv_gate.proofs.Sound.{IsFeed, IsSoundGate, Sounds, sum_for-granted_cond, IsSoundGate-went_on}
 use Rattle.iv_machine.specs.Sound.{IsSoundState}
-use Rattle.iv_clients.proofs.Slots.{one_some}
+use Rattle.iv_clients.proofs.Slots.{same-Some}
 
 -- ---- roles and relations last
 
@@ -69,8 +69,8 @@ pub record IsLed (s : State) (o : Outcome) : Type 0 where
   pub sessions : o.state.frame.sessions ≡ s.frame.sessions
   pub last : o.state.frame.last ≡ s.frame.last
 
-pub step_led : Sounds → (fs : List Fact) (s : State) (o : Outcome) → stepped fs s ≡ Some o → IsLed s o
-step_led sounds fs s o h = then_some (all_carried fs (shared s)) (λ t. Some (looked_at s (among s t))) o (IsLed s o) (as_then (all_carried fs (shared s)) h) (λ t p q.
+pub IsLed-stepped : Sounds → (fs : List Fact) (s : State) (o : Outcome) → stepped fs s ≡ Some o → IsLed s o
+IsLed-stepped sounds fs s o h = then_some (all_carried fs (shared s)) (λ t. Some (looked_at s (among s t))) o (IsLed s o) (as_then (all_carried fs (shared s)) h) (λ t p q.
     let same : looked_at s (among s t) ≡ o = cc in let l = all_lasts sounds fs (shared s) t p in
     subst (IsLed s) same (record { lasts = record { roles = l.roles; relations = l.relations }; sessions = refl; last = refl }))
   where
@@ -85,11 +85,11 @@ pub record IsBegun (s : State) : Type 0 where
   pub subscriptions : s.frame.subscriptions ≡ []
   pub last : s.frame.last ≡ 0
 
-pub led_from_start : Sounds → (cap : ℕ) → IsSoundState (start cap) → (fs : List Fact) (t : State) → all_carried fs (start cap) ≡ Some t → IsBegun t
-led_from_start sounds cap b fs t h =
+pub IsBegun-all_carried : Sounds → (cap : ℕ) → IsSoundState (start cap) → (fs : List Fact) (t : State) → all_carried fs (start cap) ≡ Some t → IsBegun t
+IsBegun-all_carried sounds cap b fs t h =
     let o = looked_at (start cap) (among (start cap) t) in
     let led = sounds.told fs (start cap) o b (ap (option_map (λ u. looked_at (start cap) (among (start cap) u))) h) in
-    let same : t ≡ shared o.state = one_some t (shared o.state) (sym h ∙ led.shared) in
+    let same : t ≡ shared o.state = same-Some t (shared o.state) (sym h ∙ led.shared) in
     record {
       sound = subst IsSoundState (sym same) led.sound;
       sessions = ap (λ (u : State). u.frame.sessions) same;
@@ -109,24 +109,24 @@ acts_still s o l n role a = record {
 feed_still : (fs : List Fact) (s : State) (o : Outcome) → IsLed s o → IsStep fs s o → (f : Feed) → IsFeed s f → ends_in o.lines f.number ≡ false → IsFeed o.state f
 feed_still fs s o l t f b e =
     let x : Subscription = record { session = f.session; number = f.number; rel = b.rel } in
-    let entry = there_some (named s.frame.catalog f.rel) b.known in
+    let entry = Some-is_some (named s.frame.catalog f.rel) b.known in
     let still = l.lasts.relations f.rel entry.0 entry.1 in
     record {
       rel = b.rel;
-      found = not_told (subscription_of o.state.frame.subscriptions f.number ≡ Some x) f.session f.number o.lines e (t.ends f.number x b.found);
-      there = b.there ∙ sym (number_same s.frame.catalog o.state.frame.catalog f.rel entry.0 entry.1 still);
+      found = not_IsToldEnd-ends_in (subscription_of o.state.frame.subscriptions f.number ≡ Some x) f.session f.number o.lines e (t.ends f.number x b.found);
+      there = b.there ∙ sym (rel_of-named s.frame.catalog o.state.frame.catalog f.rel entry.0 entry.1 still);
       known = ap is_some still;
       acts = acts_still s o l f.session f.role b.acts;
     }
 
 pub landed_sound : Sounds → (g : Gate) (e : Entry) (fs : List Fact) (o : Outcome) → stepped fs g.machine ≡ Some o → IsSoundGate g → IsSoundGate (landed g e o)
 landed_sound sounds g e fs o h b =
-    settles_sound (informs behind (e ∷ [])) (informs_sound behind (e ∷ []) (went_on_ready now o more (record {
+    IsSoundGate-settles (informs behind (e ∷ [])) (IsSoundGate-informs behind (e ∷ []) (IsSoundGate-went_on now o more (record {
       state = t.sound;
-      seats = all_so (λ x a. acts_still g.machine o l x.session x.role a) g.seats b.seats;
-      feeds = all_so (λ f a. feed_still fs g.machine o l t f a) g.feeds b.feeds;
-      moves = record { adds = λ j f k q. t.adds j q; over = step_over fs g.machine o b.state.numbers.unique h };
-      quiet = λ c own q. told_quiet own q true (newly g.machine.frame o.state.frame c.role);
+      seats = AllByRecursion-map (λ x a. acts_still g.machine o l x.session x.role a) g.seats b.seats;
+      feeds = AllByRecursion-map (λ f a. feed_still fs g.machine o l t f a) g.feeds b.feeds;
+      moves = record { adds = λ j f k q. t.adds j q; over = shown-stepped fs g.machine o b.state.numbers.unique h };
+      quiet = λ c own q. sum_for-granted_cond own q true (newly g.machine.frame o.state.frame c.role);
       clients = b.clients;
     })))
   where
@@ -134,7 +134,7 @@ landed_sound sounds g e fs o h b =
     t = sounds.told fs g.machine o b.state h
 
     l : IsLed g.machine o
-    l = step_led sounds fs g.machine o h
+    l = IsLed-stepped sounds fs g.machine o h
 
     now : Gate
     now = entered g (e ∷ [])
@@ -146,8 +146,8 @@ landed_sound sounds g e fs o h b =
     behind = went_on now o (λ c. own_lines g.feeds o.lines c.subs ++ more c)
 
 -- a step that comes, whatever it is
-pub takes_sound : Sounds → (g : Gate) (s : Step) → IsSoundGate g → IsSoundGate (takes g s)
-takes_sound sounds g s b = by (is_some (fault_of g s)) (is_behind g s)
+pub IsSoundGate-takes : Sounds → (g : Gate) (s : Step) → IsSoundGate g → IsSoundGate (takes g s)
+IsSoundGate-takes sounds g s b = by (is_some (fault_of g s)) (is_behind g s)
   where
     dead : IsSoundGate (record g { dead = true })
     dead = record { state = b.state; seats = b.seats; feeds = b.feeds; clients = b.clients }

@@ -19,10 +19,10 @@ use Rattle.iv_machine.proofs.Sound.{MayRead-IsWhole, IsWhole-IsSoundState}
 use Rattle.iv_message.specs.Told.{granted}
 use Rattle.iv_clients.specs.Clients.{Sub, own_line, own_lines}
 use Rattle.iv_clients.specs.Feeds.{Feed}
-use Rattle.iv_clients.proofs.Slots.{one_some, some_is_none}
+use Rattle.iv_clients.proofs.Slots.{same-Some, not_None-Some}
 use Rattle.iv_gate.specs.Gate.{Gate, in_session, is_accepted, reply_in}
 use Rattle.iv_gate.proofs.Hearing.{BeginsQuietly}
-use Rattle.iv_gate.proofs.Summing.{both}
+use Rattle.iv_gate.proofs.Summing.{AllByRecursion-zip}
 
 -- ---- what stays the same has no difference
 
@@ -45,11 +45,11 @@ filter_whole q [] a = refl
 filter_whole q (x ∷ xs) a = ap (λ b. cond b (x ∷ filter q xs) (filter q xs)) a.0 ∙ ap (λ z. x ∷ z) (filter_whole q xs a.1)
 
 pub sub_has : (P : Subscription → Type 0) (es : List Subscription) (j : ℕ) (x : Subscription) → AllByRecursion P es → subscription_of es j ≡ Some x → P x
-sub_has P [] j x a h = absurd (some_is_none x (sym h))
+sub_has P [] j x a h = absurd (not_None-Some x (sym h))
 sub_has P (e ∷ es) j x a h = by (j == e.number) h (λ k. sub_has P es j x a.1 k)
   where
     by : (b : Bool) → cond b (Some e) (subscription_of es j) ≡ Some x → (subscription_of es j ≡ Some x → P x) → P x
-    by true k more = subst P (one_some e x k) a.0
+    by true k more = subst P (same-Some e x k) a.0
     by false k more = more k
 
 flat_none : {X Y : Type 0} (f : X → List Y) (xs : List X) → AllByRecursion (λ x. f x ≡ []) xs → flat_map f xs ≡ []
@@ -69,12 +69,12 @@ module _ (s : State) (n : ℕ) (role : Name) (b : IsSoundState s) where
   actor_kept e m = ap (λ o. unwrap_or (option_map (λ (x : Session). x.role) o) (length s.frame.rights.roles)) (find_kept (λ (x : Session). e.session == x.number) s.frame.sessions _ m.session)
 
   none_ends : AllByRecursion (λ e. ending (after s n (begin role)) e ≡ None) s.frame.subscriptions
-  none_ends = both {P = λ e. ending s e ≡ None} {Q = MayRead s.frame} {R = λ e. ending (after s n (begin role)) e ≡ None}
+  none_ends = AllByRecursion-zip {P = λ e. ending s e ≡ None} {Q = MayRead s.frame} {R = λ e. ending (after s n (begin role)) e ≡ None}
       (λ e x m. ap (λ r. first_cause (is_some (missing_for s.frame r e.rel)) (is_within_for s r e.rel)) (actor_kept e m) ∙ x) s.frame.subscriptions b.served readers
 
   kept_all : filter (λ e. not (is_some (ending (after s n (begin role)) e))) s.frame.subscriptions ≡ s.frame.subscriptions
   kept_all = filter_whole (λ e. not (is_some (ending (after s n (begin role)) e))) s.frame.subscriptions
-      (both {P = λ e. ending (after s n (begin role)) e ≡ None} {Q = λ e. ending (after s n (begin role)) e ≡ None} {R = λ e. not (is_some (ending (after s n (begin role)) e)) ≡ true}
+      (AllByRecursion-zip {P = λ e. ending (after s n (begin role)) e ≡ None} {Q = λ e. ending (after s n (begin role)) e ≡ None} {R = λ e. not (is_some (ending (after s n (begin role)) e)) ≡ true}
       (λ e x y. ap (λ o. not (is_some o)) x) s.frame.subscriptions none_ends none_ends)
 
   -- nothing but the sessions changes
@@ -93,7 +93,7 @@ module _ (s : State) (n : ℕ) (role : Name) (b : IsSoundState s) where
 
   no_changes : changes (begin role) s (after s n (begin role)) (settled (begin role) (after s n (begin role))) ≡ []
   no_changes = flat_none (line_for s (settled (begin role) (after s n (begin role))) (ending_by (begin role) (after s n (begin role)))) s.frame.subscriptions
-      (both {P = λ e. ending (after s n (begin role)) e ≡ None} {Q = λ e. ending (after s n (begin role)) e ≡ None}
+      (AllByRecursion-zip {P = λ e. ending (after s n (begin role)) e ≡ None} {Q = λ e. ending (after s n (begin role)) e ≡ None}
       {R = λ e. line_for s (settled (begin role) (after s n (begin role))) (ending_by (begin role) (after s n (begin role))) e ≡ []} (λ e x y. no_line e x) s.frame.subscriptions none_ends none_ends)
 
   replied_alone : (feeds : List Feed) (r : Reply) (xs : List Sub) → own_lines feeds (reply n r ∷ []) xs ≡ []
@@ -107,8 +107,8 @@ module _ (s : State) (n : ℕ) (role : Name) (b : IsSoundState s) where
   tells_none feeds xs (Some r) = replied_alone feeds (refused r) xs
   tells_none feeds xs None = ap (λ ls. own_lines feeds (reply n done ∷ ls) xs) no_changes ∙ replied_alone feeds done xs
 
-pub begins_quietly : (g : Gate) → IsSoundState g.machine → BeginsQuietly g
-begins_quietly g b n role c = (λ i. tells_none g.machine n role b g.feeds c.subs (refusal g.machine n (begin role)) i ++ grants i)
+pub BeginsQuietly-IsSoundState : (g : Gate) → IsSoundState g.machine → BeginsQuietly g
+BeginsQuietly-IsSoundState g b n role c = (λ i. tells_none g.machine n role b g.feeds c.subs (refusal g.machine n (begin role)) i ++ grants i)
   where
     grants : cond (is_accepted (reply_in (step g.machine (in_session n (begin role))).lines)) (map granted []) [] ≡ []
     grants = by (is_accepted (reply_in (step g.machine (in_session n (begin role))).lines))

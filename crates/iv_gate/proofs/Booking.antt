@@ -21,14 +21,14 @@ use Rattle.iv_clients.specs.Clients.{Client}
 use Rattle.iv_clients.specs.Journal.{Entry, IsEntry, IsNamed, IsRequest, Request, claim_said, has_newline, is_digest, is_shared, line_said, names_in, position_of, said_by}
 use Rattle.iv_clients.specs.Laws.{ClaimsAreWell, HoldersAreText}
 use Rattle.iv_clients.specs.Names.{Claim, limits}
-use Rattle.iv_clients.proofs.Cuts.{last_off}
+use Rattle.iv_clients.proofs.Cuts.{but_last-push}
 use Rattle.iv_gate.specs.Arriving.{Fault, Step, entry_of, fact_of, fault_of, first_known, gap, is_behind, is_log, is_new, not_accepted, not_new, other_log, position}
 use Rattle.iv_gate.specs.Gate.{Gate, answer_text, asked_by, came, went, entries_of, is_accepted, known_at, known_of, may_have, names_of}
 use Rattle.iv_gate.specs.Restoring.{are_rising}
-use Rattle.iv_gate.proofs.Answered.{carried_new, known_more}
-use Rattle.iv_gate.proofs.Damage.{both_so, names_append}
+use Rattle.iv_gate.proofs.Answered.{is_new-verdict, first_known-append}
+use Rattle.iv_gate.proofs.Damage.{both_so, names_in-append}
 use Rattle.iv_gate.proofs.Replying.{act_added, carried_reply, decided_added, said_added, shared_added, verdict_added}
-use Rattle.iv_gate.proofs.Requesting.{request_heard}
+use Rattle.iv_gate.proofs.Requesting.{IsRequest-said_by}
 use Rattle.iv_gate.proofs.Stepping.{Keeps, Steps, came_keeps, request_of, went_keeps}
 
 -- ---- one list of entries after another
@@ -66,16 +66,16 @@ pub record MayAdd (g : Gate) (more : List Entry) : Type 0 where
   pub names : first_known 1 (names_in more) (known_of g) ≡ None
   pub steps : are_rising (position g) more ≡ true
 
-pub booked_more : (g h : Gate) (more : List Entry) → h.entries ≡ g.entries ++ more → h.head ≡ g.head → MayAdd g more → IsBooked g → IsBooked h
-booked_more g h more e f a b = record {
+pub IsBooked-MayAdd : (g h : Gate) (more : List Entry) → h.entries ≡ g.entries ++ more → h.head ≡ g.head → MayAdd g more → IsBooked g → IsBooked h
+IsBooked-MayAdd g h more e f a b = record {
   well = subst (AllByRecursion IsEntry) (sym e) (all_then IsEntry g.entries more b.well a.well);
   names = (λ i. first_known 1 (names_in (e i)) (known_at (f i)))
-      ∙ (ap (λ ns. first_known 1 ns (known_at g.head)) (names_append g.entries more) ∙ known_more 1 (names_in g.entries) (names_in more) (known_at g.head) b.names (λ m. any_place 1 m (names_in more) (known_of g) a.names));
+      ∙ (ap (λ ns. first_known 1 ns (known_at g.head)) (names_in-append g.entries more) ∙ first_known-append 1 (names_in g.entries) (names_in more) (known_at g.head) b.names (λ m. any_place 1 m (names_in more) (known_of g) a.names));
   steps = (λ i. are_rising (f i).position (e i)) ∙ rising_then g.head.position g.entries more b.steps a.steps;
 }
 
-pub booked_same : (g h : Gate) → h.entries ≡ g.entries → h.head ≡ g.head → IsBooked g → IsBooked h
-booked_same g h e f b = record {
+pub IsBooked-same_entries : (g h : Gate) → h.entries ≡ g.entries → h.head ≡ g.head → IsBooked g → IsBooked h
+IsBooked-same_entries g h e f b = record {
   well = subst (AllByRecursion IsEntry) (sym e) b.well;
   names = (λ i. first_known 1 (names_in (e i)) (known_at (f i))) ∙ b.names;
   steps = (λ i. are_rising (f i).position (e i)) ∙ b.steps;
@@ -150,7 +150,7 @@ AreLines = (t : Told) → IsLine (told_text t)
 answer_one : AreLines → (r : Reply) → has_newline (answer_text r) ≡ false
 answer_one lines r =
     let l = lines (replied None r) in
-    let same : answer_text r ≡ l.0 = sym (last_off (answer_text r) 10) ∙ (ap (λ t. take (length t - 1) t) l.1 ∙ last_off l.0 10) in
+    let same : answer_text r ≡ l.0 = sym (but_last-push (answer_text r) 10) ∙ (ap (λ t. take (length t - 1) t) l.1 ∙ but_last-push l.0 10) in
     ap has_newline same ∙ clean_one l.0 l.2
 
 -- what laws of lower crates say
@@ -186,7 +186,7 @@ module _ (texts : Texts) (g : Gate) (c : Client) (text : List ℕ) (name : is_na
       → MayAdd g (verdict_added g q (asked_by c q.line k) v)
   verdict_more q k l w h carry e = decided_more q (Some (asked_by c q.line k)) w (λ r. record {
     well = subst (λ z. IsNamed (record { ask = asked_by c z k; refused = not (is_accepted r); answer = answer_text r })) (sym l) (named_well texts c text k r name h);
-    fresh = carried_new (names_of g) (asked_by c q.line k) refl e;
+    fresh = is_new-verdict (names_of g) (asked_by c q.line k) refl e;
   })
   verdict_more q k l w h (again answer) e = nothing_more g
   verdict_more q k l w h another e = nothing_more g
@@ -207,17 +207,18 @@ module _ (texts : Texts) (g : Gate) (c : Client) (text : List ℕ) (name : is_na
   act_more id finish h = nothing_more g
   act_more id (subscribe rel) h = nothing_more g
   act_more id (unsubscribe own) h = nothing_more g
-  act_more id (create_role n) h = shared_more (request_of c text (create_role n)) refl (request_heard c.role text id (create_role n) name refl h)
-  act_more id (create_table n owner columns) h = shared_more (request_of c text (create_table n owner columns)) refl (request_heard c.role text id (create_table n owner columns) name refl h)
-  act_more id (create_view n owner query) h = shared_more (request_of c text (create_view n owner query)) refl (request_heard c.role text id (create_view n owner query) name refl h)
-  act_more id (grant rel privileges to) h = shared_more (request_of c text (grant rel privileges to)) refl (request_heard c.role text id (grant rel privileges to) name refl h)
-  act_more id (revoke rel privileges to) h = shared_more (request_of c text (revoke rel privileges to)) refl (request_heard c.role text id (revoke rel privileges to) name refl h)
-  act_more id (grant_role group to) h = shared_more (request_of c text (grant_role group to)) refl (request_heard c.role text id (grant_role group to) name refl h)
-  act_more id (revoke_role group to) h = shared_more (request_of c text (revoke_role group to)) refl (request_heard c.role text id (revoke_role group to) name refl h)
-  act_more id (row_security rel enable force) h = shared_more (request_of c text (row_security rel enable force)) refl (request_heard c.role text id (row_security rel enable force) name refl h)
-  act_more id (create_policy p) h = shared_more (request_of c text (create_policy p)) refl (request_heard c.role text id (create_policy p) name refl h)
-  act_more id (drop_policy rel n) h = shared_more (request_of c text (drop_policy rel n)) refl (request_heard c.role text id (drop_policy rel n) name refl h)
-  act_more id (write entries) h = shared_more (request_of c text (write entries)) refl (request_heard c.role text id (write entries) name refl h)
+  act_more id (create_role n) h = shared_more (request_of c text (create_role n)) refl (IsRequest-said_by c.role text id (create_role n) name refl h)
+  act_more id (create_table n owner columns) h = shared_more (request_of c text (create_table n owner columns)) refl (IsRequest-said_by c.role text id (create_table n owner columns) name refl h)
+  act_more id (create_view n owner query) h = shared_more (request_of c text (create_view n owner query)) refl (IsRequest-said_by c.role text id (create_view n owner query) name refl h)
+  act_more id (grant rel privileges to) h = shared_more (request_of c text (grant rel privileges to)) refl (IsRequest-said_by c.role text id (grant rel privileges to) name refl h)
+  act_more id (revoke rel privileges to) h = shared_more (request_of c text (revoke rel privileges to)) refl (IsRequest-said_by c.role text id (revoke rel privileges to) name refl h)
+  act_more id (grant_role group to) h = shared_more (request_of c text (grant_role group to)) refl (IsRequest-said_by c.role text id (grant_role group to) name refl h)
+  act_more id (revoke_role group to) h = shared_more (request_of c text (revoke_role group to)) refl (IsRequest-said_by c.role text id (revoke_role group to) name refl h)
+  act_more id (row_security rel enable force) h = shared_more (request_of c text (row_security rel enable force)) refl (IsRequest-said_by c.role text id (row_security rel enable force) name refl h)
+  act_more id (create_policy p) h = shared_more (request_of c text (create_policy p)) refl (IsRequest-said_by c.role text id (create_policy p) name refl h)
+  act_more id (drop_policy rel n) h =
+    shared_more (request_of c text (drop_policy rel n)) refl (IsRequest-said_by c.role text id (drop_policy rel n) name refl h)
+  act_more id (write entries) h = shared_more (request_of c text (write entries)) refl (IsRequest-said_by c.role text id (write entries) name refl h)
 
   pub said_more : (m : Message) → said_by text ≡ m → MayAdd g (said_added g c text m)
   said_more no_json h = nothing_more g
@@ -232,8 +233,8 @@ module _ (texts : Texts) (g : Gate) (c : Client) (text : List ℕ) (name : is_na
 
 -- ---- a step
 
-pub step_more : (g : Gate) (s : Step) → IsEntry (entry_of s) → first_known 1 s.names (known_of g) ≡ None → position g < s.to → MayAdd g (entry_of s ∷ [])
-step_more g s w n p = record {
+pub MayAdd-entry_of : (g : Gate) (s : Step) → IsEntry (entry_of s) → first_known 1 s.names (known_of g) ≡ None → position g < s.to → MayAdd g (entry_of s ∷ [])
+MayAdd-entry_of g s w n p = record {
   well = (w, tt);
   names = ap (λ ns. first_known 1 ns (known_of g)) (append-nil s.names) ∙ n;
   steps = (λ i. lt-ltb (position g) s.to p i && true);
@@ -258,11 +259,11 @@ unadded_kit g m = record {
   close = λ h own x. x;
 }
 
-pub came_adds : (g : Gate) (m : ℕ) (token : List ℕ) → (came g m token).entries ≡ g.entries
-came_adds g m token = came_keeps (Unadded g) (unadded_kit g) g m token (λ h t e x. x) refl
+pub entries-came : (g : Gate) (m : ℕ) (token : List ℕ) → (came g m token).entries ≡ g.entries
+entries-came g m token = came_keeps (Unadded g) (unadded_kit g) g m token (λ h t e x. x) refl
 
-pub went_adds : (g : Gate) (m : ℕ) → (went g m).entries ≡ g.entries
-went_adds g m = went_keeps (Unadded g) (unadded_kit g) g m (λ x. x) refl
+pub entries-went : (g : Gate) (m : ℕ) → (went g m).entries ≡ g.entries
+entries-went g m = went_keeps (Unadded g) (unadded_kit g) g m (λ x. x) refl
 
 -- ---- what a step that is taken has
 
@@ -271,8 +272,8 @@ pub record IsNext (g : Gate) (s : Step) : Type 0 where
   pub rises : position g < s.to
   pub accepted : is_some (first_refused 1 (map fact_of s.requests) (shared g.machine)) ≡ false
 
-pub is_next : (g : Gate) (s : Step) → is_some (fault_of g s) ≡ false → is_behind g s ≡ false → IsNext g s
-is_next g s f b =
+pub IsNext-fault_of : (g : Gate) (s : Step) → is_some (fault_of g s) ≡ false → is_behind g s ≡ false → IsNext g s
+IsNext-fault_of g s f b =
     by (if_some g.head.log false (is_log s.log)) ((s.from == position g) && nat_lt s.from s.to) refl (first_known 1 s.names (known_of g)) refl (ap (λ t. is_some (cond t None later)) (sym b) ∙ f)
   where
     refusal : Option Fault

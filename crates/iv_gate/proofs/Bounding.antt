@@ -14,28 +14,28 @@ use Rattle.iv_clients.specs.Clients.{Client, Shown, Slots, Sub, answered, at_all
 use Rattle.iv_clients.specs.Feeds.{ends_in, is_of_role}
 use Rattle.iv_clients.specs.Journal.{Entry, said_by, shape_for}
 use Rattle.iv_clients.specs.Tokens.{Token}
-use Rattle.iv_clients.proofs.Slots.{at_every, at_other, at_same, nobody, one_some}
+use Rattle.iv_clients.proofs.Slots.{client_at-at_all, client_at-at_other_client, client_at-at_client, not_client_at-replicate, same-Some}
 use Rattle.iv_gate.specs.Events.{Event, presented, message, gone, known, ticked, synced, handed, failed, happens, next, arrived, forgave}
 use Rattle.iv_gate.specs.Gate.{Gate, all_rested, all_swept, done_for, hears, token_for, said, settles, told_of, went, at_text, Head}
 use Rattle.iv_gate.specs.Laws.{IsBounded}
 use Rattle.iv_gate.specs.Restoring.{Restores, gate_at_start}
 use Rattle.iv_gate.specs.Runs.{Runs, begins, goes_on, begins_again}
-use Rattle.iv_gate.proofs.Calm.{all_rested_last, all_swept_last, with_last}
-use Rattle.iv_gate.proofs.Doing.{all_done, fewer_left}
-use Rattle.iv_gate.proofs.News.{done_bounded, done_last}
-use Rattle.iv_gate.proofs.Joining.{and_both, own_moved}
-use Rattle.iv_gate.proofs.Lasting.{Starts, runs_sound}
-use Rattle.iv_gate.proofs.Noticing.{came_stays, every_is, settled_same, went_turns}
-use Rattle.iv_gate.proofs.Opening.{own_pushed}
-use Rattle.iv_gate.proofs.Running.{client_said, one_sound}
+use Rattle.iv_gate.proofs.Calm.{last-all_rested, last-all_swept, last-with_session}
+use Rattle.iv_gate.proofs.Doing.{all_done, le-length_filter}
+use Rattle.iv_gate.proofs.News.{Later-IsDone_subs, le-IsDone_last}
+use Rattle.iv_gate.proofs.Joining.{and-both_true, AreOwn-moved_sub}
+use Rattle.iv_gate.proofs.Lasting.{Starts, IsSoundGate-Runs}
+use Rattle.iv_gate.proofs.Noticing.{same-presented, same-at_all, subs-settling, either-gone}
+use Rattle.iv_gate.proofs.Opening.{AreOwn-push}
+use Rattle.iv_gate.proofs.Running.{IsSoundClient-said, IsSoundGate-at_client}
 use Rattle.iv_gate.proofs.Signs.{Mark, Sign, mark_of, marks_in}
-use Rattle.iv_gate.proofs.Sound.{Adds, IsSoundGate, Seer, Sounds, own_left, seer, seer_telling}
-use Rattle.iv_gate.proofs.Summing.{AreOwn, neither}
-use Rattle.iv_gate.proofs.Touching.{alive as is_alive, came_as, came_sign, rests, said_slots, touched, went_sign, takes_slots}
-use Rattle.iv_gate.proofs.Walking.{Kit, Later, to_done, landed_client, step_told, takes_at}
+use Rattle.iv_gate.proofs.Sound.{Adds, IsSoundGate, Seer, Sounds, AreOwn-filter, seer, seer-telling}
+use Rattle.iv_gate.proofs.Summing.{AreOwn, or-both_false}
+use Rattle.iv_gate.proofs.Touching.{next-alive as is_alive, came_as, sign-came_as, next-dead, marks_in-said, AreTouched-next, sign-went, marks_in-takes}
+use Rattle.iv_gate.proofs.Walking.{Kit, Later, to_done, landed_client, step_told, client_at-takes}
 use Rattle.iv_gate.specs.Arriving.{fault_of, is_behind, landed, entry_of, fact_of, takes}
 use Rattle.iv_steps.specs.Steps.{stepped}
-use Rattle.iv_gate.proofs.Arrived.{step_led}
+use Rattle.iv_gate.proofs.Arrived.{IsLed-stepped}
 use Rattle.iv_journal.specs.Journal.{Line}
 
 -- ---- by a step
@@ -83,20 +83,20 @@ slims m = record {
 own_ran : (c : Client) (g : Gate) (k : Command) → AreOwn c.given c.subs
     → AreOwn (staying (step g.machine k).lines (telling g.entries (told_of g k.act (step g.machine k) c) c)).given (staying (step g.machine k).lines (telling g.entries (told_of g k.act (step g.machine k) c) c)).subs
 own_ran c g k h =
-    subst (λ (v : Seer). AreOwn v.given (filter (λ s. not (ends_in (step g.machine k).lines s.feed)) v.subs)) (sym (seer_telling g.entries (told_of g k.act (step g.machine k) c) c))
-    (own_left c.given (λ s. not (ends_in (step g.machine k).lines s.feed)) c.subs h)
+    subst (λ (v : Seer). AreOwn v.given (filter (λ s. not (ends_in (step g.machine k).lines s.feed)) v.subs)) (sym (seer-telling g.entries (told_of g k.act (step g.machine k) c) c))
+    (AreOwn-filter c.given (λ s. not (ends_in (step g.machine k).lines s.feed)) c.subs h)
 
 owns : (m : ℕ) → Kit m (λ j c d. AreOwn c.given c.subs → AreOwn d.given d.subs)
 owns m = record {
   same = λ j c h. h;
   chain = λ j b c d x y h. y (x h);
   hear = λ j c g k h. own_ran c g k h;
-  rest = λ j c es h. subst₂ AreOwn (sym (settled_same es c).1) (sym (settled_same es c).0) h;
+  rest = λ j c es h. subst₂ AreOwn (sym (subs-settling es c).1) (sym (subs-settling es c).0) h;
   tell = λ c es t h. h;
   show = λ j c es role line h. h;
-  follow = λ c k h. own_pushed c.given k c.subs h;
-  move = λ c t k h. own_moved t k c.given c.subs h;
-  close = λ c own h. own_left c.given (λ x. not (own == x.own)) c.subs h;
+  follow = λ c k h. AreOwn-push c.given k c.subs h;
+  move = λ c t k h. AreOwn-moved_sub t k c.given c.subs h;
+  close = λ c own h. AreOwn-filter c.given (λ x. not (own == x.own)) c.subs h;
 }
 
 -- each stands once
@@ -106,7 +106,7 @@ one_more own x xs = sum_by-cons (λ (y : Sub). cond (own == y.own) 1 0) x xs
 none_of : (own : ℕ) (xs : List Sub) → list_any (λ (y : Sub). own == y.own) xs ≡ false → count_by (λ (y : Sub). own == y.own) xs ≡ 0
 none_of own [] h = refl
 none_of own (x ∷ xs) h =
-    let p = neither (own == x.own) (list_any (λ (y : Sub). own == y.own) xs) h in
+    let p = or-both_false (own == x.own) (list_any (λ (y : Sub). own == y.own) xs) h in
     one_more own x xs ∙ (λ i. cond (p.0 i) 1 0 + none_of own xs p.1 i)
 
 stand_once : (given own : ℕ) (xs : List Sub) → AreOwn given xs → count_by (λ (y : Sub). own == y.own) xs ≤ 1
@@ -129,7 +129,7 @@ bounded_slim : (c d : Client) → Slim c d → length d.subs ≤ most_subs → A
 bounded_slim c d x n o b = record { gone = λ e. x.sendable ∙ b.gone (sym x.dropped ∙ e); subs = n; own = o; asked = subst (λ k. k ≤ most_requests) (sym x.asked) b.asked }
 
 bounded_settled : (es : List Entry) (c : Client) → Bounded c → Bounded (settling es c)
-bounded_settled es c b = bounded_slim c (settling es c) (slim_settling es c) (subst (λ (z : List Sub). length z ≤ most_subs) (sym (settled_same es c).0) b.subs) (subst₂ AreOwn (sym (settled_same es c).1) (sym (settled_same es c).0) b.own) b
+bounded_settled es c b = bounded_slim c (settling es c) (slim_settling es c) (subst (λ (z : List Sub). length z ≤ most_subs) (sym (subs-settling es c).0) b.subs) (subst₂ AreOwn (sym (subs-settling es c).1) (sym (subs-settling es c).0) b.own) b
 
 bounded_dropping : (c : Client) → Bounded c → Bounded (dropping c)
 bounded_dropping c b = record { gone = λ e. refl; subs = b.subs; own = b.own; asked = b.asked }
@@ -146,7 +146,7 @@ bounded_released c b = by (c.dropped || is_slow c) refl
   where
     by : (t : Bool) → (c.dropped || is_slow c) ≡ t → Bounded (cond t (dropping c) (record c { unsynced = []; sendable = c.sendable ++ c.unsynced }))
     by true e = bounded_dropping c b
-    by false e = record { gone = λ k. absurd (false≢true (sym (neither c.dropped (is_slow c) e).0 ∙ k)); subs = b.subs; own = b.own; asked = b.asked }
+    by false e = record { gone = λ k. absurd (false≢true (sym (or-both_false c.dropped (is_slow c) e).0 ∙ k)); subs = b.subs; own = b.own; asked = b.asked }
 
 bounded_handing : (c : Client) → Bounded c → Bounded (handing c)
 bounded_handing c b = by (length c.sendable == 0)
@@ -163,7 +163,7 @@ bounded_saying text c h b = record {
   gone = b.gone;
   subs = b.subs;
   own = b.own;
-  asked = less_next c.asked most_requests (and_both (nat_lt c.asked most_requests) (nat_lt (waiting c) most_waiting) (and_both (not c.dropped) (nat_lt c.asked most_requests && nat_lt (waiting c) most_waiting) h).1).0;
+  asked = less_next c.asked most_requests (and-both_true (nat_lt c.asked most_requests) (nat_lt (waiting c) most_waiting) (and-both_true (not c.dropped) (nat_lt c.asked most_requests && nat_lt (waiting c) most_waiting) h).1).0;
 }
 
 -- ---- a message
@@ -178,13 +178,13 @@ module _ (sounds : Sounds) (g : Gate) (b : IsSoundGate g) (m : ℕ) (text : List
   served a y e by same =
       let did = done_for asked m a text (said_by text) in
       let slim = to_done m (λ i u v. Slim u v) (slims m) asked a text (said_by text) j y e in
-      let few = done_bounded asked m a did (one_sound g m (saying text) (λ u s l. client_said g.machine g.feeds (seer u) text (b.clients m u s l)) b).state (all_done sounds asked m a text (said_by text) b.state refl) j y e same by.subs in
+      let few = Later-IsDone_subs asked m a did (IsSoundGate-at_client g m (saying text) (λ u s l. IsSoundClient-said g.machine g.feeds (seer u) text (b.clients m u s l)) b).state (all_done sounds asked m a text (said_by text) b.state refl) j y e same by.subs in
       let z = slim.now in
       let apart = to_done m (λ i u v. AreOwn u.given u.subs → AreOwn v.given v.subs) (owns m) asked a text (said_by text) j y e in
-      let alike : apart.now ≡ z = one_some apart.now z (sym apart.there ∙ slim.there) in
-      let both : few.now ≡ z = one_some few.now z (sym few.there ∙ slim.there) in
+      let alike : apart.now ≡ z = same-Some apart.now z (sym apart.there ∙ slim.there) in
+      let both : few.now ≡ z = same-Some few.now z (sym few.there ∙ slim.there) in
       let after : Bounded z = bounded_slim y z slim.so (subst (λ (v : Client). length v.subs ≤ most_subs) both few.so) (subst (λ (v : Client). AreOwn v.given v.subs) alike (apart.so by.own)) by in
-      record { now = settling did.entries z; there = at_every (settling did.entries) did.clients j ∙ ap (option_map (settling did.entries)) slim.there; so = bounded_settled did.entries z after }
+      record { now = settling did.entries z; there = client_at-at_all (settling did.entries) did.clients j ∙ ap (option_map (settling did.entries)) slim.there; so = bounded_settled did.entries z after }
 
   heard_bounded : (a : Client) → client_at g.clients m ≡ Some a → may_say a ≡ true → client_at (hears g m a text).clients j ≡ Some d → Bounded d
   heard_bounded a s may k = by (m == j) refl
@@ -195,27 +195,29 @@ module _ (sounds : Sounds) (g : Gate) (b : IsSoundGate g) (m : ℕ) (text : List
       by : (e : Bool) → (m == j) ≡ e → Bounded d
       by true e =
           let same = eqb-true m j e in
-          let one : a ≡ c = one_some a c (sym s ∙ (ap (client_at g.clients) same ∙ t)) in
+          let one : a ≡ c = same-Some a c (sym s ∙ (ap (client_at g.clients) same ∙ t)) in
           let there : client_at asked.clients j ≡ Some (saying text c) =
-          ap (λ i. client_at (at_client i (saying text) g.clients) j) same ∙ (at_same j (saying text) g.clients ∙ ap (option_map (saying text)) t) in
+          ap (λ i. client_at (at_client i (saying text) g.clients) j) same ∙
+            (client_at-at_client j (saying text) g.clients ∙ ap (option_map (saying text)) t) in
           let p = served a (saying text c) there (bounded_saying text c (ap may_say (sym one) ∙ may) x) (λ q. ap (λ (v : Client). length v.subs) (sym one)) in
           let now : client_at (hears g m a text).clients j ≡ Some (answered a p.now) =
-          ap (λ i. client_at (at_client i (answered a) last.clients) j) same ∙ (at_same j (answered a) last.clients ∙ ap (option_map (answered a)) p.there) in
-          subst Bounded (one_some (answered a p.now) d (sym now ∙ k)) (record { gone = p.so.gone; subs = p.so.subs; own = p.so.own; asked = p.so.asked })
+          ap (λ i. client_at (at_client i (answered a) last.clients) j) same ∙
+            (client_at-at_client j (answered a) last.clients ∙ ap (option_map (answered a)) p.there) in
+          subst Bounded (same-Some (answered a p.now) d (sym now ∙ k)) (record { gone = p.so.gone; subs = p.so.subs; own = p.so.own; asked = p.so.asked })
       by false e =
           let ne = eqb-false m j e in
-          let p = served a c (at_other m j (saying text) g.clients ne ∙ t) x (λ q. absurd (ne q)) in
-          subst Bounded (one_some p.now d (sym p.there ∙ (sym (at_other m j (answered a) last.clients ne) ∙ k))) p.so
+          let p = served a c (client_at-at_other_client m j (saying text) g.clients ne ∙ t) x (λ q. absurd (ne q)) in
+          subst Bounded (same-Some p.now d (sym p.there ∙ (sym (client_at-at_other_client m j (answered a) last.clients ne) ∙ k))) p.so
 
   said_bounded : client_at (said g m text).clients j ≡ Some d → Bounded d
   said_bounded k = by (client_at g.clients m) refl k
     where
       test_by : (a : Client) → client_at g.clients m ≡ Some a → (e : Bool) → may_say a ≡ e → client_at (cond e (hears g m a text) g).clients j ≡ Some d → Bounded d
       test_by a s true may y = heard_bounded a s may y
-      test_by a s false may y = subst Bounded (one_some c d (sym t ∙ y)) x
+      test_by a s false may y = subst Bounded (same-Some c d (sym t ∙ y)) x
 
       by : (o : Option Client) → client_at g.clients m ≡ o → client_at (if_some o g (λ a. cond (may_say a) (hears g m a text) g)).clients j ≡ Some d → Bounded d
-      by None s y = subst Bounded (one_some c d (sym t ∙ y)) x
+      by None s y = subst Bounded (same-Some c d (sym t ∙ y)) x
       by (Some a) s y = test_by a s (may_say a) refl y
 
 -- ---- each event
@@ -226,8 +228,9 @@ one_bounded m j f slots c d k t b h = by (m == j) refl
     by : (e : Bool) → (m == j) ≡ e → Bounded d
     by true e =
         let same = eqb-true m j e in
-        subst Bounded (one_some (f c) d (sym (ap (λ i. client_at (at_client i f slots) j) same ∙ (at_same j f slots ∙ ap (option_map f) t)) ∙ h)) (k c b)
-    by false e = subst Bounded (one_some c d (sym t ∙ (sym (at_other m j f slots (eqb-false m j e)) ∙ h))) b
+        subst Bounded (same-Some (f c) d (sym (ap (λ i. client_at (at_client i f slots) j) same ∙ (client_at-at_client j f slots ∙ ap (option_map f) t)) ∙ h))
+          (k c b)
+    by false e = subst Bounded (same-Some c d (sym t ∙ (sym (client_at-at_other_client m j f slots (eqb-false m j e)) ∙ h))) b
 
 -- a step
 bounded_landed : (g : Gate) (e : Entry) (o : Outcome) (c : Client) → Bounded c → Bounded (landed_client g e o c)
@@ -235,23 +238,23 @@ bounded_landed g e o c b =
     let es = g.entries ++ e ∷ [] in let ts = step_told g o c in let z = staying o.lines (telling es ts c) in let more = shape_for z.role (e ∷ []) in
     let first = slim_telling es ts c in let p = λ (s : Sub). not (ends_in o.lines s.feed) in
     let subs : (telling es more z).subs ≡ filter (λ (s : Sub). not (ends_in o.lines s.feed)) c.subs =
-    ap (λ (v : Seer). v.subs) (seer_telling es more z) ∙ ap (λ (v : Seer). filter p v.subs) (seer_telling es ts c) in
-    let given : (telling es more z).given ≡ c.given = ap (λ (v : Seer). v.given) (seer_telling es more z) ∙ ap (λ (v : Seer). v.given) (seer_telling es ts c) in
-    let few : length (filter p c.subs) ≤ most_subs = let l = fewer_left p c.subs in let n = b.subs in omega (arith, l, n) in
+    ap (λ (v : Seer). v.subs) (seer-telling es more z) ∙ ap (λ (v : Seer). filter p v.subs) (seer-telling es ts c) in
+    let given : (telling es more z).given ≡ c.given = ap (λ (v : Seer). v.given) (seer-telling es more z) ∙ ap (λ (v : Seer). v.given) (seer-telling es ts c) in
+    let few : length (filter p c.subs) ≤ most_subs = let l = le-length_filter p c.subs in let n = b.subs in omega (arith, l, n) in
     bounded_settled es (telling es more z) (bounded_slim c (telling es more z) (slim_then c z (telling es more z) (record { sendable = first.sendable; asked = first.asked; dropped = first.dropped }) (slim_telling es more z))
-    (subst (λ (xs : List Sub). length xs ≤ most_subs) (sym subs) few) (subst₂ AreOwn (sym given) (sym subs) (own_left c.given p c.subs b.own)) b)
+    (subst (λ (xs : List Sub). length xs ≤ most_subs) (sym subs) few) (subst₂ AreOwn (sym given) (sym subs) (AreOwn-filter c.given p c.subs b.own)) b)
 
 happens_bounded : Sounds → (g : Gate) (e : Event) → IsSoundGate g → (j : ℕ) (c d : Client) → client_at g.clients j ≡ Some c → Bounded c → client_at (happens g e).clients j ≡ Some d → Bounded d
-happens_bounded sounds g (presented m token) b j c d t x k = subst Bounded (came_stays g b m token j c d t k) x
+happens_bounded sounds g (presented m token) b j c d t x k = subst Bounded (same-presented g b m token j c d t k) x
 happens_bounded sounds g (message m text) b j c d t x k = said_bounded sounds g b m text j c d t x k
-happens_bounded sounds g (gone m) b j c d t x k = went_turns sounds g b m j c d t k (Bounded d) (λ s. subst Bounded s x) (λ es s. subst Bounded s (bounded_settled es c x))
-happens_bounded sounds g (known tokens) b j c d t x k = subst Bounded (every_is (checked tokens) g.clients j c d t k) (bounded_checked tokens c x)
-happens_bounded sounds g ticked b j c d t x k = subst Bounded (every_is (beating g.entries) g.clients j c d t k) (record { gone = x.gone; subs = x.subs; own = x.own; asked = x.asked })
-happens_bounded sounds g synced b j c d t x k = subst Bounded (every_is released g.clients j c d t k) (bounded_released c x)
+happens_bounded sounds g (gone m) b j c d t x k = either-gone sounds g b m j c d t k (Bounded d) (λ s. subst Bounded s x) (λ es s. subst Bounded s (bounded_settled es c x))
+happens_bounded sounds g (known tokens) b j c d t x k = subst Bounded (same-at_all (checked tokens) g.clients j c d t k) (bounded_checked tokens c x)
+happens_bounded sounds g ticked b j c d t x k = subst Bounded (same-at_all (beating g.entries) g.clients j c d t k) (record { gone = x.gone; subs = x.subs; own = x.own; asked = x.asked })
+happens_bounded sounds g synced b j c d t x k = subst Bounded (same-at_all released g.clients j c d t k) (bounded_released c x)
 happens_bounded sounds g (handed m) b j c d t x k = one_bounded m j handing g.clients c d bounded_handing t x k
-happens_bounded sounds g (arrived s) b j c d t x k = takes_at Bounded g s j c d t k x (λ o e. bounded_landed g (entry_of s) o c x)
-happens_bounded sounds g forgave b j c d t x k = subst Bounded (one_some c d (sym t ∙ k)) x
-happens_bounded sounds g failed b j c d t x k = subst Bounded (one_some c d (sym t ∙ k)) x
+happens_bounded sounds g (arrived s) b j c d t x k = client_at-takes Bounded g s j c d t k x (λ o e. bounded_landed g (entry_of s) o c x)
+happens_bounded sounds g forgave b j c d t x k = subst Bounded (same-Some c d (sym t ∙ k)) x
+happens_bounded sounds g failed b j c d t x k = subst Bounded (same-Some c d (sym t ∙ k)) x
 
 abbrev AllBounded : Gate → Type 0
 AllBounded g = (m : ℕ) (c : Client) → client_at g.clients m ≡ Some c → Bounded c
@@ -262,19 +265,20 @@ next_bounded sounds g e b a j d h = by g.dead refl
     who : g.dead ≡ false → (o : Option Client) → client_at g.clients j ≡ o → Bounded d
     who live (Some c) t = happens_bounded sounds g e b j c d t (a j c t) (ap (λ (x : Gate). client_at x.clients j) (sym (is_alive g e live)) ∙ h)
     who live None t =
-        let n = (touched g e live).comes j d t h in
+        let n = (AreTouched-next g e live).comes j d t h in
         subst Bounded (sym n.is) (record { gone = λ k. absurd (false≢true k); subs = omega arith; own = tt; asked = omega arith })
 
     by : (q : Bool) → g.dead ≡ q → Bounded d
-    by true q = a j d (ap (λ (x : Gate). client_at x.clients j) (sym (rests g e q)) ∙ h)
+    by true q = a j d (ap (λ (x : Gate). client_at x.clients j) (sym (next-dead g e q)) ∙ h)
     by false q = who q (client_at g.clients j) refl
 
 restored_bounded : (cap : ℕ) (tokens : List Token) (most : ℕ) (head : Head) (sent : List Shown) (journal : List Line) (g : Gate) → Restores (gate_at_start cap tokens most head sent) journal g → AllBounded g
-restored_bounded cap tokens most head sent journal g r m c h = absurd (nobody most m c (ap (λ (x : Gate). client_at x.clients m) (sym r.leads.gate) ∙ h))
+restored_bounded cap tokens most head sent journal g r m c h =
+    absurd (not_client_at-replicate most m c (ap (λ (x : Gate). client_at x.clients m) (sym r.leads.gate) ∙ h))
 
 runs_bounded : Adds → Starts → Sounds → (cap : ℕ) (g : Gate) → Runs cap g → AllBounded g
 runs_bounded adds starts sounds cap _ (begins tokens most head journal g r) = restored_bounded cap tokens most head [] journal g r
-runs_bounded adds starts sounds cap _ (goes_on h e w r) = next_bounded sounds h e (runs_sound adds starts sounds cap h r) (runs_bounded adds starts sounds cap h r)
+runs_bounded adds starts sounds cap _ (goes_on h e w r) = next_bounded sounds h e (IsSoundGate-Runs adds starts sounds cap h r) (runs_bounded adds starts sounds cap h r)
 runs_bounded adds starts sounds cap _ (begins_again h disk tokens most i r l x) = restored_bounded cap tokens most h.head h.sent disk i x
 
 -- ---- behind a sync
@@ -288,17 +292,17 @@ is_synced c d e = by (c.dropped || is_slow c) refl e
     by : (t : Bool) → (c.dropped || is_slow c) ≡ t → cond t (dropping c) (record c { unsynced = []; sendable = c.sendable ++ c.unsynced }) ≡ d
         → (d.unsynced ≡ []) × (d.dropped ≡ false → length (text_shown (by_others c.sendable)) ≤ most_piled)
     by true t s = (ap (λ (x : Client). x.unsynced) (sym s), λ k. absurd (false≢true (sym k ∙ ap (λ (x : Client). x.dropped) (sym s))))
-    by false t s = (ap (λ (x : Client). x.unsynced) (sym s), λ k. not_less most_piled (length (text_shown (by_others c.sendable))) (neither c.dropped (is_slow c) t).1)
+    by false t s = (ap (λ (x : Client). x.unsynced) (sym s), λ k. not_less most_piled (length (text_shown (by_others c.sendable))) (or-both_false c.dropped (is_slow c) t).1)
 
-pub are_bounded : Adds → Starts → Sounds → (cap : ℕ) (g : Gate) → Runs cap g → (m : ℕ) (c : Client) → client_at g.clients m ≡ Some c → IsBounded g m c
-are_bounded adds starts sounds cap g r m c h =
+pub IsBounded-Runs : Adds → Starts → Sounds → (cap : ℕ) (g : Gate) → Runs cap g → (m : ℕ) (c : Client) → client_at g.clients m ≡ Some c → IsBounded g m c
+IsBounded-Runs adds starts sounds cap g r m c h =
     let b = runs_bounded adds starts sounds cap g r m c h in
     record {
       gone = b.gone;
       subs = b.subs;
       numbers = λ own. stand_once c.given own c.subs b.own;
       asked = b.asked;
-      synced = λ live d k. is_synced c d (every_is released g.clients m c d h (ap (λ (x : Gate). client_at x.clients m) (sym (is_alive g synced live)) ∙ k));
+      synced = λ live d k. is_synced c d (same-at_all released g.clients m c d h (ap (λ (x : Gate). client_at x.clients m) (sym (is_alive g synced live)) ∙ k));
     }
 
 -- ---- places
@@ -330,8 +334,8 @@ happens_places g (presented m token) = by (token_for g m token)
     by : (o : Option Token) → length (if_some o g (came_as g m)).clients ≡ length g.clients
     by None = refl
     by (Some t) = let x = Some (mark_of (fresh g.entries t (at_text g t))) in
-        by_marks g.clients (came_as g m t).clients (set (marks_in g.clients) m x) (ap (λ (x : Sign). x.slots) (came_sign g m t)) (set_length (marks_in g.clients) m x ∙ marks_length g.clients)
-happens_places g (message m text) = by_marks g.clients (said g m text).clients _ (said_slots g m text) (by (client_at g.clients m))
+        by_marks g.clients (came_as g m t).clients (set (marks_in g.clients) m x) (ap (λ (x : Sign). x.slots) (sign-came_as g m t)) (set_length (marks_in g.clients) m x ∙ marks_length g.clients)
+happens_places g (message m text) = by_marks g.clients (said g m text).clients _ (marks_in-said g m text) (by (client_at g.clients m))
   where
     test_by : (c : Client) (b : Bool) → length (cond b (marks_in (at_client m (saying text) g.clients)) (marks_in g.clients)) ≡ length g.clients
     test_by c true = marks_length (at_client m (saying text) g.clients) ∙ at_length m (saying text) g.clients
@@ -340,7 +344,7 @@ happens_places g (message m text) = by_marks g.clients (said g m text).clients _
     by : (o : Option Client) → length (if_some o (marks_in g.clients) (λ c. cond (may_say c) (marks_in (at_client m (saying text) g.clients)) (marks_in g.clients))) ≡ length g.clients
     by None = marks_length g.clients
     by (Some c) = test_by c (may_say c)
-happens_places g (gone m) = by_marks g.clients (went g m).clients _ (ap (λ (x : Sign). x.slots) (went_sign g m)) (by (client_at g.clients m))
+happens_places g (gone m) = by_marks g.clients (went g m).clients _ (ap (λ (x : Sign). x.slots) (sign-went g m)) (by (client_at g.clients m))
   where
     by : (o : Option Client) → length (if_some o (marks_in g.clients) (λ c. set (marks_in g.clients) m None)) ≡ length g.clients
     by None = marks_length g.clients
@@ -349,12 +353,12 @@ happens_places g (known tokens) = all_length (checked tokens) g.clients
 happens_places g ticked = all_length (beating g.entries) g.clients
 happens_places g synced = all_length released g.clients
 happens_places g (handed m) = at_length m handing g.clients
-happens_places g (arrived s) = by_marks g.clients (takes g s).clients (marks_in g.clients) (takes_slots g s) (marks_length g.clients)
+happens_places g (arrived s) = by_marks g.clients (takes g s).clients (marks_in g.clients) (marks_in-takes g s) (marks_length g.clients)
 happens_places g forgave = refl
 happens_places g failed = refl
 
-pub places_stay : (g : Gate) (e : Event) → length (next g e).clients ≡ length g.clients
-places_stay g e = by g.dead
+pub length-next_clients : (g : Gate) (e : Event) → length (next g e).clients ≡ length g.clients
+length-next_clients g e = by g.dead
   where
     by : (t : Bool) → length (cond t g (happens g e)).clients ≡ length g.clients
     by true = refl
@@ -367,13 +371,13 @@ happens_last sounds g (presented m token) b = by (token_for g m token)
   where
     by : (o : Option Token) → (if_some o g (came_as g m)).machine.frame.last ≤ 1 + g.machine.frame.last
     by None = omega arith
-    by (Some t) = let l = with_last g t.role in omega (arith, l)
+    by (Some t) = let l = last-with_session g t.role in omega (arith, l)
 happens_last sounds g (message m text) b = by (client_at g.clients m)
   where
     test_by : (c : Client) (t : Bool) → (cond t (hears g m c text) g).machine.frame.last ≤ 1 + g.machine.frame.last
     test_by c true =
         let asked = record g { clients = at_client m (saying text) g.clients } in
-        done_last asked m c (done_for asked m c text (said_by text)) (all_done sounds asked m c text (said_by text) b.state refl)
+        le-IsDone_last asked m c (done_for asked m c text (said_by text)) (all_done sounds asked m c text (said_by text) b.state refl)
     test_by c false = omega arith
 
     by : (o : Option Client) → (if_some o g (λ c. cond (may_say c) (hears g m c text) g)).machine.frame.last ≤ 1 + g.machine.frame.last
@@ -391,7 +395,7 @@ happens_last sounds g (gone m) b = by (client_at g.clients m)
     by None = omega arith
     by (Some a) =
         let ks = map (λ (s : Sub). s.feed) a.subs in let i = all_swept left ks in
-        let l = all_rested_last i (filter (is_of_role a.role) i.seats) in let k = all_swept_last left ks in
+        let l = last-all_rested i (filter (is_of_role a.role) i.seats) in let k = last-all_swept left ks in
         omega (arith, l, k)
 happens_last sounds g (known tokens) b = omega arith
 happens_last sounds g ticked b = omega arith
@@ -404,12 +408,12 @@ happens_last sounds g (arrived s) b = by (is_some (fault_of g s)) (is_behind g s
     by true y o e = omega arith
     by false true o e = omega arith
     by false false None e = omega arith
-    by false false (Some o) e = let l = (step_led sounds (map fact_of s.requests) g.machine o e).last in omega (arith, l)
+    by false false (Some o) e = let l = (IsLed-stepped sounds (map fact_of s.requests) g.machine o e).last in omega (arith, l)
 happens_last sounds g forgave b = omega arith
 happens_last sounds g failed b = omega arith
 
-pub last_stays : Sounds → (g : Gate) (e : Event) → IsSoundGate g → (next g e).machine.frame.last ≤ 1 + g.machine.frame.last
-last_stays sounds g e b = by g.dead
+pub le-next_last : Sounds → (g : Gate) (e : Event) → IsSoundGate g → (next g e).machine.frame.last ≤ 1 + g.machine.frame.last
+le-next_last sounds g e b = by g.dead
   where
     by : (t : Bool) → (cond t g (happens g e)).machine.frame.last ≤ 1 + g.machine.frame.last
     by true = omega arith

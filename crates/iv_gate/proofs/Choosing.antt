@@ -10,7 +10,7 @@ use Rattle.iv_clients.specs.Journal.{Request}
 use Rattle.iv_clients.specs.Names.{Claim, place_text}
 use Rattle.iv_once.specs.Names.{Ask, Verdict, carry, again, another, late, foreign, ahead, over, verdict}
 use Rattle.iv_gate.specs.Gate.{Gate, asked_by, by_verdict, carries, decided_elsewhere, decides, has_shape_room, names_of, place_of, replies_to, done_in, shares, tells}
-use Rattle.iv_gate.proofs.Shaping.{test_of}
+use Rattle.iv_gate.proofs.Shaping.{cond-either}
 
 -- what is told of it otherwise
 pub data IsAside : Told → Type 0 where
@@ -27,7 +27,7 @@ pub record Chooses (P : Gate → Type 0) (g : Gate) (m : ℕ) (id : Option Data)
 module _ (P : Gate → Type 0) (g : Gate) (m : ℕ) (id : Option Data) (q : Request) (x : Chooses P g m id q) where
   carries_so : (name : Option Ask) → P (carries g m id q name)
   carries_so name =
-      test_of P (has_shape_room g q.act) (if_some (seat_of g.seats q.role) (replies_to g m id q name (refused no_session)) (done_in g m id q name)) (replies_to g m id q name (refused limit))
+      cond-either P (has_shape_room g q.act) (if_some (seat_of g.seats q.role) (replies_to g m id q name (refused no_session)) (done_in g m id q name)) (replies_to g m id q name (refused limit))
       (by (seat_of g.seats q.role) refl) (x.refuses name limit)
     where
       by : (o : Option ℕ) → seat_of g.seats q.role ≡ o → P (if_some o (replies_to g m id q name (refused no_session)) (done_in g m id q name))
@@ -35,7 +35,7 @@ module _ (P : Gate → Type 0) (g : Gate) (m : ℕ) (id : Option Data) (q : Requ
       by (Some n) e = x.does name n e
 
   decides_so : (name : Option Ask) → P (decides g m id q name)
-  decides_so name = test_of P (is_some g.head.log) (tells g m (decided_elsewhere id name)) (carries g m id q name) (x.tells (decided_elsewhere id name) (aside name)) (carries_so name)
+  decides_so name = cond-either P (is_some g.head.log) (tells g m (decided_elsewhere id name)) (carries g m id q name) (x.tells (decided_elsewhere id name) (aside name)) (carries_so name)
     where
       aside : (o : Option Ask) → IsAside (decided_elsewhere id o)
       aside None = refers id 100

@@ -8,16 +8,16 @@ use Rattle.iv_message.specs.Message.{Message, request, unknown}
 use Rattle.iv_message.specs.Told.{Told, replied, unasked}
 use Rattle.iv_clients.specs.Clients.{Client, fresh, told, followed_by}
 use Rattle.iv_clients.specs.Journal.{Entry, said_by, claim_said}
-use Rattle.iv_clients.proofs.Slots.{some_is_none}
+use Rattle.iv_clients.proofs.Slots.{not_None-Some}
 use Rattle.iv_gate.specs.Gate.{Gate, may_have}
 use Rattle.iv_gate.specs.Replies.{IsAnswered, is_opened, replies}
 use Rattle.iv_gate.specs.Runs.{Runs}
 use Rattle.iv_gate.specs.Seen.{IsClosed, StaysClosed}
-use Rattle.iv_gate.proofs.Answering.{Came, Closes, OwnAnswer, answers_answered, hears_answered, new_answered, not_followed, replies_of, said_is}
+use Rattle.iv_gate.proofs.Answering.{Came, Closes, OwnAnswer, IsAnswered-OwnAnswer, IsAnswered-Hears, IsAnswered-fresh, followed_by-not_is_own, replies-one_reply, is_reply-said_reply}
 use Rattle.iv_gate.proofs.Hearing.{Hears, is_own}
-use Rattle.iv_gate.proofs.Lasting.{runs_keep}
-use Rattle.iv_gate.proofs.Places.{replies_both}
-use Rattle.iv_gate.proofs.Replying.{asked, had_before, said_reply}
+use Rattle.iv_gate.proofs.Lasting.{Came-Runs}
+use Rattle.iv_gate.proofs.Places.{replies-append}
+use Rattle.iv_gate.proofs.Replying.{asked, is_own-before, said_reply}
 use Rattle.iv_clients.specs.Tokens.{Token}
 
 -- ---- lists
@@ -25,7 +25,7 @@ use Rattle.iv_clients.specs.Tokens.{Token}
 -- what stands at a place of a list with one more stood there before, or is the one
 at_end : {X : Type 0} (xs : List X) (y : X) (i : ℕ) (x : X) → slice_get (xs ++ y ∷ []) i ≡ Some x → (slice_get xs i ≡ Some x) ⊎ ((i ≡ length xs) × (Some y ≡ Some x))
 at_end [] y zero x h = inr (refl, h)
-at_end [] y (suc i) x h = absurd (some_is_none x (sym h))
+at_end [] y (suc i) x h = absurd (not_None-Some x (sym h))
 at_end (z ∷ xs) y zero x h = inl h
 at_end (z ∷ xs) y (suc i) x h = by (at_end xs y i x h)
   where
@@ -34,7 +34,7 @@ at_end (z ∷ xs) y (suc i) x h = by (at_end xs y i x h)
     by (inr k) = inr (ap suc k.0, k.1)
 
 not_behind : {X : Type 0} (xs : List X) (i : ℕ) (x : X) → slice_get xs i ≡ Some x → i ≡ length xs → ⊥
-not_behind [] i x h e = absurd (some_is_none x (sym h))
+not_behind [] i x h e = absurd (not_None-Some x (sym h))
 not_behind (y ∷ ys) zero x h e = let no : ⊥ = omega (arith, e) in no
 not_behind (y ∷ ys) (suc i) x h e = not_behind ys i x h (one_less i (length ys) e)
   where
@@ -51,23 +51,23 @@ record IsShut (c : Client) : Type 0 where
 
 new_shut : (es : List Entry) (t : Token) (at : List ℕ) → IsShut (fresh es t at)
 new_shut es t at = record {
-  answered = new_answered es t at;
+  answered = IsAnswered-fresh es t at;
   given = λ own h. absurd (false≢true h);
   shut = λ own k. absurd (nothing own k);
 }
   where
     nothing : (own : ℕ) → IsClosed (fresh es t at) own → ⊥
-    nothing own (place, id, (text, there, asks, reply)) = some_is_none text (sym there)
+    nothing own (place, id, (text, there, asks, reply)) = not_None-Some text (sym there)
 
 hears_shut : (c d : Client) → Hears c d → IsShut c → IsShut d
 hears_shut c d x a = record {
-  answered = hears_answered c d x a.answered;
-  given = λ own h. subst (λ n. own ≤ n) (sym x.given) (a.given own (had_before c d own (x.none own) h));
+  answered = IsAnswered-Hears c d x a.answered;
+  given = λ own h. subst (λ n. own ≤ n) (sym x.given) (a.given own (is_own-before c d own (x.none own) h));
   shut = λ own k. let p = a.shut own (before own k) in (subst (λ n. own ≤ n) (sym x.given) p.0, x.none own p.1);
 }
   where
     same : replies (told d) ≡ replies (told c)
-    same = ap replies x.text ∙ (replies_both (told c) x.more ∙ (ap (λ z. replies (told c) ++ z) x.quiet ∙ append-nil (replies (told c))))
+    same = ap replies x.text ∙ (replies-append (told c) x.more ∙ (ap (λ z. replies (told c) ++ z) x.quiet ∙ append-nil (replies (told c))))
 
     before : (own : ℕ) → IsClosed d own → IsClosed c own
     before own (place, id, (text, there, asks, reply)) =
@@ -88,7 +88,7 @@ done_has g c text s id own e h = by (is_own own c.subs) refl
 
     test : is_own own c.subs ≡ false → (b : Bool)
         → cond b (replied id (cond (is_some (followed_by c.subs own)) done (refused unknown_subscription))) (unasked id (unknown (codes "once"))) ≡ replied id done → ⊥
-    test k true r = no (sym (ap (λ o. replied id (cond (is_some o) done (refused unknown_subscription))) (not_followed c.subs own k)) ∙ r)
+    test k true r = no (sym (ap (λ o. replied id (cond (is_some o) done (refused unknown_subscription))) (followed_by-not_is_own c.subs own k)) ∙ r)
     test k false r = never r
 
     by : (t : Bool) → is_own own c.subs ≡ t → is_own own c.subs ≡ true
@@ -109,7 +109,7 @@ done_may g c text s id own e h = by (may_have (claim_said text) (unsubscribe own
 
 answers_shut : (g : Gate) (m : ℕ) (c : Client) (text : List ℕ) (d : Client) → OwnAnswer g m c text d → Closes text d → IsShut c → IsShut d
 answers_shut g m c text d x n a = record {
-  answered = answers_answered g m c text d x a.answered;
+  answered = IsAnswered-OwnAnswer g m c text d x a.answered;
   given = λ own h. by_given own (x.comes own h);
   shut = λ own k. is_shut own k;
 }
@@ -151,7 +151,7 @@ answers_shut g m c text d x n a = record {
     new own id s e = (later own (a.given own (done_has (asked g m text) c text (said_by text) id own s e)), n id own s (done_may (asked g m text) c text (said_by text) id own s e))
 
     all : replies (told d) ≡ replies (told c) ++ t ∷ []
-    all = ap replies x.text ∙ replies_of (told c) x.before x.others t x.started x.alone (said_is (asked g m text) c text (said_by text))
+    all = ap replies x.text ∙ replies-one_reply (told c) x.before x.others t x.started x.alone (is_reply-said_reply (asked g m text) c text (said_by text))
 
     plus : (i j k : ℕ) → k ≡ 1 + j → i + 1 ≡ k → i ≡ j
     plus i j k e f = omega (arith, e, f)
@@ -179,5 +179,5 @@ answers_shut g m c text d x n a = record {
 keeps_shut : Came IsShut
 keeps_shut = record { new = new_shut; hears = hears_shut; answers = answers_shut }
 
-pub stays_closed : (cap : ℕ) (g : Gate) → Runs cap g → StaysClosed g
-stays_closed cap g r m c own x k = not_followed c.subs own ((runs_keep IsShut keeps_shut cap g r m c x).shut own k).1
+pub StaysClosed-Runs : (cap : ℕ) (g : Gate) → Runs cap g → StaysClosed g
+StaysClosed-Runs cap g r m c own x k = followed_by-not_is_own c.subs own ((Came-Runs IsShut keeps_shut cap g r m c x).shut own k).1

@@ -14,7 +14,7 @@ use Rattle.iv_clients.specs.Journal.{Entry, IsEntry, journal_of, names_in, recor
 use Rattle.iv_clients.specs.Laws.{Begins, ReadsBack}
 use Rattle.iv_clients.specs.Names.{limits}
 use Rattle.iv_clients.specs.Parsed.{record_in}
-use Rattle.iv_clients.proofs.Slots.{one_some, some_is_none}
+use Rattle.iv_clients.proofs.Slots.{same-Some, not_None-Some}
 use Rattle.iv_gate.specs.Arriving.{Fault, fact_of, first_known, is_new, not_new, position}
 use Rattle.iv_gate.specs.Gate.{Gate, known_of}
 use Rattle.iv_gate.specs.Restoring.{IsDamagedAt, IsDecided, LeadOn, Restores, are_rising}
@@ -24,15 +24,15 @@ use Rattle.iv_gate.specs.Restoring.{IsDamagedAt, IsDecided, LeadOn, Restores, ar
 abbrev pub facts_of : List Entry → List Fact
 facts_of es = map fact_of (requests_in es)
 
-pub facts_append : (es fs : List Entry) → facts_of (es ++ fs) ≡ facts_of es ++ facts_of fs
-facts_append es fs = ap (map fact_of) (flat_map-append (λ (e : Entry). e.requests) es fs) ∙ map-append fact_of (requests_in es) (requests_in fs)
+pub facts_of-append : (es fs : List Entry) → facts_of (es ++ fs) ≡ facts_of es ++ facts_of fs
+facts_of-append es fs = ap (map fact_of) (flat_map-append (λ (e : Entry). e.requests) es fs) ∙ map-append fact_of (requests_in es) (requests_in fs)
 
-pub names_append : (es fs : List Entry) → names_in (es ++ fs) ≡ names_in es ++ names_in fs
-names_append es fs = flat_map-append (λ (e : Entry). e.names) es fs
+pub names_in-append : (es fs : List Entry) → names_in (es ++ fs) ≡ names_in es ++ names_in fs
+names_in-append es fs = flat_map-append (λ (e : Entry). e.names) es fs
 
-pub carried_append : (s : State) (xs ys : List Fact) → all_carried (xs ++ ys) s ≡ option_and_then (all_carried ys) (all_carried xs s)
-carried_append s [] ys = refl
-carried_append s (x ∷ xs) ys = by (carried x s) (λ u. carried_append u xs ys)
+pub all_carried-append : (s : State) (xs ys : List Fact) → all_carried (xs ++ ys) s ≡ option_and_then (all_carried ys) (all_carried xs s)
+all_carried-append s [] ys = refl
+all_carried-append s (x ∷ xs) ys = by (carried x s) (λ u. all_carried-append u xs ys)
   where
     by : (o : Option State) → ((u : State) → all_carried (xs ++ ys) u ≡ option_and_then (all_carried ys) (all_carried xs u))
         → option_and_then (all_carried (xs ++ ys)) o ≡ option_and_then (all_carried ys) (option_and_then (all_carried xs) o)
@@ -44,10 +44,10 @@ pub record IsLedBy (fs : List Fact) (s : State) : Type 0 where
   pub carries : all_carried fs s ≡ Some state
 
 pub front_carried : (s t : State) (xs ys : List Fact) → all_carried (xs ++ ys) s ≡ Some t → IsLedBy xs s
-front_carried s t xs ys h = by (all_carried xs s) refl (sym (carried_append s xs ys) ∙ h)
+front_carried s t xs ys h = by (all_carried xs s) refl (sym (all_carried-append s xs ys) ∙ h)
   where
     by : (o : Option State) → all_carried xs s ≡ o → option_and_then (all_carried ys) o ≡ Some t → IsLedBy xs s
-    by None e k = absurd (some_is_none t (sym k))
+    by None e k = absurd (not_None-Some t (sym k))
     by (Some u) e k = record { state = u; carries = e }
 
 pub front_new : (n : ℕ) (xs ys : List Named) (k : Known) → first_known n (xs ++ ys) k ≡ None → first_known n xs k ≡ None
@@ -58,29 +58,29 @@ front_new n (x ∷ xs) ys k h = by (is_new k x.ask) h (front_new (n + 1) xs ys (
         → (first_known (n + 1) (xs ++ ys) (learned limits (named x) k) ≡ None → first_known (n + 1) xs (learned limits (named x) k) ≡ None)
         → cond b (first_known (n + 1) xs (learned limits (named x) k)) (Some (not_new n)) ≡ None
     by true e more = more e
-    by false e more = absurd (some_is_none (not_new n) e)
+    by false e more = absurd (not_None-Some (not_new n) e)
 
 pub both_so : (b c : Bool) → (b && c) ≡ true → (b ≡ true) × (c ≡ true)
 both_so true c h = (refl, h)
 both_so false c h = absurd (false≢true h)
 
-pub front_rising : (p : ℕ) (es fs : List Entry) → are_rising p (es ++ fs) ≡ true → are_rising p es ≡ true
-front_rising p [] fs h = refl
-front_rising p (e ∷ es) fs h =
+pub are_rising-append_front : (p : ℕ) (es fs : List Entry) → are_rising p (es ++ fs) ≡ true → are_rising p es ≡ true
+are_rising-append_front p [] fs h = refl
+are_rising-append_front p (e ∷ es) fs h =
     let b = both_so (if_some e.position true (nat_lt p)) (are_rising (unwrap_or e.position p) (es ++ fs)) h in
-    (λ i. b.0 i && front_rising (unwrap_or e.position p) es fs b.1 i)
+    (λ i. b.0 i && are_rising-append_front (unwrap_or e.position p) es fs b.1 i)
 
 pub front_all : {X : Type 0} (P : X → Type 0) (xs ys : List X) → AllByRecursion P (xs ++ ys) → AllByRecursion P xs
 front_all P [] ys w = tt
 front_all P (x ∷ xs) ys w = (w.0, front_all P xs ys w.1)
 
-pub behind_all : {X : Type 0} (P : X → Type 0) (xs ys : List X) → AllByRecursion P (xs ++ ys) → AllByRecursion P ys
-behind_all P [] ys w = w
-behind_all P (x ∷ xs) ys w = behind_all P xs ys w.1
+pub AllByRecursion-append_back : {X : Type 0} (P : X → Type 0) (xs ys : List X) → AllByRecursion P (xs ++ ys) → AllByRecursion P ys
+AllByRecursion-append_back P [] ys w = w
+AllByRecursion-append_back P (x ∷ xs) ys w = AllByRecursion-append_back P xs ys w.1
 
-pub push_all : {X : Type 0} (P : X → Type 0) (xs : List X) (x : X) → AllByRecursion P xs → P x → AllByRecursion P (xs ++ x ∷ [])
-push_all P [] x w p = (p, tt)
-push_all P (y ∷ ys) x w p = (w.0, push_all P ys x w.1 p)
+pub AllByRecursion-push : {X : Type 0} (P : X → Type 0) (xs : List X) (x : X) → AllByRecursion P xs → P x → AllByRecursion P (xs ++ x ∷ [])
+AllByRecursion-push P [] x w p = (p, tt)
+AllByRecursion-push P (y ∷ ys) x w p = (w.0, AllByRecursion-push P ys x w.1 p)
 
 -- where entries lead
 abbrev pub led : Gate → List Entry → State → Gate
@@ -90,17 +90,17 @@ pub record Leads (g : Gate) (es : List Entry) : Type 0 where
   pub state : State
   pub on : LeadOn g es (led g es state)
 
-pub front_leads : (g h : Gate) (es fs : List Entry) → LeadOn g (es ++ fs) h → Leads g es
-front_leads g h es fs l =
-    let c = front_carried g.machine l.state (facts_of es) (facts_of fs) (ap (λ xs. all_carried xs g.machine) (sym (facts_append es fs)) ∙ l.accepted) in
+pub Leads-LeadOn : (g h : Gate) (es fs : List Entry) → LeadOn g (es ++ fs) h → Leads g es
+Leads-LeadOn g h es fs l =
+    let c = front_carried g.machine l.state (facts_of es) (facts_of fs) (ap (λ xs. all_carried xs g.machine) (sym (facts_of-append es fs)) ∙ l.accepted) in
     record {
       state = c.state;
       on = record {
         state = c.state;
         well = front_all IsEntry es fs l.well;
         accepted = c.carries;
-        names = front_new 1 (names_in es) (names_in fs) (known_of g) (ap (λ xs. first_known 1 xs (known_of g)) (sym (names_append es fs)) ∙ l.names);
-        steps = front_rising (position g) es fs l.steps;
+        names = front_new 1 (names_in es) (names_in fs) (known_of g) (ap (λ xs. first_known 1 xs (known_of g)) (sym (names_in-append es fs)) ∙ l.names);
+        steps = are_rising-append_front (position g) es fs l.steps;
         gate = refl;
       };
     }
@@ -110,14 +110,14 @@ front_leads g h es fs l =
 abbrev pub lines_of : Entry → List Line
 lines_of e = record_of (texts_of e)
 
-pub journal_one : (e : Entry) (more : List Line) → journal_of (e ∷ []) ++ more ≡ lines_of e ++ more
-journal_one e more = ap (λ z. z ++ more) (append-nil (lines_of e))
+pub journal_of-one : (e : Entry) (more : List Line) → journal_of (e ∷ []) ++ more ≡ lines_of e ++ more
+journal_of-one e more = ap (λ z. z ++ more) (append-nil (lines_of e))
 
 pub journal_first : (e : Entry) (es : List Entry) (more : List Line) → journal_of (e ∷ es) ++ more ≡ lines_of e ++ (journal_of es ++ more)
 journal_first e es more = append_assoc (lines_of e) (journal_of es) more
 
-pub journal_pushed : (es : List Entry) (e : Entry) (more : List Line) → journal_of es ++ (lines_of e ++ more) ≡ journal_of (es ++ e ∷ []) ++ more
-journal_pushed es e more =
+pub journal_of-push : (es : List Entry) (e : Entry) (more : List Line) → journal_of es ++ (lines_of e ++ more) ≡ journal_of (es ++ e ∷ []) ++ more
+journal_of-push es e more =
     sym (append_assoc (journal_of es) (lines_of e) more)
     ∙ ap (λ z. z ++ more) (ap (λ z. journal_of es ++ z) (sym (append-nil (lines_of e))) ∙ sym (flat_map-append lines_of es (e ∷ [])))
 
@@ -129,16 +129,16 @@ some_lines e w = by (texts_of e) w.some
     by (t ∷ []) h = omega arith
     by (t ∷ u ∷ us) h = omega arith
 
-pub no_lines : (e : Entry) (es : List Entry) (more : List Line) → IsEntry e → [] ≡ journal_of (e ∷ es) ++ more → ⊥
-no_lines e es more w h =
+pub not_nothing-journal_of : (e : Entry) (es : List Entry) (more : List Line) → IsEntry e → [] ≡ journal_of (e ∷ es) ++ more → ⊥
+not_nothing-journal_of e es more w h =
     none (length (lines_of e)) (length (journal_of es ++ more)) (some_lines e w)
     (ap length (h ∙ journal_first e es more) ∙ length-append (lines_of e) (journal_of es ++ more))
   where
     none : (a b : ℕ) → 0 < a → 0 ≡ a + b → ⊥
     none a b h k = omega (arith, h, k)
 
-pub read_one : ReadsBack → (e : Entry) (more : List Line) → IsEntry e → record_in (lines_of e ++ more) ≡ Some (e, more)
-read_one reads e more w = (reads (lines_of e ++ more) e more).1 (record { entry = w; lines = refl })
+pub record_in-lines_of : ReadsBack → (e : Entry) (more : List Line) → IsEntry e → record_in (lines_of e ++ more) ≡ Some (e, more)
+record_in-lines_of reads e more w = (reads (lines_of e ++ more) e more).1 (record { entry = w; lines = refl })
 
 abbrev Never : Gate → List Entry → Type 0
 Never g es = (h : Gate) → LeadOn g es h → ⊥
@@ -148,8 +148,8 @@ tries g es w = by (all_carried (facts_of es) g.machine) refl (first_known 1 (nam
   where
     by : (o : Option State) → all_carried (facts_of es) g.machine ≡ o → (f : Option Fault) → first_known 1 (names_in es) (known_of g) ≡ f → (t : Bool) → are_rising (position g) es ≡ t
         → Leads g es ⊎ Never g es
-    by None a f b t c = inr (λ h l. some_is_none l.state (sym l.accepted ∙ a))
-    by (Some s) a (Some f) b t c = inr (λ h l. some_is_none f (sym b ∙ l.names))
+    by None a f b t c = inr (λ h l. not_None-Some l.state (sym l.accepted ∙ a))
+    by (Some s) a (Some f) b t c = inr (λ h l. not_None-Some f (sym b ∙ l.names))
     by (Some s) a None b false c = inr (λ h l. false≢true (sym c ∙ l.steps))
     by (Some s) a None b true c = inl (record { state = s; on = record { state = s; well = w; accepted = a; names = b; steps = c; gate = refl } })
 
@@ -169,7 +169,8 @@ record IsLed (g : Gate) (lines : List Line) : Type 0 where
 -- of records that lead on the last is read as it was written
 reads_this : ReadsBack → (g : Gate) (es : List Entry) (rest : List Line) (e : Entry) (more : List Line) (h : Gate) → rest ≡ journal_of (e ∷ []) ++ more → LeadOn g (es ++ e ∷ []) h
     → record_in rest ≡ Some (e, more)
-reads_this reads g es rest e more h a l = ap record_in (a ∙ journal_one e more) ∙ read_one reads e more (behind_all IsEntry es (e ∷ []) l.well).0
+reads_this reads g es rest e more h a l =
+    ap record_in (a ∙ journal_of-one e more) ∙ record_in-lines_of reads e more (AllByRecursion-append_back IsEntry es (e ∷ []) l.well).0
 
 -- `fuel` bounds the lines
 far : ReadsBack → (fuel : ℕ) (g : Gate) (lines : List Line) (es : List Entry) (rest : List Line) → lines ≡ journal_of es ++ rest → Leads g es → length rest ≤ fuel → IsLed g lines
@@ -182,13 +183,13 @@ far reads (suc fuel) g lines es rest a l n = by (record_in rest) refl (λ fs mor
 
     other : (x : Entry) (later : List Line) → record_in rest ≡ Some (x, later) → Never g (es ++ x ∷ []) → Stops g es rest
     other x later r bad e more h b m =
-        let same = one_some {X = Entry × List Line} (e, more) (x, later) (sym (reads_this reads g es rest e more h b m) ∙ r) in
+        let same = same-Some {X = Entry × List Line} (e, more) (x, later) (sym (reads_this reads g es rest e more h b m) ∙ r) in
         bad h (subst (λ z. LeadOn g (es ++ z ∷ []) h) (ap (λ (z : Entry × List Line). z.0) same) m)
 
     one : (x : Entry) (later : List Line) → record_in rest ≡ Some (x, later) → Begins rest x later
         → ((fs : List Entry) (more : List Line) → lines ≡ journal_of fs ++ more → Leads g fs → length more ≤ fuel → IsLed g lines) → Leads g (es ++ x ∷ []) ⊎ Never g (es ++ x ∷ []) → IsLed g lines
     one x later r b on (inl m) =
-        on (es ++ x ∷ []) later (a ∙ (ap (λ z. journal_of es ++ z) b.lines ∙ journal_pushed es x later)) m
+        on (es ++ x ∷ []) later (a ∙ (ap (λ z. journal_of es ++ z) b.lines ∙ journal_of-push es x later)) m
         (fewer (length (lines_of x)) (length later) (length rest) (some_lines x b.entry) (ap length b.lines ∙ length-append (lines_of x) later) n)
     one x later r b on (inr bad) = record { entries = es; rest = rest; all = a; leads = l; stops = inr (other x later r bad) }
 
@@ -199,10 +200,10 @@ far reads (suc fuel) g lines es rest a l n = by (record_in rest) refl (λ fs mor
       rest = rest;
       all = a;
       leads = l;
-      stops = inr (λ e more h b m. some_is_none {X = Entry × List Line} (e, more) (sym (reads_this reads g es rest e more h b m) ∙ r));
+      stops = inr (λ e more h b m. not_None-Some {X = Entry × List Line} (e, more) (sym (reads_this reads g es rest e more h b m) ∙ r));
     }
     by (Some (x, later)) r on =
-        let b = (reads rest x later).0 r in one x later r b on (tries g (es ++ x ∷ []) (push_all IsEntry es x l.on.well b.entry))
+        let b = (reads rest x later).0 r in one x later r b on (tries g (es ++ x ∷ []) (AllByRecursion-push IsEntry es x l.on.well b.entry))
 
 leads_nowhere : (g : Gate) → Leads g []
 leads_nowhere g = record { state = g.machine; on = record { state = g.machine; well = tt; accepted = refl; names = refl; steps = refl; gate = refl } }
@@ -244,15 +245,15 @@ pub data Compared (es fs : List Entry) (r s : List Line) : Type 0 where
   shorter : (f : Entry) (more : List Entry) → fs ≡ es ++ f ∷ more → r ≡ journal_of (f ∷ more) ++ s → Compared es fs r s
   longer : (e : Entry) (more : List Entry) → es ≡ fs ++ e ∷ more → s ≡ journal_of (e ∷ more) ++ r → Compared es fs r s
 
-pub compare : ReadsBack → (es fs : List Entry) (r s : List Line) → AllByRecursion IsEntry es → AllByRecursion IsEntry fs → journal_of es ++ r ≡ journal_of fs ++ s → Compared es fs r s
-compare reads [] [] r s w v h = same refl h
-compare reads [] (f ∷ fs) r s w v h = shorter f fs refl h
-compare reads (e ∷ es) [] r s w v h = longer e es refl (sym h)
-compare reads (e ∷ es) (f ∷ fs) r s w v h =
-    let one : record_in (journal_of (e ∷ es) ++ r) ≡ Some (e, journal_of es ++ r) = ap record_in (journal_first e es r) ∙ read_one reads e (journal_of es ++ r) w.0 in
-    let two : record_in (journal_of (f ∷ fs) ++ s) ≡ Some (f, journal_of fs ++ s) = ap record_in (journal_first f fs s) ∙ read_one reads f (journal_of fs ++ s) v.0 in
-    let pair = one_some {X = Entry × List Line} (e, journal_of es ++ r) (f, journal_of fs ++ s) (sym one ∙ (ap record_in h ∙ two)) in
-    more_of (ap (λ (z : Entry × List Line). z.0) pair) (compare reads es fs r s w.1 v.1 (ap (λ (z : Entry × List Line). z.1) pair))
+pub Compared-journal_of : ReadsBack → (es fs : List Entry) (r s : List Line) → AllByRecursion IsEntry es → AllByRecursion IsEntry fs → journal_of es ++ r ≡ journal_of fs ++ s → Compared es fs r s
+Compared-journal_of reads [] [] r s w v h = same refl h
+Compared-journal_of reads [] (f ∷ fs) r s w v h = shorter f fs refl h
+Compared-journal_of reads (e ∷ es) [] r s w v h = longer e es refl (sym h)
+Compared-journal_of reads (e ∷ es) (f ∷ fs) r s w v h =
+    let one : record_in (journal_of (e ∷ es) ++ r) ≡ Some (e, journal_of es ++ r) = ap record_in (journal_first e es r) ∙ record_in-lines_of reads e (journal_of es ++ r) w.0 in
+    let two : record_in (journal_of (f ∷ fs) ++ s) ≡ Some (f, journal_of fs ++ s) = ap record_in (journal_first f fs s) ∙ record_in-lines_of reads f (journal_of fs ++ s) v.0 in
+    let pair = same-Some {X = Entry × List Line} (e, journal_of es ++ r) (f, journal_of fs ++ s) (sym one ∙ (ap record_in h ∙ two)) in
+    more_of (ap (λ (z : Entry × List Line). z.0) pair) (Compared-journal_of reads es fs r s w.1 v.1 (ap (λ (z : Entry × List Line). z.1) pair))
   where
     more_of : e ≡ f → Compared es fs r s → Compared (e ∷ es) (f ∷ fs) r s
     more_of k (same a b) = same (λ i. k i ∷ a i) b
@@ -263,24 +264,24 @@ compare reads (e ∷ es) (f ∷ fs) r s w v h =
 no_further : (g : Gate) (es fs : List Entry) (h : Gate) (rest s : List Line) (f : Entry) (more : List Entry) → Stops g es rest → LeadOn g fs h → fs ≡ es ++ f ∷ more → rest ≡ journal_of (f ∷ more) ++ s → ⊥
 no_further g es fs h rest s f more stops l a b =
     let on : LeadOn g ((es ++ f ∷ []) ++ more) h = subst (λ z. LeadOn g z h) (a ∙ sym (append_assoc es (f ∷ []) more)) l in
-    let x = front_leads g h (es ++ f ∷ []) more on in
-    stops f (journal_of more ++ s) (led g (es ++ f ∷ []) x.state) (b ∙ (journal_first f more s ∙ sym (journal_one f (journal_of more ++ s)))) x.on
+    let x = Leads-LeadOn g h (es ++ f ∷ []) more on in
+    stops f (journal_of more ++ s) (led g (es ++ f ∷ []) x.state) (b ∙ (journal_first f more s ∙ sym (journal_of-one f (journal_of more ++ s)))) x.on
 
-pub entry_there : (es fs : List Entry) (e : Entry) (more : List Entry) → fs ≡ es ++ e ∷ more → AllByRecursion IsEntry fs → IsEntry e
-entry_there es fs e more a w = (behind_all IsEntry es (e ∷ more) (subst (AllByRecursion IsEntry) a w)).0
+pub IsEntry-append : (es fs : List Entry) (e : Entry) (more : List Entry) → fs ≡ es ++ e ∷ more → AllByRecursion IsEntry fs → IsEntry e
+IsEntry-append es fs e more a w = (AllByRecursion-append_back IsEntry es (e ∷ more) (subst (AllByRecursion IsEntry) a w)).0
 
 restored_once : ReadsBack → (g : Gate) (lines : List Line) (h i : Gate) → Restores g lines h → Restores g lines i → h ≡ i
-restored_once reads g lines h i x y = by (compare reads h.entries i.entries [] [] x.leads.well y.leads.well (append-nil (journal_of h.entries) ∙ (sym x.all ∙ (y.all ∙ sym (append-nil (journal_of i.entries))))))
+restored_once reads g lines h i x y = by (Compared-journal_of reads h.entries i.entries [] [] x.leads.well y.leads.well (append-nil (journal_of h.entries) ∙ (sym x.all ∙ (y.all ∙ sym (append-nil (journal_of i.entries))))))
   where
     by : Compared h.entries i.entries [] [] → h ≡ i
     by (same a b) =
-        let state : x.leads.state ≡ y.leads.state = one_some x.leads.state y.leads.state (sym x.leads.accepted ∙ (ap (λ es. all_carried (facts_of es) g.machine) a ∙ y.leads.accepted)) in
+        let state : x.leads.state ≡ y.leads.state = same-Some x.leads.state y.leads.state (sym x.leads.accepted ∙ (ap (λ es. all_carried (facts_of es) g.machine) a ∙ y.leads.accepted)) in
         x.leads.gate ∙ ((λ k. led g (a k) (state k)) ∙ sym y.leads.gate)
-    by (shorter f more a b) = absurd (no_lines f more [] (entry_there h.entries i.entries f more a y.leads.well) b)
-    by (longer e more a b) = absurd (no_lines e more [] (entry_there i.entries h.entries e more a x.leads.well) b)
+    by (shorter f more a b) = absurd (not_nothing-journal_of f more [] (IsEntry-append h.entries i.entries f more a y.leads.well) b)
+    by (longer e more a b) = absurd (not_nothing-journal_of e more [] (IsEntry-append i.entries h.entries e more a x.leads.well) b)
 
 damaged_once : ReadsBack → (g : Gate) (lines : List Line) (p q : ℕ) → IsDamagedAt g lines p → IsDamagedAt g lines q → p ≡ q
-damaged_once reads g lines p q x y = by (compare reads x.entries y.entries x.rest y.rest x.leads.well y.leads.well (sym x.all ∙ y.all))
+damaged_once reads g lines p q x y = by (Compared-journal_of reads x.entries y.entries x.rest y.rest x.leads.well y.leads.well (sym x.all ∙ y.all))
   where
     by : Compared x.entries y.entries x.rest y.rest → p ≡ q
     by (same a b) = x.behind ∙ (ap (λ z. length (journal_of z)) a ∙ sym y.behind)
@@ -288,7 +289,7 @@ damaged_once reads g lines p q x y = by (compare reads x.entries y.entries x.res
     by (longer e more a b) = absurd (no_further g y.entries x.entries x.gate y.rest x.rest e more y.bad x.leads a b)
 
 never_both : ReadsBack → (g : Gate) (lines : List Line) (h : Gate) (place : ℕ) → Restores g lines h → IsDamagedAt g lines place → ⊥
-never_both reads g lines h place x y = by (compare reads y.entries h.entries y.rest [] y.leads.well x.leads.well (sym y.all ∙ (x.all ∙ sym (append-nil (journal_of h.entries)))))
+never_both reads g lines h place x y = by (Compared-journal_of reads y.entries h.entries y.rest [] y.leads.well x.leads.well (sym y.all ∙ (x.all ∙ sym (append-nil (journal_of h.entries)))))
   where
     itself : (n m : ℕ) → n ≡ m → n < m → ⊥
     itself n m h k = omega (arith, h, k)
@@ -296,7 +297,7 @@ never_both reads g lines h place x y = by (compare reads y.entries h.entries y.r
     by : Compared y.entries h.entries y.rest [] → ⊥
     by (same a b) = itself place (length lines) (y.behind ∙ (ap length (sym (append-nil (journal_of y.entries)) ∙ ap (λ z. journal_of y.entries ++ z) (sym b)) ∙ ap length (sym y.all))) y.some
     by (shorter f more a b) = no_further g y.entries h.entries h y.rest [] f more y.bad x.leads a b
-    by (longer e more a b) = no_lines e more y.rest (entry_there h.entries y.entries e more a y.leads.well) b
+    by (longer e more a b) = not_nothing-journal_of e more y.rest (IsEntry-append h.entries y.entries e more a y.leads.well) b
 
-pub journal_is_decided : ReadsBack → (g : Gate) (lines : List Line) → IsDecided g lines
-journal_is_decided reads g lines = record { either = either_way reads g lines; one_gate = restored_once reads g lines; one_place = damaged_once reads g lines; not_both = never_both reads g lines }
+pub IsDecided-ReadsBack : ReadsBack → (g : Gate) (lines : List Line) → IsDecided g lines
+IsDecided-ReadsBack reads g lines = record { either = either_way reads g lines; one_gate = restored_once reads g lines; one_place = damaged_once reads g lines; not_both = never_both reads g lines }

@@ -23,25 +23,25 @@ use Rattle.iv_clients.specs.Bounds.{most_feeds, most_seats, most_subs}
 use Rattle.iv_clients.specs.Clients.{Client, Slots, client_at}
 use Rattle.iv_clients.specs.Feeds.{Feed, Seat, feed_for, is_begun, next_seat, room_for, seat_of, without_feed, without_seat}
 use Rattle.iv_clients.specs.Journal.{said_by, Request, claim_said, names_in, Entry}
-use Rattle.iv_clients.proofs.Slots.{some_is_none}
+use Rattle.iv_clients.proofs.Slots.{not_None-Some}
 use Rattle.iv_gate.specs.Events.{Event}
 use Rattle.iv_gate.specs.Gate.{Gate, begun_for, in_session, is_accepted, reply_in, reply_to, seated, has_shape_room, Log, answer_text, answering, asked_by, entered, entries_of, may_have, names_of, place_at, place_of}
 use Rattle.iv_gate.specs.Replies.{ActsAs, AreReplied, IsFull, IsReadingReply, IsReplyTo, IsReplyToAct, reading_told, IsNamedReply, IsReplyToShared, IsSharedReply, added_by, count_of, elsewhere, is_repeated, names_by, place_behind, is_done, is_left}
-use Rattle.iv_gate.proofs.Answering.{heard_is, others_told, own_answer, own_told, heard_next, IsOwn}
-use Rattle.iv_gate.proofs.Asking.{begun_accepted, feed_acts, new_seat_acts, room_acts, seat_of_acts}
-use Rattle.iv_gate.proofs.Beginning.{begins_quietly, begun_state}
-use Rattle.iv_gate.proofs.Few.{feeds_in, one_less, shorter, none_full}
+use Rattle.iv_gate.proofs.Answering.{IsOwn-heard_by, replies-heard_by, OwnAnswer-IsOwn, told_by-OwnAnswer, next-IsOwn, IsOwn}
+use Rattle.iv_gate.proofs.Asking.{refusal-begun_for, ActsAs-feed_for, ActsAs-begun_for, ActsAs-room_for, ActsAs-seat_of}
+use Rattle.iv_gate.proofs.Beginning.{BeginsQuietly-IsSoundState, begun_state}
+use Rattle.iv_gate.proofs.Few.{feeds_in, lt-feeds_in_filter, le-feeds_in_filter, AreFull-no_room}
 use Rattle.iv_gate.proofs.Keeping.{IsKept}
-use Rattle.iv_gate.proofs.Machine.{find_passes}
-use Rattle.iv_gate.proofs.Replying.{act_reply, asked, begun_reply, first_reply, read_reply, said_reply, act_added, adds_said, carried_reply, decided_added, decided_reply, done_reply, said_added, shared_added, shared_reply, verdict_added, verdict_reply}
-use Rattle.iv_gate.proofs.Sharing.{IsFed, numbers_in, role_there, seats_in}
-use Rattle.iv_gate.proofs.Sound.{IsSoundGate, Sounds, left_of}
-use Rattle.iv_gate.proofs.Summing.{neither}
+use Rattle.iv_gate.proofs.Machine.{true-find}
+use Rattle.iv_gate.proofs.Replying.{act_reply, asked, begun_reply, first_reply, read_reply, said_reply, act_added, entries-done_for, carried_reply, decided_added, decided_reply, done_reply, said_added, shared_added, shared_reply, verdict_added, verdict_reply}
+use Rattle.iv_gate.proofs.Sharing.{IsFed, numbers_in, has_role-client_at, seats_in}
+use Rattle.iv_gate.proofs.Sound.{IsSoundGate, Sounds, feed_of-filter}
+use Rattle.iv_gate.proofs.Summing.{or-both_false}
 use Rattle.iv_once.specs.Names.{Ask, Verdict, verdict, Named}
 use Rattle.iv_clients.specs.Names.{Claim, place_text}
-use Rattle.iv_gate.proofs.Answered.{again_said, ahead_said, another_said, foreign_said, has_to_wait, is_again, is_ahead, is_another, is_carried, is_foreign, is_late, late_said, over_said, place_is, Reason, reason_of}
+use Rattle.iv_gate.proofs.Answered.{IsAnswer-find_named, IsUndecided-ahead, IsUndecided-other_digest, IsUndecided-other_epoch, has_to_wait, is_again, is_ahead, is_another, is_carried, is_foreign, is_late, IsUndecided-late, IsUndecided-is_over, place_text-place_behind, Reason, Reason-verdict}
 use Rattle.std.proofs.lemmas.Slice.Eq.{bytes_eq-Decides}
-use Rattle.iv_gate.proofs.Growing.{drop_front}
+use Rattle.iv_gate.proofs.Growing.{drop-append_front}
 use Rattle.std.proofs.lemmas.List.Elements.{filter-append}
 use Rattle.std.proofs.lemmas.List.Concat.{flat_map-append}
 use Rattle.iv_steps.specs.Steps.{is_shared}
@@ -52,8 +52,8 @@ use Rattle.iv_gate.proofs.Stepping.{request_of}
 fed_rest : (k : ℕ) (fs : List Feed) (es : List Subscription) → list_any (λ (x : Subscription). k == x.number) es ≡ false → AllByRecursion (IsFed fs) es → AllByRecursion (IsFed (without_feed k fs)) es
 fed_rest k fs [] n a = tt
 fed_rest k fs (x ∷ xs) n a =
-    let e = neither (k == x.number) (list_any (λ (y : Subscription). k == y.number) xs) n in (
-      record { feed = a.0.feed; found = left_of (λ j. k == j) x.number a.0.feed fs a.0.found e.0; session = a.0.session },
+    let e = or-both_false (k == x.number) (list_any (λ (y : Subscription). k == y.number) xs) n in (
+      record { feed = a.0.feed; found = feed_of-filter (λ j. k == j) x.number a.0.feed fs a.0.found e.0; session = a.0.session },
       fed_rest k fs xs e.1 a.1,
     )
 
@@ -67,9 +67,9 @@ fed_count n (e ∷ es) fs u a = by (n == e.session) refl (fed_count n es (withou
     by : (b : Bool) → (n == e.session) ≡ b → length (filter (λ (x : Subscription). n == x.session) es) ≤ length (feeds_in n (without_feed e.number fs))
         → length (cond b (e ∷ filter (λ (x : Subscription). n == x.session) es) (filter (λ (x : Subscription). n == x.session) es)) ≤ length (feeds_in n fs)
     by true h more =
-        let less = one_less n q fs e.number a.0.feed a.0.found (ap not (find_passes (λ (x : Feed). e.number == x.number) fs a.0.feed a.0.found)) (ap (λ i. n == i) a.0.session ∙ h) in
+        let less = lt-feeds_in_filter n q fs e.number a.0.feed a.0.found (ap not (true-find (λ (x : Feed). e.number == x.number) fs a.0.feed a.0.found)) (ap (λ i. n == i) a.0.session ∙ h) in
         omega (arith, less, more)
-    by false h more = let less = shorter n q fs in omega (arith, less, more)
+    by false h more = let less = le-feeds_in_filter n q fs in omega (arith, less, more)
 
 -- so each session has a place
 places : (g : Gate) → IsSoundGate g → IsKept g → (n : ℕ) → count_by (λ (e : Subscription). n == e.session) g.machine.frame.subscriptions ≤ most_feeds
@@ -84,7 +84,7 @@ find_neither p [] ys h = (refl, h)
 find_neither p (x ∷ xs) ys h = by (p x) h (find_neither p xs ys)
   where
     by : (b : Bool) → cond b (Some x) (find p (xs ++ ys)) ≡ None → (find p (xs ++ ys) ≡ None → (find p xs ≡ None) × (find p ys ≡ None)) → (cond b (Some x) (find p xs) ≡ None) × (find p ys ≡ None)
-    by true k more = absurd (some_is_none x k)
+    by true k more = absurd (not_None-Some x k)
     by false k more = more k
 
 find_alike : (p q : ℕ → Bool) (xs : List ℕ) → AllByRecursion (λ i. q i ≡ p i) xs → find q xs ≡ find p xs
@@ -146,7 +146,7 @@ all_seated (suc n) seats h =
     omega (arith, rest, less)
   where
     none_of : (b : Bool) → cond b (Some (suc n)) None ≡ None → b ≡ false
-    none_of true k = absurd (some_is_none (suc n) k)
+    none_of true k = absurd (not_None-Some (suc n) k)
     none_of false k = refl
 
     apart : (n i : ℕ) → i ≤ n → (suc n == i) ≡ false
@@ -172,21 +172,21 @@ begin_refusal a b c h k l = (λ i. or_else (or_else (test (h i) session_in_use) 
 
 accepts : (s : State) (n : ℕ) (role : Name) (o : Option Refusal) → o ≡ None → is_accepted (reply_in (outcome s (in_session n (begin role)) o).lines) ≡ true
 accepts s n role None h = refl
-accepts s n role (Some r) h = absurd (some_is_none r h)
+accepts s n role (Some r) h = absurd (not_None-Some r h)
 
 at_most : (n : ℕ) → nat_le 256 n ≡ true → 255 ≤ n
 at_most n h = grind (arith, nat_tests)
 
 -- then all are begun
-pub all_begun : (g : Gate) (role : Name) → IsSoundGate g → IsKept g → is_some (role_of g.machine.frame.rights role) ≡ true → begun_for g role ≡ None → most_seats ≤ length g.seats
-all_begun g role b k known h = by (next_seat g.seats) refl h
+pub le-begun_for_none : (g : Gate) (role : Name) → IsSoundGate g → IsKept g → is_some (role_of g.machine.frame.rights role) ≡ true → begun_for g role ≡ None → most_seats ≤ length g.seats
+le-begun_for_none g role b k known h = by (next_seat g.seats) refl h
   where
     full : (n : ℕ) → next_seat g.seats ≡ Some n → (t : Bool) → nat_le 256 (length g.machine.frame.sessions) ≡ t → cond (is_accepted (reply_to g (in_session n (begin role)))) (Some n) None ≡ None → most_seats ≤ length g.seats
     full n e true t i = subst (λ z. 255 ≤ z) (sym (length-map g.machine.frame.sessions (λ (x : Session). x.number)) ∙ (ap length k.shared.sessions ∙ length-map g.seats (λ (x : Seat). x.session))) (at_most (length g.machine.frame.sessions) t)
     full n e false t i =
-        let closed : is_open g.machine.frame n ≡ false = open_seat g k n ∙ not_true (is_begun g.seats n) (find_passes (λ j. not (is_begun g.seats j)) (count_to most_seats) n e) in
+        let closed : is_open g.machine.frame n ≡ false = open_seat g k n ∙ not_true (is_begun g.seats n) (true-find (λ j. not (is_begun g.seats j)) (count_to most_seats) n e) in
         let none : refusal g.machine n (begin role) ≡ None = begin_refusal (is_open g.machine.frame n) (is_some (role_of g.machine.frame.rights role)) (nat_le 256 (length g.machine.frame.sessions)) closed known t in
-        absurd (some_is_none n (sym (ap (λ z. cond z (Some n) None) (accepts g.machine n role (refusal g.machine n (begin role)) none)) ∙ i))
+        absurd (not_None-Some n (sym (ap (λ z. cond z (Some n) None) (accepts g.machine n role (refusal g.machine n (begin role)) none)) ∙ i))
       where
         not_true : (d : Bool) → not d ≡ true → d ≡ false
         not_true true j = absurd (false≢true j)
@@ -209,13 +209,13 @@ begun_true g c id rel n acts b k = record {
 
 begun_to : (s : State) (n : ℕ) (role : Name) (o : Option Refusal) → o ≡ None → (outcome s (in_session n (begin role)) o).state ≡ settled (begin role) (after s n (begin role))
 begun_to s n role None h = refl
-begun_to s n role (Some r) h = absurd (some_is_none r h)
+begun_to s n role (Some r) h = absurd (not_None-Some r h)
 
 further_true : Sounds → (g : Gate) (c : Client) (id : Option Data) (rel : Name) (n : ℕ) → begun_for g c.role ≡ Some n → IsSoundGate g → IsKept g → IsReadingReply g c id rel (begun_reply (seated g n c.role) c id n rel)
 further_true sounds g c id rel n e b k = record {
   sessions = (after g.machine n (begin c.role)).frame.sessions;
   reply = reply_in (step w (in_session n (subscribe rel))).lines;
-  is = (n, subst (λ s. ActsAs s n c.role) same (new_seat_acts sounds g c.role n e), refl);
+  is = (n, subst (λ s. ActsAs s n c.role) same (ActsAs-begun_for sounds g c.role n e), refl);
   place = places g b k n;
   told = ap (λ s. reading_told s c id rel (reply_in (step s (in_session n (subscribe rel))).lines)) same ∙ alike (reply_in (step w (in_session n (subscribe rel))).lines);
 }
@@ -224,7 +224,7 @@ further_true sounds g c id rel n e b k = record {
     w = record g.machine { frame = record g.machine.frame { sessions = (after g.machine n (begin c.role)).frame.sessions } }
 
     same : (seated g n c.role).machine ≡ w
-    same = begun_to g.machine n c.role (refusal g.machine n (begin c.role)) (begun_accepted g c.role n e) ∙ begun_state g.machine n c.role b.state
+    same = begun_to g.machine n c.role (refusal g.machine n (begin c.role)) (refusal-begun_for g c.role n e) ∙ begun_state g.machine n c.role b.state
 
     alike : (r : Reply) → reading_told w c id rel r ≡ reading_told g.machine c id rel r
     alike (subscribed t) = refl
@@ -236,7 +236,7 @@ known_seat g b role h = by (seat_of g.seats role) refl h
   where
     by : (o : Option ℕ) → seat_of g.seats role ≡ o → is_some o ≡ true → is_some (role_of g.machine.frame.rights role) ≡ true
     by None e k = absurd (false≢true k)
-    by (Some n) e k = ap is_some (seat_of_acts g b role n e).known
+    by (Some n) e k = ap is_some (ActsAs-seat_of g b role n e).known
 
 at_least : (m n : ℕ) → nat_lt n m ≡ false → m ≤ n
 at_least m n h = grind (arith, nat_tests)
@@ -248,13 +248,13 @@ first_true : Sounds → (g : Gate) (c : Client) (id : Option Data) (rel : Name) 
 first_true sounds g c id rel seat new b k = by (room_for g.seats g.feeds c.role) refl
   where
     further : room_for g.seats g.feeds c.role ≡ None → (o : Option ℕ) → begun_for g c.role ≡ o → Reads g c id rel (if_some o (replied id (refused too_many)) (λ n. begun_reply (seated g n c.role) c id n rel))
-    further full None e = inl (inr (new, none_full g.seats g.feeds c.role full, all_begun g c.role b k (known_seat g b c.role seat) e), refl)
+    further full None e = inl (inr (new, AreFull-no_room g.seats g.feeds c.role full, le-begun_for_none g c.role b k (known_seat g b c.role seat) e), refl)
     further full (Some n) e = inr (further_true sounds g c id rel n e b k)
 
     by : (o : Option ℕ) → room_for g.seats g.feeds c.role ≡ o
         → Reads g c id rel (if_some o (if_some (begun_for g c.role) (replied id (refused too_many)) (λ n. begun_reply (seated g n c.role) c id n rel)) (λ n. begun_reply g c id n rel))
     by None e = further e (begun_for g c.role) refl
-    by (Some n) e = inr (begun_true g c id rel n (room_acts g b c.role n e) b k)
+    by (Some n) e = inr (begun_true g c id rel n (ActsAs-room_for g b c.role n e) b k)
 
 read_true : Sounds → (g : Gate) (c : Client) (id : Option Data) (rel : Name) → is_some (seat_of g.seats c.role) ≡ true → IsSoundGate g → IsKept g → Reads g c id rel (read_reply g c id rel)
 read_true sounds g c id rel seat b k = test (nat_lt (length c.subs) most_subs) refl
@@ -262,7 +262,7 @@ read_true sounds g c id rel seat b k = test (nat_lt (length c.subs) most_subs) r
     by : (o : Option Feed) → feed_for g.feeds c.role rel ≡ o → Reads g c id rel (if_some o (first_reply g c id c.role rel) (λ f. begun_reply g c id f.session f.rel))
     by None e = first_true sounds g c id rel seat e b k
     by (Some f) e =
-        let p = feed_acts g.machine c.role rel g.feeds f b.feeds e in
+        let p = ActsAs-feed_for g.machine c.role rel g.feeds f b.feeds e in
         inr (subst (λ r. IsReadingReply g c id rel (begun_reply g c id f.session r)) (sym p.2) (begun_true g c id rel f.session (subst (ActsAs g.machine f.session) p.1 p.0) b k))
 
     test : (t : Bool) → nat_lt (length c.subs) most_subs ≡ t → Reads g c id rel (cond t (if_some (feed_for g.feeds c.role rel) (first_reply g c id c.role rel) (λ f. begun_reply g c id f.session f.rel)) (replied id (refused too_many)))
@@ -277,13 +277,13 @@ carried_true g c q role seat b = by (has_shape_room g q.act) refl (seat_of g.sea
     by : (t : Bool) → has_shape_room g q.act ≡ t → (o : Option ℕ) → seat_of g.seats q.role ≡ o
         → IsSharedReply g c q.act (cond t (if_some o (refused no_session) (λ n. reply_to g (in_session n q.act))) (refused limit))
     by true e None f = absurd (false≢true (sym (ap is_some f) ∙ (ap (λ r. is_some (seat_of g.seats r)) role ∙ seat)))
-    by true e (Some n) f = inl (e, (n, subst (ActsAs g.machine n) role (seat_of_acts g b q.role n f), refl))
+    by true e (Some n) f = inl (e, (n, subst (ActsAs g.machine n) role (ActsAs-seat_of g b q.role n f), refl))
     by false e o f = inr (e, refl)
 
 -- its name stands one further
 place_more : (g : Gate) (q : Request) (a : Ask) (r : Reply) → is_shared q.act ≡ true → place_text (place_of (entered g (entries_of q (Some a) r)) a.holder) ≡ place_behind g a.holder 1
 place_more g q a r h =
-    place_is (entered g (entries_of q (Some a) r)) a.holder
+    place_text-place_behind (entered g (entries_of q (Some a) r)) a.holder
     ∙ (let n : count_of (entered g (entries_of q (Some a) r)) a.holder + 0 ≡ count_of g a.holder + 1 = omega (arith, more) in
     λ i. place_text (record { epoch = (place_at g.head a.holder).epoch; count = n i }))
   where
@@ -327,16 +327,17 @@ verdict_true : (g : Gate) (c : Client) (id : Option Data) (q : Request) (a : Ask
     → IsNamedReply g c id q a (verdict_reply g id q a v) (verdict_added g q a v)
 verdict_true g c id q a _ (is_carried w) role shared seat b = named_true g c id q a role shared seat b
 verdict_true g c id q a _ (is_again x f t) role shared seat b =
-    subst (λ at. IsNamedReply g c id q a (answered id true at x.answer) []) (sym (place_is g a.holder)) (is_repeated x.answer (again_said g a x f t))
-verdict_true g c id q a _ (is_another x f t) role shared seat b = is_left 101 (another_said g a x f t)
-verdict_true g c id q a _ (is_late t) role shared seat b = is_left 102 (late_said g a t)
-verdict_true g c id q a _ (is_foreign t) role shared seat b = is_left 103 (foreign_said g a t)
-verdict_true g c id q a _ (is_ahead t) role shared seat b = is_left 104 (ahead_said g a t)
-verdict_true g c id q a _ (has_to_wait t) role shared seat b = is_left 104 (over_said g a t)
+    subst (λ at. IsNamedReply g c id q a (answered id true at x.answer) []) (sym (place_text-place_behind g a.holder))
+      (is_repeated x.answer (IsAnswer-find_named g a x f t))
+verdict_true g c id q a _ (is_another x f t) role shared seat b = is_left 101 (IsUndecided-other_digest g a x f t)
+verdict_true g c id q a _ (is_late t) role shared seat b = is_left 102 (IsUndecided-late g a t)
+verdict_true g c id q a _ (is_foreign t) role shared seat b = is_left 103 (IsUndecided-other_epoch g a t)
+verdict_true g c id q a _ (is_ahead t) role shared seat b = is_left 104 (IsUndecided-ahead g a t)
+verdict_true g c id q a _ (has_to_wait t) role shared seat b = is_left 104 (IsUndecided-is_over g a t)
 
 shared_true : (g : Gate) (c : Client) (id : Option Data) (q : Request) (claim : Option Claim) → q.role ≡ c.role → is_shared q.act ≡ true → is_some (seat_of g.seats c.role) ≡ true → IsSoundGate g
     → IsReplyToShared g c id q claim (shared_reply g c id q claim) (shared_added g c q claim)
-shared_true g c id q (Some k) role shared seat b = let a = asked_by c q.line k in verdict_true g c id q a (verdict (names_of g) a) (reason_of (names_of g) a) role shared seat b
+shared_true g c id q (Some k) role shared seat b = let a = asked_by c q.line k in verdict_true g c id q a (verdict (names_of g) a) (Reason-verdict (names_of g) a) role shared seat b
 shared_true g c id q None role shared seat b = by (is_some g.head.log) refl
   where
     by : (t : Bool) → is_some g.head.log ≡ t
@@ -390,22 +391,22 @@ module _ (sounds : Sounds) (g : Gate) (slots : Slots) (c : Client) (seat : is_so
 added_true : (g : Gate) (e : Event) (m : ℕ) (c : Client) (text : List ℕ) → g.dead ≡ false → client_at g.clients m ≡ Some c → IsOwn m c e text
     → added_by g e ≡ said_added (asked g m text) c text (said_by text)
 added_true g e m c text live t o =
-    ap (drop (length g.entries)) (ap (λ (x : Gate). x.entries) (heard_next g e m c text live t o) ∙ adds_said (asked g m text) m c text (said_by text))
-    ∙ drop_front g.entries (said_added (asked g m text) c text (said_by text))
+    ap (drop (length g.entries)) (ap (λ (x : Gate). x.entries) (next-IsOwn g e m c text live t o) ∙ entries-done_for (asked g m text) m c text (said_by text))
+    ∙ drop-append_front g.entries (said_added (asked g m text) c text (said_by text))
 
 -- a client is told first the reply to its message, and others are told none
-pub are_replied : Sounds → (g : Gate) (e : Event) → IsSoundGate g → IsKept g → g.dead ≡ false → AreReplied g e
-are_replied sounds g e b k live = record {
+pub AreReplied-IsKept : Sounds → (g : Gate) (e : Event) → IsSoundGate g → IsKept g → g.dead ≡ false → AreReplied g e
+AreReplied-IsKept sounds g e b k live = record {
   own = λ m c d x y text u.
-      let o = heard_is m c e text u in
-      let a = own_answer g e m c d text live x.there y.there o in
-      let seat = k.shared.seated c.role (role_there g.clients m c x.there) in (
+      let o = IsOwn-heard_by m c e text u in
+      let a = OwnAnswer-IsOwn g e m c d text live x.there y.there o in
+      let seat = k.shared.seated c.role (has_role-client_at g.clients m c x.there) in (
         said_reply (asked g m text) c text (said_by text),
         a.others,
-        own_told g m c text d a ∙ ap (λ z. z ++ said_reply (asked g m text) c text (said_by text) ∷ a.others) (a.first (begins_quietly (asked g m text) b.state)),
+        told_by-OwnAnswer g m c text d a ∙ ap (λ z. z ++ said_reply (asked g m text) c text (said_by text) ∷ a.others) (a.first (BeginsQuietly-IsSoundState (asked g m text) b.state)),
         subst (IsReplyTo g c text (said_by text) (said_reply (asked g m text) c text (said_by text))) (sym (added_true g e m c text live x.there o))
             (said_true sounds g (asked g m text).clients c seat b k text (said_by text)),
         a.alone,
       );
-  others = λ m c d x y u. others_told g e m c d live x y u;
+  others = λ m c d x y u. replies-heard_by g e m c d live x y u;
 }

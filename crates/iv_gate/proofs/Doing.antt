@@ -18,12 +18,12 @@ use Rattle.iv_clients.specs.Clients.{Client, Slots, Sub, at_client, closing, fol
 use Rattle.iv_clients.specs.Feeds.{Feed, feed_for, feed_of, is_reading, room_for}
 use Rattle.iv_clients.specs.Journal.{Entry, is_shared, said_by, Request, claim_said, requests_in}
 use Rattle.iv_gate.specs.Gate.{Gate, acts, begun_for, closes, done_for, feed_begun, in_session, joined, joined_by, joins, ran, reads, reads_first, reply_to, done_in, seated, shut, subscribes, swept, tells, answering, entered, entries_of, may_have, replies_to, reply_told, shares, is_accepted}
-use Rattle.iv_gate.proofs.Calm.{ran_alone, seated_still, shut_clients, shut_last, swept_clients, swept_last}
-use Rattle.iv_gate.proofs.Joining.{any_moved}
-use Rattle.iv_gate.proofs.Opening.{reply_of_none, reply_of_some}
-use Rattle.iv_gate.proofs.Sound.{Seer, Sounds, seer_one}
+use Rattle.iv_gate.proofs.Calm.{ran-one_line, seated-IsSoundState, clients-shut, last-shut, clients-swept, last-swept}
+use Rattle.iv_gate.proofs.Joining.{list_any-moved_sub}
+use Rattle.iv_gate.proofs.Opening.{reply_in-None, reply_in-Some}
+use Rattle.iv_gate.proofs.Sound.{Seer, Sounds, seer-told_one}
 use Rattle.iv_gate.specs.Laws.{is_made, is_word}
-use Rattle.iv_gate.proofs.Shaping.{test_of}
+use Rattle.iv_gate.proofs.Shaping.{cond-either}
 use Rattle.iv_once.specs.Names.{Ask}
 use Rattle.iv_clients.specs.Names.{Claim}
 use Rattle.iv_gate.proofs.Choosing.{IsAside, leaves, refers, repeats, shares_so}
@@ -42,12 +42,12 @@ is_news _ = false
 abbrev pub AreCalm : List Told → Type 0
 AreCalm ts = AllByRecursion (λ t. is_news t ≡ false) ts
 
-pub told_more : (es : List Entry) (t : Told) (c : Client) → told (told_one es t c) ≡ told c ++ t ∷ []
-told_more es t c = ap (λ (v : Seer). v.told) (seer_one es t c)
+pub told-told_one : (es : List Entry) (t : Told) (c : Client) → told (told_one es t c) ≡ told c ++ t ∷ []
+told-told_one es t c = ap (λ (v : Seer). v.told) (seer-told_one es t c)
 
-pub both_calm : (ts us : List Told) → AreCalm ts → AreCalm us → AreCalm (ts ++ us)
-both_calm [] us a b = b
-both_calm (t ∷ ts) us a b = (a.0, both_calm ts us a.1 b)
+pub AreCalm-append : (ts us : List Told) → AreCalm ts → AreCalm us → AreCalm (ts ++ us)
+AreCalm-append [] us a b = b
+AreCalm-append (t ∷ ts) us a b = (a.0, AreCalm-append ts us a.1 b)
 
 -- ---- what is done for a message
 
@@ -130,7 +130,7 @@ telling_done g m c t calm plain unmade = answers (record {
   plain = plain;
   unmade = unmade;
   change = told_one g.entries t;
-  told = λ x. told_more g.entries t x;
+  told = λ x. told-told_one g.entries t x;
   fewer = λ x. omega arith;
   owed = λ x. refl;
   last = refl;
@@ -147,8 +147,8 @@ refused_asks_none es q name r = flat_map-append (λ (e : Entry). e.requests) es 
     by false = refl
 
 -- what is accepted adds its request, and nothing else does
-pub requests_entered : (q : Request) (name : Option Ask) (r : Reply) → is_shared q.act ≡ true → requests_in (entries_of q name r) ≡ cond (is_accepted r) (q ∷ []) []
-requests_entered q name r h =
+pub requests_in-entries_of : (q : Request) (name : Option Ask) (r : Reply) → is_shared q.act ≡ true → requests_in (entries_of q name r) ≡ cond (is_accepted r) (q ∷ []) []
+requests_in-entries_of q name r h =
     ap (λ b. requests_in (cond (b && (is_accepted r || is_some name)) (record { requests = cond (is_accepted r) (q ∷ []) []; names = answering name r; position = None } ∷ []) [])) h
     ∙ by (is_accepted r) (is_some name)
   where
@@ -157,28 +157,28 @@ requests_entered q name r h =
     by false true = refl
     by false false = refl
 
-pub calm_reply : (g : Gate) (id : Option Data) (name : Option Ask) (r : Reply) → is_news (reply_told g id name r) ≡ false
-calm_reply g id None r = refl
-calm_reply g id (Some a) r = refl
+pub is_news-reply_told : (g : Gate) (id : Option Data) (name : Option Ask) (r : Reply) → is_news (reply_told g id name r) ≡ false
+is_news-reply_told g id None r = refl
+is_news-reply_told g id (Some a) r = refl
 
-pub plain_reply : (g : Gate) (id : Option Data) (name : Option Ask) (r : Reply) → is_word (reply_told g id name r) ≡ false
-plain_reply g id None r = refl
-plain_reply g id (Some a) r = refl
+pub is_word-reply_told : (g : Gate) (id : Option Data) (name : Option Ask) (r : Reply) → is_word (reply_told g id name r) ≡ false
+is_word-reply_told g id None r = refl
+is_word-reply_told g id (Some a) r = refl
 
-pub unmade_reply : (g : Gate) (id : Option Data) (name : Option Ask) (r : Reply) → is_made (reply_told g id name r) ≡ false
-unmade_reply g id None r = refl
-unmade_reply g id (Some a) r = refl
+pub is_made-reply_told : (g : Gate) (id : Option Data) (name : Option Ask) (r : Reply) → is_made (reply_told g id name r) ≡ false
+is_made-reply_told g id None r = refl
+is_made-reply_told g id (Some a) r = refl
 
 refusing_done : (g : Gate) (m : ℕ) (c : Client) (id : Option Data) (q : Request) (name : Option Ask) (r : Refusal) → IsDone g m c (replies_to g m id q name (refused r))
 refusing_done g m c id q name r =
     let h = entered g (entries_of q name (refused r)) in let t = reply_told h id name (refused r) in
     answers (record {
       text = t;
-      calm = calm_reply h id name (refused r);
-      plain = plain_reply h id name (refused r);
-      unmade = unmade_reply h id name (refused r);
+      calm = is_news-reply_told h id name (refused r);
+      plain = is_word-reply_told h id name (refused r);
+      unmade = is_made-reply_told h id name (refused r);
       change = told_one h.entries t;
-      told = λ x. told_more h.entries t x;
+      told = λ x. told-told_one h.entries t x;
       fewer = λ x. omega arith;
       owed = λ x. refl;
       last = refl;
@@ -186,16 +186,16 @@ refusing_done g m c id q name r =
       clients = refl;
     })
 
-pub fewer_left : (p : Sub → Bool) (xs : List Sub) → length (filter p xs) ≤ length xs
-fewer_left p [] = omega arith
-fewer_left p (x ∷ xs) = by (p x) (fewer_left p xs)
+pub le-length_filter : (p : Sub → Bool) (xs : List Sub) → length (filter p xs) ≤ length xs
+le-length_filter p [] = omega arith
+le-length_filter p (x ∷ xs) = by (p x) (le-length_filter p xs)
   where
     by : (b : Bool) → length (filter p xs) ≤ length xs → length (cond b (x ∷ filter p xs) (filter p xs)) ≤ suc (length xs)
     by true h = omega (arith, h)
     by false h = omega (arith, h)
 
-pub less_one : (n most : ℕ) → nat_lt n most ≡ true → n + 1 ≤ most
-less_one n most h = let l = ltb-true n most h in omega (arith, l)
+pub le-nat_lt : (n most : ℕ) → nat_lt n most ≡ true → n + 1 ≤ most
+le-nat_lt n most h = let l = ltb-true n most h in omega (arith, l)
 
 many_moved : (t k : ℕ) (xs : List Sub) → length (map (moved_sub t k) xs) ≡ length xs
 many_moved t k [] = refl
@@ -206,7 +206,8 @@ refused_clients : (g : Gate) (m : ℕ) (id : Option Data) (n : ℕ) (rel : Name)
     → (ran (tells g m (replied id (refused r))) (in_session n (subscribe rel))).clients ≡ at_client m (told_one g.entries (replied id (refused r))) g.clients
 refused_clients g m id n rel r e =
     let k = in_session n (subscribe rel) in
-    ap (λ (x : Gate). x.clients) (ran_alone (tells g m (replied id (refused r))) k n (refused r) (ap (λ o. (outcome g.machine k o).lines) e) (λ f role. refl))
+    ap (λ (x : Gate). x.clients) (ran-one_line (tells g m (replied id (refused r))) k n (refused r) (ap (λ o. (outcome g.machine k o).lines) e)
+      (λ f role. refl))
 
 module _ (sounds : Sounds) (g : Gate) (m : ℕ) (c : Client) where
   unmoved : (h : Gate) → IsMoved m h h
@@ -220,12 +221,12 @@ module _ (sounds : Sounds) (g : Gate) (m : ℕ) (c : Client) where
         change = moved t.number k.number;
         told = λ x. refl;
         given = λ x. refl;
-        owns = λ own x. any_moved t.number k.number own x.subs;
+        owns = λ own x. list_any-moved_sub t.number k.number own x.subs;
         many = λ x. many_moved t.number k.number x.subs;
         owed = λ x. refl;
-        last = shut_last (record h { clients = at_client m (moved t.number k.number) h.clients }) t;
+        last = last-shut (record h { clients = at_client m (moved t.number k.number) h.clients }) t;
         entries = refl;
-        clients = shut_clients (record h { clients = at_client m (moved t.number k.number) h.clients }) t b;
+        clients = clients-shut (record h { clients = at_client m (moved t.number k.number) h.clients }) t b;
       }
       by false = unmoved h
   joined_moves h (Some t) None b = unmoved h
@@ -245,7 +246,7 @@ module _ (sounds : Sounds) (g : Gate) (m : ℕ) (c : Client) where
     where
       by : (o : Option Refusal) → refusal i.machine n (subscribe rel) ≡ o → IsDone g m c (behind (subscribes i m id n role rel) (reply_to i (in_session n (subscribe rel))))
       by None e =
-          let r = reply_of_none i.machine n rel (refusal i.machine n (subscribe rel)) e in
+          let r = reply_in-None i.machine n rel (refusal i.machine n (subscribe rel)) e in
           let h = ran (feed_begun i m id n role rel (subscribed (i.machine.frame.last + 1))) (in_session n (subscribe rel)) in
           subst (λ x. IsDone g m c (behind (ran (feed_begun i m id n role rel x) (in_session n (subscribe rel))) x)) (sym r)
           (opens (record {
@@ -264,7 +265,7 @@ module _ (sounds : Sounds) (g : Gate) (m : ℕ) (c : Client) where
             behind = moves h (subscribed (i.machine.frame.last + 1)) (sounds.sound i.machine (in_session n (subscribe rel)) b);
           }))
       by (Some x) e =
-          let r = reply_of_some i.machine n rel (refusal i.machine n (subscribe rel)) x e in
+          let r = reply_in-Some i.machine n rel (refusal i.machine n (subscribe rel)) x e in
           let t = replied id (refused x) in
           subst (λ y. IsDone g m c (behind (ran (feed_begun i m id n role rel y) (in_session n (subscribe rel))) y)) (sym r)
           (subst (IsDone g m c) (sym (stays (ran (tells i m t) (in_session n (subscribe rel))) x))
@@ -274,7 +275,7 @@ module _ (sounds : Sounds) (g : Gate) (m : ℕ) (c : Client) where
             plain = refl;
             unmade = refl;
             change = told_one i.entries t;
-            told = λ x. told_more i.entries t x;
+            told = λ x. told-told_one i.entries t x;
             fewer = λ x. omega arith;
             owed = λ x. refl;
             last = ap (λ o. (outcome i.machine (in_session n (subscribe rel)) o).state.frame.last) e ∙ last;
@@ -297,7 +298,7 @@ module _ (sounds : Sounds) (g : Gate) (m : ℕ) (c : Client) where
       by (Some n) p = reads_in g id n role rel refl refl refl refl b room
       by None None = telling_done g m c (replied id (refused too_many)) refl refl refl
       by None (Some n) =
-          let e = seated_still g n role b in
+          let e = seated-IsSoundState g n role b in
           reads_in (seated g n role) id n role rel (ap (λ (x : Gate). x.clients) e) (ap (λ (x : Gate). x.feeds) e)
           (last_begun g.machine n role (refusal g.machine n (begin role))) refl (sounds.sound g.machine (in_session n (begin role)) b) room
 
@@ -323,12 +324,12 @@ module _ (sounds : Sounds) (g : Gate) (m : ℕ) (c : Client) where
         plain = refl;
         unmade = refl;
         change = λ x. told_one g.entries (replied id done) (closing own x);
-        told = λ x. told_more g.entries (replied id done) (closing own x);
-        fewer = λ x. fewer_left (λ (s : Sub). not (own == s.own)) x.subs;
+        told = λ x. told-told_one g.entries (replied id done) (closing own x);
+        fewer = λ x. le-length_filter (λ (s : Sub). not (own == s.own)) x.subs;
         owed = λ x. refl;
-        last = swept_last (tells h m (replied id done)) k;
+        last = last-swept (tells h m (replied id done)) k;
         entries = ap requests_in (swept_entries (tells h m (replied id done)) k);
-        clients = swept_clients (tells h m (replied id done)) k b ∙ at_twice m (told_one g.entries (replied id done)) (closing own) g.clients;
+        clients = clients-swept (tells h m (replied id done)) k b ∙ at_twice m (told_one g.entries (replied id done)) (closing own) g.clients;
       })
 
   shares_done : (id : Option Data) (q : Request) (claim : Option Claim) → is_shared q.act ≡ true → IsSaid q.act → IsDone g m c (shares g m c id q claim)
@@ -366,5 +367,5 @@ module _ (sounds : Sounds) (g : Gate) (m : ℕ) (c : Client) where
   all_done text no_object b e = telling_done g m c (fault 2) refl refl refl
   all_done text (no_request id why) b e = telling_done g m c (unasked id why) refl refl refl
   all_done text (request id act) b e =
-      test_of (IsDone g m c) (may_have (claim_said text) act) (acts g m c id text act) (tells g m (unasked id (unknown (codes "once")))) (acts_done id text act b (text, id, e))
+      cond-either (IsDone g m c) (may_have (claim_said text) act) (acts g m c id text act) (tells g m (unasked id (unknown (codes "once")))) (acts_done id text act b (text, id, e))
       (telling_done g m c (unasked id (unknown (codes "once"))) refl refl refl)

@@ -17,7 +17,7 @@ use Rattle.iv_machine.proofs.UniqueNumbers.{has_number, has_number-filter}
 use Rattle.iv_clients.specs.Feeds.{ends_in, is_end}
 use Rattle.iv_steps.specs.Steps.{Fact, all_carried, among, looked_at, shared, stepped}
 use Rattle.iv_gate.proofs.Places.{any_of_both}
-use Rattle.iv_gate.proofs.Summing.{neither, same_self}
+use Rattle.iv_gate.proofs.Summing.{or-both_false, eq-itself}
 
 line_end : (k : ℕ) (o : Option Cause) (e : Subscription) (rows : Weighed) → list_any (is_end k) (lines_told o e rows) ≡ (is_some o && (k == e.number))
 line_end k None e [] = refl
@@ -45,12 +45,12 @@ has_found k (e ∷ es) x h = by (k == e.number) h (has_found k es x)
     by false g more = more g
 
 -- an end among the lines is the end of a subscription that stood before it
-pub find_ended : (k : ℕ) (old new : State) (ends : Subscription → Option Cause) (es : List Subscription) → AreUnique es → ends_in (flat_map (line_for old new ends) es) k ≡ true → IsEnded ends es k
-find_ended k old new ends [] u h = absurd (false≢true h)
-find_ended k old new ends (e ∷ es) u h =
+pub IsEnded-ends_in : (k : ℕ) (old new : State) (ends : Subscription → Option Cause) (es : List Subscription) → AreUnique es → ends_in (flat_map (line_for old new ends) es) k ≡ true → IsEnded ends es k
+IsEnded-ends_in k old new ends [] u h = absurd (false≢true h)
+IsEnded-ends_in k old new ends (e ∷ es) u h =
     by (is_some (ends e)) (k == e.number) refl refl
     (sym (ap (λ b. b || ends_in (flat_map (line_for old new ends) es) k) (line_end k (ends e) e (difference (shown old e.number) (shown new e.number)))) ∙ (sym (any_of_both (is_end k) (line_for old new ends e) (flat_map (line_for old new ends) es)) ∙ h))
-    (find_ended k old new ends es u.1)
+    (IsEnded-ends_in k old new ends es u.1)
   where
     later : IsEnded ends es k → (d : Bool) → (k == e.number) ≡ d → IsEnded ends (e ∷ es) k
     later x true f = absurd (false≢true (sym u.0 ∙ (ap (λ i. list_any (λ (y : Subscription). i == y.number) es) (sym (eqb-true k e.number f)) ∙ has_found k es x.subscription x.found)))
@@ -89,21 +89,21 @@ told_to k (l ∷ ls) h = by l (λ e. told_to k ls e) h
 
 no_end : (k : ℕ) (ls : List Line) → ends_in ls k ≡ false → AllByRecursion (λ l. is_end k l ≡ false) ls
 no_end k [] h = tt
-no_end k (l ∷ ls) h = let p = neither (is_end k l) (ends_in ls k) h in (p.0, no_end k ls p.1)
+no_end k (l ∷ ls) h = let p = or-both_false (is_end k l) (ends_in ls k) h in (p.0, no_end k ls p.1)
 
 -- what no line ends is told no end
-pub not_told : (P : Type 0) (n k : ℕ) (ls : List Line) → ends_in ls k ≡ false → P ⊎ IsToldEnd n k ls → P
-not_told P n k ls h (inl p) = p
-not_told P n k ls h (inr t) =
+pub not_IsToldEnd-ends_in : (P : Type 0) (n k : ℕ) (ls : List Line) → ends_in ls k ≡ false → P ⊎ IsToldEnd n k ls → P
+not_IsToldEnd-ends_in P n k ls h (inl p) = p
+not_IsToldEnd-ends_in P n k ls h (inr t) =
     let other = All-contains (λ l. is_end k l ≡ false) ls (ended n k t.why t.rows) (All-from_recursion (λ l. is_end k l ≡ false) ls (no_end k ls h)) t.line in
-    absurd (false≢true (sym other ∙ same_self k))
+    absurd (false≢true (sym other ∙ eq-itself k))
 
 -- what is told its end is open no more
 ended_none : (s : State) (k : Command) (j : ℕ) → EndsAreTold s k → ends_in (step s k).lines j ≡ true → subscription_of (step s k).state.frame.subscriptions j ≡ None
 ended_none s k j e h = let t = told_to j (step s k).lines h in e.told t.0 j t.1
 
-pub ended_shows_none : (s : State) (k : Command) (j : ℕ) → EndsAreTold s k → ends_in (step s k).lines j ≡ true → shown (step s k).state j ≡ []
-ended_shows_none s k j e h = ap (λ o. if_some o [] (view_shown (step s k).state)) (ended_none s k j e h)
+pub shown-ends_in : (s : State) (k : Command) (j : ℕ) → EndsAreTold s k → ends_in (step s k).lines j ≡ true → shown (step s k).state j ≡ []
+shown-ends_in s k j e h = ap (λ o. if_some o [] (view_shown (step s k).state)) (ended_none s k j e h)
 
 -- ---- a step
 
@@ -123,12 +123,12 @@ gone ends (e ∷ es) k x u h w = by (k == e.number) (is_some (ends e)) refl refl
     by false true q v f more = more f
     by false false q v f more = (λ i. q i || more f i)
 
-pub step_over : (fs : List Fact) (s : State) (o : Outcome) → AreUnique s.frame.subscriptions → stepped fs s ≡ Some o → (k : ℕ) → ends_in o.lines k ≡ true → shown o.state k ≡ []
-step_over fs s o u h k e = by (all_carried fs (shared s)) h
+pub shown-stepped : (fs : List Fact) (s : State) (o : Outcome) → AreUnique s.frame.subscriptions → stepped fs s ≡ Some o → (k : ℕ) → ends_in o.lines k ≡ true → shown o.state k ≡ []
+shown-stepped fs s o u h k e = by (all_carried fs (shared s)) h
   where
     over : (t : State) → ends_in (looked_at s (among s t)).lines k ≡ true → shown (looked_at s (among s t)).state k ≡ []
     over t f =
-        let now = among s t in let new = (looked_at s now).state in let x = find_ended k s new (ending now) s.frame.subscriptions u f in
+        let now = among s t in let new = (looked_at s now).state in let x = IsEnded-ends_in k s new (ending now) s.frame.subscriptions u f in
         shown-has_number new k (gone (ending now) s.frame.subscriptions k x.subscription u x.found x.ended)
 
     by : (t : Option State) → option_map (λ v. looked_at s (among s v)) t ≡ Some o → shown o.state k ≡ []

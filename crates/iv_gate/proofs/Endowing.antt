@@ -19,7 +19,7 @@ use Rattle.iv_clients.specs.Clients.{Client, Shown, Sub, at_client, client_at, m
 use Rattle.iv_clients.specs.Feeds.{Feed, Seat, is_of_role, rel_read, seat_of, without_seat}
 use Rattle.iv_clients.specs.Journal.{Entry, said_by, requests_in}
 use Rattle.iv_clients.specs.Tokens.{Token}
-use Rattle.iv_clients.proofs.Slots.{one_some, some_is_none}
+use Rattle.iv_clients.proofs.Slots.{same-Some, not_None-Some}
 use Rattle.iv_journal.specs.Journal as journals
 use Rattle.iv_gate.specs.Events.{Event, presented, message, gone, known, ticked, synced, handed, failed, happens, next, arrived, forgave}
 use Rattle.iv_gate.specs.Gate.{Gate, all_rested, all_swept, granted_by, has_some, hears, in_session, is_accepted, is_needed, ran, reply_in, rested, token_for, settles, Head, entries_of, reply_to}
@@ -27,16 +27,16 @@ use Rattle.iv_gate.specs.Replies.{IsClient, told_by}
 use Rattle.iv_gate.specs.Restoring.{Restores, gate_at_start}
 use Rattle.iv_gate.specs.Runs.{Runs, begins, goes_on, begins_again}
 use Rattle.iv_gate.specs.Implied.{GrantsAreTrue}
-use Rattle.iv_gate.proofs.Asking.{accepted_by, seat_of_acts}
-use Rattle.iv_gate.proofs.Granting.{HasAdmin, admin_stays, names_hold, said_well}
+use Rattle.iv_gate.proofs.Asking.{None-is_accepted, ActsAs-seat_of}
+use Rattle.iv_gate.proofs.Granting.{HasAdmin, HasAdmin-step, names_hold, is_well_message-said_by}
 use Rattle.iv_gate.proofs.Doing.{AreCalm, is_news}
 use Rattle.iv_gate.proofs.News.{Hears, quietly, by_command, by_contents, IsToldOf, IsToldOutcome, grants_of}
-use Rattle.iv_gate.proofs.Heeding.{all_both, all_flat, of_contained}
-use Rattle.iv_gate.proofs.Lasting.{Starts, bound, runs_kept, runs_sound}
-use Rattle.iv_gate.proofs.Machine.{there_some}
-use Rattle.iv_gate.proofs.Noticing.{next_all, told_now, HearsBy, untaken, taken, heard}
-use Rattle.iv_gate.proofs.Running.{all_so, all_true}
-use Rattle.iv_gate.proofs.Sharing.{role_there}
+use Rattle.iv_gate.proofs.Heeding.{AllByRecursion-append, AllByRecursion-flat_map, AllByRecursion-Contains}
+use Rattle.iv_gate.proofs.Lasting.{Starts, option_and_then-Some, IsKept-Runs, IsSoundGate-Runs}
+use Rattle.iv_gate.proofs.Machine.{Some-is_some}
+use Rattle.iv_gate.proofs.Noticing.{HearsBy-next, told_by-append, HearsBy, untaken, taken, heard}
+use Rattle.iv_gate.proofs.Running.{AllByRecursion-map, AllByRecursion-always}
+use Rattle.iv_gate.proofs.Sharing.{has_role-client_at}
 use Rattle.iv_gate.proofs.Sitting.{Sits, at_all_swept, at_done, at_with}
 use Rattle.iv_gate.proofs.Sound.{Adds, IsSoundGate, Sounds}
 use Rattle.iv_gate.proofs.Touching.{came_as}
@@ -46,14 +46,14 @@ use Rattle.iv_gate.specs.Arriving.{Step, entry_of, fact_of, fault_of, is_behind,
 -- ---- the superuser stays the first role
 
 admin_kit : Sounds → Sits (λ s seats. HasAdmin s)
-admin_kit sounds = record { step = λ s k seats p h. admin_stays sounds s k h; begin = λ g n role e h. admin_stays sounds g.machine (in_session n (begin role)) h }
+admin_kit sounds = record { step = λ s k seats p h. HasAdmin-step sounds s k h; begin = λ g n role e h. HasAdmin-step sounds g.machine (in_session n (begin role)) h }
 
 rested_admin : Sounds → (g : Gate) (s : Seat) → HasAdmin g.machine → HasAdmin (rested g s).machine
 rested_admin sounds g s h = by (is_needed g s)
   where
     by : (b : Bool) → HasAdmin (cond b g (ran (record g { seats = without_seat s.session g.seats }) (in_session s.session finish))).machine
     by true = h
-    by false = admin_stays sounds g.machine (in_session s.session finish) h
+    by false = HasAdmin-step sounds g.machine (in_session s.session finish) h
 
 all_rested_admin : Sounds → (g : Gate) (ss : List Seat) → HasAdmin g.machine → HasAdmin (all_rested g ss).machine
 all_rested_admin sounds g [] h = h
@@ -67,24 +67,25 @@ carried_admin sounds f s t b h = by (is_shared f.act) h
     passed_admin act u v a e = test (is_some (refusal u 1 act)) e
       where
         test : (d : Bool) → cond d None (Some (step u (record { session = 1; act = act })).state) ≡ Some v → HasAdmin v
-        test true i = absurd (some_is_none v (sym i))
-        test false i = subst HasAdmin (one_some (step u (record { session = 1; act = act })).state v i) (admin_stays sounds u (record { session = 1; act = act }) a)
+        test true i = absurd (not_None-Some v (sym i))
+        test false i = subst HasAdmin (same-Some (step u (record { session = 1; act = act })).state v i) (HasAdmin-step sounds u (record { session = 1; act = act }) a)
 
     by : (d : Bool) → cond d (option_and_then (passed finish) (option_and_then (passed f.act) (passed (begin f.role) s))) None ≡ Some t → HasAdmin t
-    by false e = absurd (some_is_none t (sym e))
-    by true e = bound (option_and_then (passed f.act) (passed (begin f.role) s)) (passed finish) t (HasAdmin t) e (λ v p q.
-        bound (passed (begin f.role) s) (passed f.act) v (HasAdmin t) p (λ u a c. passed_admin finish v t (passed_admin f.act u v (passed_admin (begin f.role) s u b a) c) q))
+    by false e = absurd (not_None-Some t (sym e))
+    by true e = option_and_then-Some (option_and_then (passed f.act) (passed (begin f.role) s)) (passed finish) t (HasAdmin t) e (λ v p q.
+        option_and_then-Some (passed (begin f.role) s) (passed f.act) v (HasAdmin t) p (λ u a c. passed_admin finish v t (passed_admin f.act u v (passed_admin (begin f.role) s u b a) c) q))
 
 all_admin : Sounds → (fs : List Fact) (s t : State) → HasAdmin s → all_carried fs s ≡ Some t → HasAdmin t
-all_admin sounds [] s t b h = subst HasAdmin (one_some s t h) b
-all_admin sounds (f ∷ fs) s t b h = bound (carried f s) (all_carried fs) t (HasAdmin t) h (λ u i k. all_admin sounds fs u t (carried_admin sounds f s u b i) k)
+all_admin sounds [] s t b h = subst HasAdmin (same-Some s t h) b
+all_admin sounds (f ∷ fs) s t b h =
+    option_and_then-Some (carried f s) (all_carried fs) t (HasAdmin t) h (λ u i k. all_admin sounds fs u t (carried_admin sounds f s u b i) k)
 
 stepped_admin : Sounds → (fs : List Fact) (s : State) (o : Outcome) → HasAdmin s → stepped fs s ≡ Some o → HasAdmin o.state
 stepped_admin sounds fs s o b h = by (all_carried fs (shared s)) refl h
   where
     by : (t : Option State) → all_carried fs (shared s) ≡ t → option_map (λ u. looked_at s (among s u)) t ≡ Some o → HasAdmin o.state
-    by None q e = absurd (some_is_none o (sym e))
-    by (Some t) q e = subst (λ (z : Outcome). HasAdmin z.state) (one_some (looked_at s (among s t)) o e) (all_admin sounds fs (shared s) t b q)
+    by None q e = absurd (not_None-Some o (sym e))
+    by (Some t) q e = subst (λ (z : Outcome). HasAdmin z.state) (same-Some (looked_at s (among s t)) o e) (all_admin sounds fs (shared s) t b q)
 
 takes_admin : Sounds → (g : Gate) (s : Step) → HasAdmin g.machine → HasAdmin (takes g s).machine
 takes_admin sounds g s h = by (is_some (fault_of g s)) (is_behind g s) (stepped (map fact_of s.requests) g.machine) refl
@@ -157,7 +158,7 @@ calm_true f role (granted rel) h = absurd (false≢true (sym h))
 calm_true f role _ h = tt
 
 calm_all : (f : Frame) (role : Name) (ts : List Told) → AreCalm ts → AllByRecursion (IsGrantTrue f role) ts
-calm_all f role ts a = all_so (λ t h. calm_true f role t h) ts a
+calm_all f role ts a = AllByRecursion-map (λ t h. calm_true f role t h) ts a
 
 line_true : (f : Frame) (role : Name) (feeds : List Feed) (l : Line) (x : Sub) → AllByRecursion (IsGrantTrue f role) (own_line feeds l x)
 line_true f role feeds (reply n r) x = tt
@@ -178,18 +179,19 @@ names_told f role (n ∷ names) a = (a.0, names_told f role names a.1)
 
 module _ (adds : Adds) (starts : Starts) (sounds : Sounds) (gives : GrantsGive) (reads : ReadsWell) (cap : ℕ) (g : Gate) (e : Event) (r : Runs cap g) (m : ℕ) (c d : Client) (x : IsClient g m c) where
   sound : IsSoundGate g
-  sound = runs_sound adds starts sounds cap g r
+  sound = IsSoundGate-Runs adds starts sounds cap g r
 
   grants_by : (a : IsToldOf g (next g e) c d) → (t : Bool) → is_accepted (reply_in (step g.machine a.command).lines) ≡ t
       → AllByRecursion (IsGrantTrue (next g e).machine.frame c.role) (cond t (map granted (granted_by (step g.machine a.command).state.frame a.command.act c.role)) [])
   grants_by a false h = tt
   grants_by a true h =
       let s = g.machine in let k = a.command in
-      let z : refusal s k.session k.act ≡ None = accepted_by s k (refusal s k.session k.act) h in
-      let seat = there_some (seat_of g.seats c.role) ((runs_kept adds starts sounds cap g r).shared.seated c.role (role_there g.clients m c x.there)) in
-      let acts = seat_of_acts g sound c.role seat.0 seat.1 in
+      let z : refusal s k.session k.act ≡ None = None-is_accepted s k (refusal s k.session k.act) h in
+      let seat =
+        Some-is_some (seat_of g.seats c.role) ((IsKept-Runs adds starts sounds cap g r).shared.seated c.role (has_role-client_at g.clients m c x.there)) in
+      let acts = ActsAs-seat_of g sound c.role seat.0 seat.1 in
       let known = subst (λ o. role_of (outcome s k o).state.frame.rights c.role ≡ Some acts.place) z ((sounds.lasts s k).roles c.role acts.place acts.known) in
-      let well : is_well_act k.act ≡ true = ap is_well_message (sym a.said.2) ∙ said_well reads a.said.0 in
+      let well : is_well_act k.act ≡ true = ap is_well_message (sym a.said.2) ∙ is_well_message-said_by reads a.said.0 in
       names_told (next g e).machine.frame c.role (granted_by (step g.machine a.command).state.frame a.command.act c.role)
       (subst (λ (st : State). AllByRecursion (λ rel. has_some st.frame c.role rel ≡ true) (granted_by (step g.machine a.command).state.frame a.command.act c.role)) (sym a.by.machine)
       (subst (λ (st : State). AllByRecursion (λ rel. has_some st.frame c.role rel ≡ true) (granted_by st.frame a.command.act c.role)) (sym (ap (λ o. (outcome s k o).state) z))
@@ -198,12 +200,12 @@ module _ (adds : Adds) (starts : Starts) (sounds : Sounds) (gives : GrantsGive) 
   outcome_true : (o : Outcome) (grants : List Told) (added : List Entry) → IsToldOutcome g (next g e) o grants added c d → AllByRecursion (IsGrantTrue (next g e).machine.frame c.role) grants
       → AllByRecursion (IsGrantTrue (next g e).machine.frame c.role) (told_by c d)
   outcome_true o grants added a true_grants =
-      subst (AllByRecursion (IsGrantTrue (next g e).machine.frame c.role)) (sym (told_now c d _ a.told))
-      (all_both (IsGrantTrue (next g e).machine.frame c.role) a.front ((own_lines g.feeds o.lines c.subs ++ grants) ++ a.back) (calm_all (next g e).machine.frame c.role a.front a.calm.0)
-      (all_both (IsGrantTrue (next g e).machine.frame c.role) (own_lines g.feeds o.lines c.subs ++ grants) a.back
-      (all_both (IsGrantTrue (next g e).machine.frame c.role) (own_lines g.feeds o.lines c.subs) grants
-      (all_flat (IsGrantTrue (next g e).machine.frame c.role) (λ l. flat_map (own_line g.feeds l) c.subs) o.lines
-      (all_true (λ l. all_flat (IsGrantTrue (next g e).machine.frame c.role) (own_line g.feeds l) c.subs (all_true (λ y. line_true (next g e).machine.frame c.role g.feeds l y) c.subs)) o.lines))
+      subst (AllByRecursion (IsGrantTrue (next g e).machine.frame c.role)) (sym (told_by-append c d _ a.told))
+      (AllByRecursion-append (IsGrantTrue (next g e).machine.frame c.role) a.front ((own_lines g.feeds o.lines c.subs ++ grants) ++ a.back) (calm_all (next g e).machine.frame c.role a.front a.calm.0)
+      (AllByRecursion-append (IsGrantTrue (next g e).machine.frame c.role) (own_lines g.feeds o.lines c.subs ++ grants) a.back
+      (AllByRecursion-append (IsGrantTrue (next g e).machine.frame c.role) (own_lines g.feeds o.lines c.subs) grants
+      (AllByRecursion-flat_map (IsGrantTrue (next g e).machine.frame c.role) (λ l. flat_map (own_line g.feeds l) c.subs) o.lines
+      (AllByRecursion-always (λ l. AllByRecursion-flat_map (IsGrantTrue (next g e).machine.frame c.role) (own_line g.feeds l) c.subs (AllByRecursion-always (λ y. line_true (next g e).machine.frame c.role g.feeds l y) c.subs)) o.lines))
       true_grants)
       (calm_all (next g e).machine.frame c.role a.back a.calm.1)))
 
@@ -222,7 +224,7 @@ module _ (adds : Adds) (starts : Starts) (sounds : Sounds) (gives : GrantsGive) 
       by false y q a = a
 
   grants_told : HearsBy g e c d → AllByRecursion (IsGrantTrue (next g e).machine.frame c.role) (told_by c d)
-  grants_told (untaken n k same) = subst (AllByRecursion (IsGrantTrue (next g e).machine.frame c.role)) (sym (told_now c d [] (ap told (sym same) ∙ sym (append-nil (told c))))) tt
+  grants_told (untaken n k same) = subst (AllByRecursion (IsGrantTrue (next g e).machine.frame c.role)) (sym (told_by-append c d [] (ap told (sym same) ∙ sym (append-nil (told c))))) tt
   grants_told (taken s q a) =
       let names = newly g.machine.frame a.outcome.state.frame c.role in
       outcome_true a.outcome (map granted names) (entry_of s ∷ []) a.by (names_told (next g e).machine.frame c.role names
@@ -231,15 +233,15 @@ module _ (adds : Adds) (starts : Starts) (sounds : Sounds) (gives : GrantsGive) 
   grants_told (heard n h) = by_event h
     where
       by_event : Hears g (next g e) c d → AllByRecursion (IsGrantTrue (next g e).machine.frame c.role) (told_by c d)
-      by_event (quietly a k) = subst (AllByRecursion (IsGrantTrue (next g e).machine.frame c.role)) (sym (told_now c d a.more a.told)) (calm_all (next g e).machine.frame c.role a.more a.calm)
+      by_event (quietly a k) = subst (AllByRecursion (IsGrantTrue (next g e).machine.frame c.role)) (sym (told_by-append c d a.more a.told)) (calm_all (next g e).machine.frame c.role a.more a.calm)
       by_event (by_command a) =
           outcome_true (step g.machine a.command) (grants_of g.machine a.command c.role) (entries_of a.request a.name (reply_to g a.command)) a.by
           (grants_by a (is_accepted (reply_in (step g.machine a.command).lines)) refl)
-      by_event (by_contents a k) = subst (AllByRecursion (IsGrantTrue (next g e).machine.frame c.role)) (sym (told_now c d _ a.told))
-          (all_both (IsGrantTrue (next g e).machine.frame c.role) a.front (changed (c.given + 1) (difference a.before a.after) ∷ a.back) (calm_all (next g e).machine.frame c.role a.front a.calm.0)
+      by_event (by_contents a k) = subst (AllByRecursion (IsGrantTrue (next g e).machine.frame c.role)) (sym (told_by-append c d _ a.told))
+          (AllByRecursion-append (IsGrantTrue (next g e).machine.frame c.role) a.front (changed (c.given + 1) (difference a.before a.after) ∷ a.back) (calm_all (next g e).machine.frame c.role a.front a.calm.0)
           (tt, calm_all (next g e).machine.frame c.role a.back a.calm.1))
 
-pub grants_are_true : Adds → Starts → Sounds → GrantsGive → ReadsWell → (cap : ℕ) (g : Gate) (e : Event) → Runs cap g → GrantsAreTrue g e
-grants_are_true adds starts sounds gives reads cap g e r m c d x y rel h =
-    of_contained (IsGrantTrue (next g e).machine.frame c.role) (told_by c d) (granted rel)
-    (grants_told adds starts sounds gives reads cap g e r m c d x (next_all sounds g e (runs_sound adds starts sounds cap g r) m c d x.there x.stays y.there y.stays)) h
+pub GrantsAreTrue-Runs : Adds → Starts → Sounds → GrantsGive → ReadsWell → (cap : ℕ) (g : Gate) (e : Event) → Runs cap g → GrantsAreTrue g e
+GrantsAreTrue-Runs adds starts sounds gives reads cap g e r m c d x y rel h =
+    AllByRecursion-Contains (IsGrantTrue (next g e).machine.frame c.role) (told_by c d) (granted rel)
+    (grants_told adds starts sounds gives reads cap g e r m c d x (HearsBy-next sounds g e (IsSoundGate-Runs adds starts sounds cap g r) m c d x.there x.stays y.there y.stays)) h

@@ -14,20 +14,20 @@ use Rattle.iv_gate.specs.Events.{Event, next, arrived, failed, forgave, gone, ha
 use Rattle.iv_gate.specs.Gate.{Gate, granted_by, is_accepted, entries_of, has_some, reply_to}
 use Rattle.iv_gate.specs.Laws.{GrantsAreTold, granted_at, is_granted}
 use Rattle.iv_gate.specs.Replies.{told_by, added_by}
-use Rattle.iv_gate.proofs.Growing.{drop_front}
-use Rattle.iv_gate.proofs.Doing.{AreCalm, is_news, requests_entered}
+use Rattle.iv_gate.proofs.Growing.{drop-append_front}
+use Rattle.iv_gate.proofs.Doing.{AreCalm, is_news, requests_in-entries_of}
 use Rattle.iv_gate.proofs.News.{Hears, quietly, by_command, by_contents, IsToldOutcome, grants_of}
-use Rattle.iv_gate.proofs.Noticing.{next_all, told_now, HearsBy, taken, untaken, heard}
+use Rattle.iv_gate.proofs.Noticing.{HearsBy-next, told_by-append, HearsBy, taken, untaken, heard}
 use Rattle.iv_gate.proofs.Sound.{IsSoundGate, Sounds}
-use Rattle.iv_gate.proofs.Touching.{entered_by_event}
+use Rattle.iv_gate.proofs.Touching.{entries-next}
 use Rattle.iv_machine.specs.State.{Frame, State}
 use Rattle.iv_gate.specs.Arriving.{Step, entry_of, newly}
 use Rattle.std.proofs.lemmas.List.Concat.{flat_map-append}
 use Rattle.iv_steps.specs.Steps.{is_shared}
 
 -- behind the same front stands the same
-pub behind_same : {X : Type 0} (xs ys zs : List X) → xs ++ ys ≡ xs ++ zs → ys ≡ zs
-behind_same xs ys zs e = sym (drop_front xs ys) ∙ (ap (drop (length xs)) e ∙ drop_front xs zs)
+pub same-append_front : {X : Type 0} (xs ys zs : List X) → xs ++ ys ≡ xs ++ zs → ys ≡ zs
+same-append_front xs ys zs e = sym (drop-append_front xs ys) ∙ (ap (drop (length xs)) e ∙ drop-append_front xs zs)
 
 calm_grants : (t : Told) → is_news t ≡ false → is_granted t ≡ false
 calm_grants (granted rel) h = absurd (false≢true (sym h))
@@ -78,23 +78,23 @@ granted_then h role es = map granted (flat_map (λ q. granted_by h.machine.frame
 outcome_grants : (g h : Gate) (o : Outcome) (grants : List Told) (added : List Entry) (c d : Client) → IsToldOutcome g h o grants added c d → filter is_granted grants ≡ grants → filter is_granted (told_by c d) ≡ grants
 outcome_grants g h o grants added c d a stay =
     let lines = own_lines g.feeds o.lines c.subs in
-    ap (filter is_granted) (told_now c d _ a.told)
+    ap (filter is_granted) (told_by-append c d _ a.told)
     ∙ (filter-append is_granted a.front ((lines ++ grants) ++ a.back)
     ∙ (λ i. none_granted a.front a.calm.0 i ++ (filter-append is_granted (lines ++ grants) a.back
     ∙ ((λ j. (filter-append is_granted lines grants ∙ (λ k. lines_grant g.feeds o.lines c.subs k ++ stay k)) j ++ none_granted a.back a.calm.1 j) ∙ append-nil grants)) i))
 
 module _ (g h : Gate) (c d : Client) (es : List Entry) (e : h.entries ≡ g.entries ++ es) where
   none_new : requests_in h.entries ≡ requests_in g.entries → requests_in es ≡ []
-  none_new n = behind_same (requests_in g.entries) (requests_in es) [] (sym (requests_both g.entries es) ∙ (sym (ap requests_in e) ∙ (n ∙ sym (append-nil (requests_in g.entries)))))
+  none_new n = same-append_front (requests_in g.entries) (requests_in es) [] (sym (requests_both g.entries es) ∙ (sym (ap requests_in e) ∙ (n ∙ sym (append-nil (requests_in g.entries)))))
 
   nothing_granted : (more : List Told) → told_by c d ≡ more → filter is_granted more ≡ [] → requests_in h.entries ≡ requests_in g.entries → filter is_granted (told_by c d) ≡ granted_then h c.role es
   nothing_granted more t none n = ap (filter is_granted) t ∙ (none ∙ sym (ap (λ qs. map granted (flat_map (λ (q : Request). granted_by h.machine.frame q.act c.role) qs)) (none_new n)))
 
   pub exactly : Hears g h c d → filter is_granted (told_by c d) ≡ granted_then h c.role es
-  exactly (quietly a n) = nothing_granted a.more (told_now c d a.more a.told) (none_granted a.more a.calm) n
+  exactly (quietly a n) = nothing_granted a.more (told_by-append c d a.more a.told) (none_granted a.more a.calm) n
   exactly (by_contents a n) =
       let news = changed (c.given + 1) (difference a.before a.after) in
-      nothing_granted (a.front ++ (news ∷ a.back)) (told_now c d _ a.told)
+      nothing_granted (a.front ++ (news ∷ a.back)) (told_by-append c d _ a.told)
       (filter-append is_granted a.front (news ∷ a.back) ∙ (λ i. none_granted a.front a.calm.0 i ++ none_granted a.back a.calm.1 i)) n
   exactly (by_command a) =
       outcome_grants g h (step g.machine a.command) (grants_of g.machine a.command c.role) (entries_of a.request a.name (reply_to g a.command)) c d a.by (grants_stay accepted names)
@@ -110,7 +110,7 @@ module _ (g h : Gate) (c d : Client) (es : List Entry) (e : h.entries ≡ g.entr
       added = entries_of a.request a.name (reply_to g a.command)
 
       asked : requests_in es ≡ cond (is_accepted (reply_to g a.command)) (a.request ∷ []) []
-      asked = ap requests_in (behind_same g.entries es added (sym e ∙ a.by.entries)) ∙ requests_entered a.request a.name (reply_to g a.command) (ap is_shared a.asks ∙ a.shared)
+      asked = ap requests_in (same-append_front g.entries es added (sym e ∙ a.by.entries)) ∙ requests_in-entries_of a.request a.name (reply_to g a.command) (ap is_shared a.asks ∙ a.shared)
 
       same : (b : Bool) → cond b (map granted names) [] ≡ map granted (flat_map (λ (q : Request). granted_by h.machine.frame q.act c.role) (cond b (a.request ∷ []) []))
       same true = (λ i. map granted (granted_by (sym a.by.machine i).frame (sym a.asks i) c.role)) ∙ ap (map granted) (sym (append-nil (granted_by h.machine.frame a.request.act c.role)))
@@ -156,14 +156,14 @@ no_grants g (arrived s) role n k =
 no_grants g forgave role n k = ap (flat_map (λ (q : Request). granted_by (next g forgave).machine.frame q.act role)) k
 no_grants g failed role n k = ap (flat_map (λ (q : Request). granted_by (next g failed).machine.frame q.act role)) k
 
-pub grants_are_told : Sounds → (g : Gate) (e : Event) → IsSoundGate g → g.dead ≡ false → GrantsAreTold g e
-grants_are_told sounds g e b live m c d x y = by (next_all sounds g e b m c d x.there x.stays y.there y.stays)
+pub GrantsAreTold-IsSoundGate : Sounds → (g : Gate) (e : Event) → IsSoundGate g → g.dead ≡ false → GrantsAreTold g e
+GrantsAreTold-IsSoundGate sounds g e b live m c d x y = by (HearsBy-next sounds g e b m c d x.there x.stays y.there y.stays)
   where
     by : HearsBy g e c d → filter is_granted (told_by c d) ≡ map granted (granted_at g e c.role)
-    by (heard n h) = exactly g (next g e) c d (added_by g e) (entered_by_event g e live) h ∙ ap (map granted) (sym (other_grants g e c.role n))
+    by (heard n h) = exactly g (next g e) c d (added_by g e) (entries-next g e live) h ∙ ap (map granted) (sym (other_grants g e c.role n))
     by (untaken n k same) =
-        ap (filter is_granted) (told_now c d [] (ap told (sym same) ∙ sym (append-nil (told c))))
-        ∙ ap (map granted) (sym (no_grants g e c.role n (none_new g (next g e) c d (added_by g e) (entered_by_event g e live) (ap requests_in k))))
+        ap (filter is_granted) (told_by-append c d [] (ap told (sym same) ∙ sym (append-nil (told c))))
+        ∙ ap (map granted) (sym (no_grants g e c.role n (none_new g (next g e) c d (added_by g e) (entries-next g e live) (ap requests_in k))))
     by (taken s q a) =
         let names = newly g.machine.frame a.outcome.state.frame c.role in
         outcome_grants g (next g e) a.outcome (map granted names) (entry_of s ∷ []) c d a.by (names_stay names)

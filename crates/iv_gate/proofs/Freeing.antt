@@ -1,4 +1,4 @@
--- Each event leads from a gateway whose feeds are followed, by clients of their roles, to another, and so does whatever happens.
+-- Each event leads IsFrom-option_map a gateway whose feeds are followed, by clients of their roles, to another, and so does whatever happens.
 use Rattle.std.proofs.Common.{◌≡◌, ℕ, ◌+◌, Bool, true, false, not, cond, ◌||◌, List, [], ◌∷◌, ◌++◌, length, map, set, Option, Some, None, option_map, refl, ap, ◌∙◌, sym, subst, arith, ◌≤◌, ◌⊎◌, inl, inr}
 use Rattle.std.specs.Prelude.{◌==◌, ◌&&◌, bytes_eq, filter, find, nat_lt, codes, is_some}
 use Rattle.std.specs.List.{AllByRecursion, list_any}
@@ -18,27 +18,27 @@ use Rattle.iv_clients.specs.Clients.{Client, Shown, Slots, Sub, answered, at_all
 use Rattle.iv_clients.specs.Feeds.{Feed, Seat, feed_for, feed_of, is_of_role, is_reading, room_for, seat_of, without_seat}
 use Rattle.iv_clients.specs.Journal.{Entry, said_by, shape_for, Request, claim_said}
 use Rattle.iv_clients.specs.Tokens.{Token}
-use Rattle.iv_clients.proofs.Slots.{at_every, at_same, free_none, from, nobody, one_some, some_is_none}
+use Rattle.iv_clients.proofs.Slots.{client_at-at_all, client_at-at_client, client_at-is_free, IsFrom-option_map, not_client_at-replicate, same-Some, not_None-Some}
 use Rattle.iv_gate.specs.Events.{Event, presented, message, gone, known, ticked, synced, handed, failed, happens, next, forgave, arrived}
 use Rattle.iv_gate.specs.Gate.{Gate, acts, all_rested, all_swept, begun_for, closes, columns_in, done_for, entered, feed_begun, hears, in_session, is_needed, joined, joined_by, joins, next_own, ran, reads, reads_first, reply_to, done_in, rested, token_for, said, seated, settles, shut, subscribes, swept, tells, told_of, went, with_session, informs, entries_of, shares, may_have, reply_told, at_text, replies_to, Head, went_on}
 use Rattle.iv_gate.specs.Implied.{ReadsForClients}
 use Rattle.iv_gate.specs.Restoring.{Restores, gate_at_start}
 use Rattle.iv_gate.specs.Runs.{Runs, begins, goes_on, begins_again}
 use Rattle.iv_gate.specs.Replies.{ActsAs}
-use Rattle.iv_gate.proofs.Asking.{IsHeard, asker_of, feed_acts, seated_sound}
-use Rattle.iv_gate.proofs.Joining.{and_both, same_name}
-use Rattle.iv_gate.proofs.Keeping.{checked_role, handing_role, released_role, settling_role}
-use Rattle.iv_gate.proofs.Lasting.{Starts, runs_even, runs_kept, runs_sound}
-use Rattle.iv_gate.proofs.Machine.{find_passes, found_given}
-use Rattle.iv_gate.proofs.Opening.{IsAsker, above_given, reply_of_none, reply_of_some, subscribes_sound}
-use Rattle.iv_gate.proofs.Running.{all_so, at_one, client_said, found_all, one_sound}
-use Rattle.iv_gate.proofs.Serving.{AreEven, IsEven, put_one, says_stays}
-use Rattle.iv_gate.proofs.Sharing.{IsFed, one_role}
-use Rattle.iv_gate.proofs.Sound.{Adds, IsFeed, IsSoundGate, Sounds, any_more, filter_all, seer, seer_telling, Seer}
-use Rattle.iv_gate.proofs.Summing.{AreOwn, both, differs_back, is_back, neither, same_self}
-use Rattle.iv_gate.proofs.Touching.{came_as, opens_token, test_same}
-use Rattle.iv_gate.proofs.Using.{ran_using, AreFit, AreFollowed, Fits, IsUsing, fit_all, fit_one, followed_all, followed_by_one, followed_left, followed_one, followed_put, follows, follows_fewer, none_but, ran_subscribe, shrinks_same, shut_using, went_using}
-use Rattle.iv_gate.proofs.Shaping.{test_of}
+use Rattle.iv_gate.proofs.Asking.{IsHeard, IsAsker-IsHeard, ActsAs-feed_for, IsSoundGate-seated}
+use Rattle.iv_gate.proofs.Joining.{and-both_true, same-bytes_eq}
+use Rattle.iv_gate.proofs.Keeping.{role-checked, role-handing, role-released, role-settling}
+use Rattle.iv_gate.proofs.Lasting.{Starts, AreEven-Runs, IsKept-Runs, IsSoundGate-Runs}
+use Rattle.iv_gate.proofs.Machine.{true-find, le-subscription_of}
+use Rattle.iv_gate.proofs.Opening.{IsAsker, eq-le_next, reply_in-None, reply_in-Some, IsSoundGate-subscribes}
+use Rattle.iv_gate.proofs.Running.{AllByRecursion-map, client_at-one_changed, IsSoundClient-said, AllByRecursion-feed_of, IsSoundGate-at_client}
+use Rattle.iv_gate.proofs.Serving.{AreEven, IsEven, client_at-set_each, dropped-may_say}
+use Rattle.iv_gate.proofs.Sharing.{IsFed, same-ActsAs}
+use Rattle.iv_gate.proofs.Sound.{Adds, IsFeed, IsSoundGate, Sounds, any_more, AllByRecursion-filter_not, seer, seer-telling, Seer}
+use Rattle.iv_gate.proofs.Summing.{AreOwn, AllByRecursion-zip, eq-false_turned, eq-turned, or-both_false, eq-itself}
+use Rattle.iv_gate.proofs.Touching.{came_as, Opens-token_for, cond-same}
+use Rattle.iv_gate.proofs.Using.{IsUsing-ran, AreFit, AreFollowed, Fits, IsUsing, AreFit-at_all, AreFit-at_client, is_followed-at_all, is_followed-at_one, is_followed-set_None, is_followed-at_client, is_followed-set, follows, follows-filter, none_but, IsUsing-subscribe, Shrinks-same_subs, IsUsing-shut, IsUsing-went_on}
+use Rattle.iv_gate.proofs.Shaping.{cond-either}
 use Rattle.iv_clients.specs.Names.{Claim}
 use Rattle.iv_once.specs.Names.{Ask}
 use Rattle.iv_gate.proofs.Choosing.{shares_so}
@@ -53,40 +53,40 @@ use Rattle.iv_gate.proofs.Walking.{step_told}
 using_one : (but : ℕ → Bool) (g : Gate) (m : ℕ) (f : Client → Client) → ((c : Client) → (f c).subs ≡ c.subs) → ((c : Client) → (f c).role ≡ c.role) → IsUsing but g
     → IsUsing but (record g { clients = at_client m f g.clients })
 using_one but g m f k r a = record {
-  followed = all_so {P = λ (x : Feed). but x.number ≡ false → is_followed x.number g.clients ≡ true} {Q = λ (x : Feed). but x.number ≡ false → is_followed x.number (at_client m f g.clients) ≡ true}
-      (λ x h n. followed_one x.number m f g.clients (λ c e t. ap (follows x.number) (k c) ∙ t) (h n)) g.feeds a.followed;
-  fit = fit_one g.machine.frame.last g.feeds m f g.clients (shrinks_same f r k) a.fit;
+  followed = AllByRecursion-map {P = λ (x : Feed). but x.number ≡ false → is_followed x.number g.clients ≡ true} {Q = λ (x : Feed). but x.number ≡ false → is_followed x.number (at_client m f g.clients) ≡ true}
+      (λ x h n. is_followed-at_client x.number m f g.clients (λ c e t. ap (follows x.number) (k c) ∙ t) (h n)) g.feeds a.followed;
+  fit = AreFit-at_client g.machine.frame.last g.feeds m f g.clients (Shrinks-same_subs f r k) a.fit;
 }
 
 using_all : (but : ℕ → Bool) (g : Gate) (f : Client → Client) → ((c : Client) → (f c).subs ≡ c.subs) → ((c : Client) → (f c).role ≡ c.role) → IsUsing but g
     → IsUsing but (record g { clients = at_all f g.clients })
 using_all but g f k r a = record {
-  followed = all_so {P = λ (x : Feed). but x.number ≡ false → is_followed x.number g.clients ≡ true} {Q = λ (x : Feed). but x.number ≡ false → is_followed x.number (at_all f g.clients) ≡ true}
-      (λ x h n. followed_all x.number f g.clients (λ c t. ap (follows x.number) (k c) ∙ t) (h n)) g.feeds a.followed;
-  fit = fit_all g.machine.frame.last g.machine.frame.last g.feeds g.feeds f g.clients (omega arith) (λ P b. b) (shrinks_same f r k) a.fit;
+  followed = AllByRecursion-map {P = λ (x : Feed). but x.number ≡ false → is_followed x.number g.clients ≡ true} {Q = λ (x : Feed). but x.number ≡ false → is_followed x.number (at_all f g.clients) ≡ true}
+      (λ x h n. is_followed-at_all x.number f g.clients (λ c t. ap (follows x.number) (k c) ∙ t) (h n)) g.feeds a.followed;
+  fit = AreFit-at_all g.machine.frame.last g.machine.frame.last g.feeds g.feeds f g.clients (omega arith) (λ P b. b) (Shrinks-same_subs f r k) a.fit;
 }
 
 settling_subs : (es : List Entry) (c : Client) → (settling es c).subs ≡ c.subs
-settling_subs es c = test_same (λ (x : Client). x.subs) (c.owed) (record (told_one es settled c) { owed = false }) c c.subs refl refl
+settling_subs es c = cond-same (λ (x : Client). x.subs) (c.owed) (record (told_one es settled c) { owed = false }) c c.subs refl refl
 
 released_subs : (c : Client) → (released c).subs ≡ c.subs
-released_subs c = test_same (λ (x : Client). x.subs) (c.dropped || is_slow c) (dropping c) (record c { unsynced = []; sendable = c.sendable ++ c.unsynced }) c.subs refl refl
+released_subs c = cond-same (λ (x : Client). x.subs) (c.dropped || is_slow c) (dropping c) (record c { unsynced = []; sendable = c.sendable ++ c.unsynced }) c.subs refl refl
 
 checked_subs : (tokens : List Token) (c : Client) → (checked tokens c).subs ≡ c.subs
-checked_subs tokens c = test_same (λ (x : Client). x.subs) (opens tokens c) c (dropping c) c.subs refl refl
+checked_subs tokens c = cond-same (λ (x : Client). x.subs) (opens tokens c) c (dropping c) c.subs refl refl
 
 handing_subs : (c : Client) → (handing c).subs ≡ c.subs
-handing_subs c = test_same (λ (x : Client). x.subs) (length c.sendable == 0) c (record c { sendable = []; asked = 0; handed = c.handed ++ c.sendable ∷ [] }) c.subs refl refl
+handing_subs c = cond-same (λ (x : Client). x.subs) (length c.sendable == 0) c (record c { sendable = []; asked = 0; handed = c.handed ++ c.sendable ∷ [] }) c.subs refl refl
 
 using_tells : (but : ℕ → Bool) (g : Gate) (m : ℕ) (t : Told) → IsUsing but g → IsUsing but (tells g m t)
 using_tells but g m t a = using_one but g m (told_one g.entries t) (λ c. refl) (λ c. refl) a
 
 using_settles : (g : Gate) → IsUsing none_but g → IsUsing none_but (settles g)
-using_settles g a = using_all none_but g (settling g.entries) (settling_subs g.entries) (settling_role g.entries) a
+using_settles g a = using_all none_but g (settling g.entries) (settling_subs g.entries) (role-settling g.entries) a
 
 using_informs : (g : Gate) (es : List Entry) → IsUsing none_but g → IsUsing none_but (informs g es)
-using_informs g es a = using_all none_but g (λ c. telling g.entries (shape_for c.role es) c) (λ c. ap (λ (v : Seer). v.subs) (seer_telling g.entries (shape_for c.role es) c))
-    (λ c. ap (λ (v : Seer). v.role) (seer_telling g.entries (shape_for c.role es) c)) a
+using_informs g es a = using_all none_but g (λ c. telling g.entries (shape_for c.role es) c) (λ c. ap (λ (v : Seer). v.subs) (seer-telling g.entries (shape_for c.role es) c))
+    (λ c. ap (λ (v : Seer). v.role) (seer-telling g.entries (shape_for c.role es) c)) a
 
 -- ---- requests of the machine
 
@@ -96,7 +96,7 @@ using_replies g m id q name r a = let h = entered g (entries_of q name r) in usi
 using_requests : (g : Gate) (m : ℕ) (id : Option Data) (q : Request) (name : Option Ask) (n : ℕ) → IsUsing none_but g → IsUsing none_but (done_in g m id q name n)
 using_requests g m id q name n a =
     let k = in_session n q.act in let r = reply_to g k in let i = replies_to g m id q name r in
-    using_informs (ran i k) (entries_of q name r) (ran_using none_but i k (using_replies g m id q name r a))
+    using_informs (ran i k) (entries_of q name r) (IsUsing-ran none_but i k (using_replies g m id q name r a))
 
 using_shares : (g : Gate) (m : ℕ) (c : Client) (id : Option Data) (q : Request) (claim : Option Claim) → IsUsing none_but g → IsUsing none_but (shares g m c id q claim)
 using_shares g m c id q claim a = shares_so (IsUsing none_but) g m id q
@@ -118,7 +118,7 @@ module _ (g : Gate) (m : ℕ) (id : Option Data) (n : ℕ) (role rel : Name) whe
   begun_gate = feed_begun g m id n role rel (subscribed (g.machine.frame.last + 1))
 
   new_follows : (d : Client) → follows next_number (following next_number d).subs ≡ true
-  new_follows d = any_more (λ (s : Sub). next_number == s.feed) d.subs (record { own = d.given + 1; feed = next_number } ∷ []) ∙ or_right (follows next_number d.subs) ((next_number == next_number) || false) (or_left (next_number == next_number) false (same_self next_number))
+  new_follows d = any_more (λ (s : Sub). next_number == s.feed) d.subs (record { own = d.given + 1; feed = next_number } ∷ []) ∙ or_right (follows next_number d.subs) ((next_number == next_number) || false) (or_left (next_number == next_number) false (eq-itself next_number))
 
   old_follows : (k : ℕ) (d : Client) → follows k d.subs ≡ true → follows k (following next_number d).subs ≡ true
   old_follows k d w = any_more (λ (s : Sub). k == s.feed) d.subs (record { own = d.given + 1; feed = next_number } ∷ []) ∙ or_left (follows k d.subs) ((k == next_number) || false) w
@@ -128,19 +128,20 @@ module _ (g : Gate) (m : ℕ) (id : Option Data) (n : ℕ) (role rel : Name) whe
 
   begun_followed : (c : Client) → client_at g.clients m ≡ Some c → IsUsing none_but g → AreFollowed none_but begun_gate.feeds begun_gate.clients
   begun_followed c e a = (
-    λ w. followed_by_one next_number m (following next_number) told_slots (told_one g.entries next_told c)
-        (at_same m (told_one g.entries next_told) g.clients ∙ ap (option_map (told_one g.entries next_told)) e) (new_follows (told_one g.entries next_told c)),
-    all_so {P = λ (x : Feed). none_but x.number ≡ false → is_followed x.number g.clients ≡ true}
+    λ w. is_followed-at_one next_number m (following next_number) told_slots (told_one g.entries next_told c)
+        (client_at-at_client m (told_one g.entries next_told) g.clients ∙ ap (option_map (told_one g.entries next_told)) e)
+          (new_follows (told_one g.entries next_told c)),
+    AllByRecursion-map {P = λ (x : Feed). none_but x.number ≡ false → is_followed x.number g.clients ≡ true}
         {Q = λ (x : Feed). none_but x.number ≡ false → is_followed x.number (at_client m (following next_number) told_slots) ≡ true}
-        (λ x f w. followed_one x.number m (following next_number) told_slots (λ d i v. old_follows x.number d v)
-        (followed_one x.number m (told_one g.entries next_told) g.clients (λ d i v. v) (f w))) g.feeds a.followed,
+        (λ x f w. is_followed-at_client x.number m (following next_number) told_slots (λ d i v. old_follows x.number d v)
+        (is_followed-at_client x.number m (told_one g.entries next_told) g.clients (λ d i v. v) (f w))) g.feeds a.followed,
   )
 
   -- what it follows already is no new feed, and the new one is of its role
   older_fits : (d : Client) → Fits g.machine.frame.last g.feeds d → Fits next_number (next_feed ∷ g.feeds) d
   older_fits d a k h =
       let x = a k h in let given = x.0 in
-      (omega (arith, given), ((λ w. absurd (false≢true (sym (above_given k g.machine.frame.last given) ∙ w))), x.1))
+      (omega (arith, given), ((λ w. absurd (false≢true (sym (eq-le_next k g.machine.frame.last given) ∙ w))), x.1))
 
   none_above : (k f : ℕ) → k ≡ next_number → k ≡ f → f ≤ g.machine.frame.last → ⊥
   none_above k f e h l = omega (arith, e, h, l)
@@ -150,8 +151,8 @@ module _ (g : Gate) (m : ℕ) (id : Option Data) (n : ℕ) (role rel : Name) whe
     omega (arith, e),
     (
       (λ w. sym same),
-      all_so {P = IsFeed g.machine} {Q = λ (f : Feed). (k == f.number) ≡ true → f.role ≡ d.role}
-          (λ f y w. absurd (none_above k f.number e (eqb-true k f.number w) (found_given g.machine.frame.last f.number _ g.machine.frame.subscriptions b.state.numbers.given y.found))) g.feeds b.feeds,
+      AllByRecursion-map {P = IsFeed g.machine} {Q = λ (f : Feed). (k == f.number) ≡ true → f.role ≡ d.role}
+          (λ f y w. absurd (none_above k f.number e (eqb-true k f.number w) (le-subscription_of g.machine.frame.last f.number _ g.machine.frame.subscriptions b.state.numbers.given y.found))) g.feeds b.feeds,
     ),
   )
 
@@ -166,11 +167,12 @@ module _ (g : Gate) (m : ℕ) (id : Option Data) (n : ℕ) (role rel : Name) whe
 
   begun_fit : (c : Client) → client_at g.clients m ≡ Some c → c.role ≡ role → IsSoundGate g → AreFit g.machine.frame.last g.feeds g.clients → AreFit next_number begun_gate.feeds begun_gate.clients
   begun_fit c e same b a =
-      let told = fit_one g.machine.frame.last g.feeds m (told_one g.entries next_told) g.clients (shrinks_same (told_one g.entries next_told) (λ d. refl) (λ d. refl)) a in
-      at_one (λ i d. Fits next_number (next_feed ∷ g.feeds) d) m (following next_number) told_slots
+      let told = AreFit-at_client g.machine.frame.last g.feeds m (told_one g.entries next_told) g.clients (Shrinks-same_subs (told_one g.entries next_told) (λ d. refl) (λ d. refl)) a in
+      client_at-one_changed (λ i d. Fits next_number (next_feed ∷ g.feeds) d) m (following next_number) told_slots
       (λ d h.
-      let o = from (told_one g.entries next_told) (client_at g.clients m) d (sym (at_same m (told_one g.entries next_told) g.clients) ∙ h) in
-      asker_fits d (ap (λ (x : Client). x.role) (sym o.same) ∙ (ap (λ (x : Client). x.role) (one_some o.old c (sym o.there ∙ e)) ∙ same)) b (told m d h))
+      let o =
+        IsFrom-option_map (told_one g.entries next_told) (client_at g.clients m) d (sym (client_at-at_client m (told_one g.entries next_told) g.clients) ∙ h) in
+      asker_fits d (ap (λ (x : Client). x.role) (sym o.same) ∙ (ap (λ (x : Client). x.role) (same-Some o.old c (sym o.there ∙ e)) ∙ same)) b (told m d h))
       (λ i d ne h. older_fits d (told i d h))
 
   pub using_subscribes : (c : Client) → client_at g.clients m ≡ Some c → c.role ≡ role → IsSoundGate g → IsUsing none_but g → IsUsing none_but (subscribes g m id n role rel)
@@ -178,11 +180,11 @@ module _ (g : Gate) (m : ℕ) (id : Option Data) (n : ℕ) (role rel : Name) whe
     where
       by : (o : Option Refusal) → refusal g.machine n (subscribe rel) ≡ o → IsUsing none_but (subscribes g m id n role rel)
       by None w =
-          subst (λ r. IsUsing none_but (ran (feed_begun g m id n role rel r) (in_session n (subscribe rel)))) (sym (reply_of_none g.machine n rel (refusal g.machine n (subscribe rel)) w))
-          (ran_subscribe begun_gate n rel w (begun_followed c e a) (begun_fit c e same b a.fit))
+          subst (λ r. IsUsing none_but (ran (feed_begun g m id n role rel r) (in_session n (subscribe rel)))) (sym (reply_in-None g.machine n rel (refusal g.machine n (subscribe rel)) w))
+          (IsUsing-subscribe begun_gate n rel w (begun_followed c e a) (begun_fit c e same b a.fit))
       by (Some r) w =
-          subst (λ x. IsUsing none_but (ran (feed_begun g m id n role rel x) (in_session n (subscribe rel)))) (sym (reply_of_some g.machine n rel (refusal g.machine n (subscribe rel)) r w))
-          (ran_using none_but (tells g m (replied id (refused r))) (in_session n (subscribe rel)) (using_tells none_but g m (replied id (refused r)) a))
+          subst (λ x. IsUsing none_but (ran (feed_begun g m id n role rel x) (in_session n (subscribe rel)))) (sym (reply_in-Some g.machine n rel (refusal g.machine n (subscribe rel)) r w))
+          (IsUsing-ran none_but (tells g m (replied id (refused r))) (in_session n (subscribe rel)) (using_tells none_but g m (replied id (refused r)) a))
 
 -- ---- a feed that a client leaves for an older one
 
@@ -193,7 +195,7 @@ still_follows t k j (x ∷ xs) w v = by (t == x.feed) refl (j == x.feed) refl v 
     by : (d : Bool) → (t == x.feed) ≡ d → (b : Bool) → (j == x.feed) ≡ b → (b || follows j xs) ≡ true → (follows j xs ≡ true → follows j (map (moved_sub t k) xs) ≡ true)
         → ((j == (cond d (record x { feed = k }) x).feed) || follows j (map (moved_sub t k) xs)) ≡ true
     by true q true u s more =
-        let same : t ≡ j = eqb-true t x.feed q ∙ sym (eqb-true j x.feed u) in absurd (false≢true (sym w ∙ (ap (λ i. t == i) (sym same) ∙ same_self t)))
+        let same : t ≡ j = eqb-true t x.feed q ∙ sym (eqb-true j x.feed u) in absurd (false≢true (sym w ∙ (ap (λ i. t == i) (sym same) ∙ eq-itself t)))
     by true q false u s more = or_right (j == k) (follows j (map (moved_sub t k) xs)) (more s)
     by false q true u s more = or_left (j == x.feed) (follows j (map (moved_sub t k) xs)) u
     by false q false u s more = or_right (j == x.feed) (follows j (map (moved_sub t k) xs)) (more s)
@@ -228,26 +230,26 @@ moved_from t k j (x ∷ xs) h = by (moved_from t k j xs) (t == x.feed) refl h
 same_feed : (s : State) (f k : Feed) → IsFeed s f → IsFeed s k → f.number ≡ k.number → f.role ≡ k.role
 same_feed s f k x y e =
     let session : f.session ≡ k.session = ap (λ (z : Subscription). z.session)
-    (one_some (record { session = f.session; number = f.number; rel = x.rel }) (record { session = k.session; number = k.number; rel = y.rel })
+    (same-Some (record { session = f.session; number = f.number; rel = x.rel }) (record { session = k.session; number = k.number; rel = y.rel })
     (sym x.found ∙ (ap (subscription_of s.frame.subscriptions) e ∙ y.found))) in
-    one_role s k.session f.role k.role (subst (λ n. ActsAs s n f.role) session x.acts) y.acts
+    same-ActsAs s k.session f.role k.role (subst (λ n. ActsAs s n f.role) session x.acts) y.acts
 
 moved_fit : (g : Gate) (m t k : ℕ) (x y : Feed) → IsSoundGate g → feed_of g.feeds t ≡ Some x → feed_of g.feeds k ≡ Some y → y.role ≡ x.role
     → AreFit g.machine.frame.last g.feeds g.clients → AreFit g.machine.frame.last g.feeds (at_client m (moved x.number y.number) g.clients)
-moved_fit g m t k x y b w v same a = at_one (λ i c. Fits g.machine.frame.last g.feeds c) m (moved x.number y.number) g.clients (λ c e j h. by c e j (moved_from x.number y.number j c.subs h)) (λ i c ne e. a i c e)
+moved_fit g m t k x y b w v same a = client_at-one_changed (λ i c. Fits g.machine.frame.last g.feeds c) m (moved x.number y.number) g.clients (λ c e j h. by c e j (moved_from x.number y.number j c.subs h)) (λ i c ne e. a i c e)
   where
     fy : IsFeed g.machine y
-    fy = found_all (IsFeed g.machine) g.feeds k y b.feeds v
+    fy = AllByRecursion-feed_of (IsFeed g.machine) g.feeds k y b.feeds v
 
     by : (c : Client) → client_at g.clients m ≡ Some c → (j : ℕ) → (follows j c.subs ≡ true) ⊎ ((j ≡ y.number) × (follows x.number c.subs ≡ true))
         → (j ≤ g.machine.frame.last) × AllByRecursion (λ (f : Feed). (j == f.number) ≡ true → f.role ≡ c.role) g.feeds
     by c e j (inl h) = a m c e j h
     by c e j (inr p) =
-        let given : y.number ≤ g.machine.frame.last = found_given g.machine.frame.last y.number _ g.machine.frame.subscriptions b.state.numbers.given fy.found in
+        let given : y.number ≤ g.machine.frame.last = le-subscription_of g.machine.frame.last y.number _ g.machine.frame.subscriptions b.state.numbers.given fy.found in
         let number = p.0 in
-        let role : y.role ≡ c.role = same ∙ found_all (λ (f : Feed). (x.number == f.number) ≡ true → f.role ≡ c.role) g.feeds t x (a m c e x.number p.1).1 w (same_self x.number) in (
+        let role : y.role ≡ c.role = same ∙ AllByRecursion-feed_of (λ (f : Feed). (x.number == f.number) ≡ true → f.role ≡ c.role) g.feeds t x (a m c e x.number p.1).1 w (eq-itself x.number) in (
           omega (arith, number, given),
-          all_so {P = IsFeed g.machine} {Q = λ (f : Feed). (j == f.number) ≡ true → f.role ≡ c.role} (λ f z i. same_feed g.machine f y z fy (sym (eqb-true j f.number i) ∙ number) ∙ role) g.feeds b.feeds,
+          AllByRecursion-map {P = IsFeed g.machine} {Q = λ (f : Feed). (j == f.number) ≡ true → f.role ≡ c.role} (λ f z i. same_feed g.machine f y z fy (sym (eqb-true j f.number i) ∙ number) ∙ role) g.feeds b.feeds,
         )
 
 using_joined : (g : Gate) (m t k : ℕ) → IsSoundGate g → IsUsing none_but g → IsUsing none_but (joined g m (feed_of g.feeds t) (feed_of g.feeds k))
@@ -256,12 +258,12 @@ using_joined g m t k b a = by (feed_of g.feeds t) (feed_of g.feeds k) refl refl
     goes : (x y : Feed) → feed_of g.feeds t ≡ Some x → feed_of g.feeds k ≡ Some y → (d : Bool) → (is_reading x.role x.rel y && not (x.number == y.number)) ≡ d
         → IsUsing none_but (cond d (shut (record g { clients = at_client m (moved x.number y.number) g.clients }) x) g)
     goes x y w v false i = a
-    goes x y w v true i = shut_using none_but (record g { clients = at_client m (moved x.number y.number) g.clients }) x
-        (filter_all (λ (f : Feed). none_but f.number ≡ false → is_followed f.number (at_client m (moved x.number y.number) g.clients) ≡ true) (λ (f : Feed). x.number == f.number) g.feeds
-        (all_so {P = λ (f : Feed). none_but f.number ≡ false → is_followed f.number g.clients ≡ true}
+    goes x y w v true i = IsUsing-shut none_but (record g { clients = at_client m (moved x.number y.number) g.clients }) x
+        (AllByRecursion-filter_not (λ (f : Feed). none_but f.number ≡ false → is_followed f.number (at_client m (moved x.number y.number) g.clients) ≡ true) (λ (f : Feed). x.number == f.number) g.feeds
+        (AllByRecursion-map {P = λ (f : Feed). none_but f.number ≡ false → is_followed f.number g.clients ≡ true}
         {Q = λ (f : Feed). (x.number == f.number) ≡ false → none_but f.number ≡ false → is_followed f.number (at_client m (moved x.number y.number) g.clients) ≡ true}
-        (λ f u q n. followed_one f.number m (moved x.number y.number) g.clients (λ c e h. still_follows x.number y.number f.number c.subs q h) (u n)) g.feeds a.followed))
-        (moved_fit g m t k x y b w v (same_name y.role x.role (and_both (bytes_eq y.role x.role) (bytes_eq y.rel x.rel) (and_both (is_reading x.role x.rel y) (not (x.number == y.number)) i).0).0) a.fit)
+        (λ f u q n. is_followed-at_client f.number m (moved x.number y.number) g.clients (λ c e h. still_follows x.number y.number f.number c.subs q h) (u n)) g.feeds a.followed))
+        (moved_fit g m t k x y b w v (same-bytes_eq y.role x.role (and-both_true (bytes_eq y.role x.role) (bytes_eq y.rel x.rel) (and-both_true (is_reading x.role x.rel y) (not (x.number == y.number)) i).0).0) a.fit)
 
     by : (o p : Option Feed) → feed_of g.feeds t ≡ o → feed_of g.feeds k ≡ p → IsUsing none_but (joined g m o p)
     by None p w v = a
@@ -277,27 +279,27 @@ using_joins adds sounds g m id f c e acts same b a = by (reply_to g (in_session 
 
     by : (r : Reply) → IsUsing none_but (joined_by (subscribes g m id f.session f.role f.rel) m f.number r)
     by (subscribed t) = using_joined (subscribes g m id f.session f.role f.rel) m t f.number
-        (subscribes_sound adds sounds g m id f.session f.role f.rel acts (λ d w. subst (λ z. IsAsker z id f.role f.rel) (sym (one_some d c (sym w ∙ e))) same) b) after
+        (IsSoundGate-subscribes adds sounds g m id f.session f.role f.rel acts (λ d w. subst (λ z. IsAsker z id f.role f.rel) (sym (same-Some d c (sym w ∙ e))) same) b) after
     by done = after
     by (refused r) = after
 
 -- ---- sessions
 
 still_there : (g : Gate) (k : Command) (m : ℕ) (c : Client) → client_at g.clients m ≡ Some c → (d : Client) × (client_at (ran g k).clients m ≡ Some d) × (d.role ≡ c.role)
-still_there g k m c e = (hears c, at_every hears g.clients m ∙ ap (option_map hears) e, ap (λ (v : Seer). v.role) (seer_telling g.entries (told_of g k.act (step g.machine k) c) c))
+still_there g k m c e = (hears c, client_at-at_all hears g.clients m ∙ ap (option_map hears) e, ap (λ (v : Seer). v.role) (seer-telling g.entries (told_of g k.act (step g.machine k) c) c))
   where
     hears : Client → Client
     hears x = staying (step g.machine k).lines (telling g.entries (told_of g k.act (step g.machine k) x) x)
 
 using_seated : (g : Gate) (n : ℕ) (role : Name) → IsUsing none_but g → IsUsing none_but (seated g n role)
-using_seated g n role a = ran_using none_but (record g { seats = g.seats ++ record { session = n; role = role } ∷ [] }) (in_session n (begin role)) (record { followed = a.followed; fit = a.fit })
+using_seated g n role a = IsUsing-ran none_but (record g { seats = g.seats ++ record { session = n; role = role } ∷ [] }) (in_session n (begin role)) (record { followed = a.followed; fit = a.fit })
 
 using_rested : (g : Gate) (s : Seat) → IsUsing none_but g → IsUsing none_but (rested g s)
 using_rested g s a = by (is_needed g s)
   where
     by : (d : Bool) → IsUsing none_but (cond d g (ran (record g { seats = without_seat s.session g.seats }) (in_session s.session finish)))
     by true = a
-    by false = ran_using none_but (record g { seats = without_seat s.session g.seats }) (in_session s.session finish) (record { followed = a.followed; fit = a.fit })
+    by false = IsUsing-ran none_but (record g { seats = without_seat s.session g.seats }) (in_session s.session finish) (record { followed = a.followed; fit = a.fit })
 
 -- ---- a client reads
 
@@ -309,7 +311,7 @@ using_first adds sounds g m id role rel c e same b a = by (room_for g.seats g.fe
     further None w = using_tells none_but g m (replied id (refused too_many)) a
     further (Some n) w =
         let d = still_there (record g { seats = g.seats ++ record { session = n; role = role } ∷ [] }) (in_session n (begin role)) m c e in
-        using_subscribes (seated g n role) m id n role rel d.0 d.1 (d.2 ∙ same) (seated_sound adds sounds g role n w b) (using_seated g n role a)
+        using_subscribes (seated g n role) m id n role rel d.0 d.1 (d.2 ∙ same) (IsSoundGate-seated adds sounds g role n w b) (using_seated g n role a)
 
     by : (o : Option ℕ) → IsUsing none_but (if_some o (if_some (begun_for g role) (tells g m (replied id (refused too_many))) (λ n. subscribes (seated g n role) m id n role rel)) (λ n. subscribes g m id n role rel))
     by None = further (begun_for g role) refl
@@ -321,13 +323,13 @@ using_reads adds sounds g m c id rel d e same b a = test (nat_lt (length c.subs)
   where
     by : (o : Option Feed) → feed_for g.feeds c.role rel ≡ o → IsUsing none_but (if_some o (reads_first g m id c.role rel) (joins g m id))
     by None w = using_first adds sounds g m id c.role rel d e same.same b a
-    by (Some f) w = let p = feed_acts g.machine c.role rel g.feeds f b.feeds w in using_joins adds sounds g m id f d e p.0 (subst (λ r. IsAsker d id r f.rel) (sym p.1) (subst (λ r. IsAsker d id c.role r) (sym p.2) same)) b a
+    by (Some f) w = let p = ActsAs-feed_for g.machine c.role rel g.feeds f b.feeds w in using_joins adds sounds g m id f d e p.0 (subst (λ r. IsAsker d id r f.rel) (sym p.1) (subst (λ r. IsAsker d id c.role r) (sym p.2) same)) b a
 
     test : (t : Bool) → IsUsing none_but (cond t (if_some (feed_for g.feeds c.role rel) (reads_first g m id c.role rel) (joins g m id)) (tells g m (replied id (refused too_many))))
     test true = by (feed_for g.feeds c.role rel) refl
     test false = using_tells none_but g m (replied id (refused too_many)) a
 
--- ---- what nobody follows any more
+-- ---- what not_client_at-replicate follows any more
 
 abbrev pub but_of : List ℕ → ℕ → Bool
 but_of ks j = list_any (λ i. i == j) ks
@@ -338,7 +340,7 @@ none_found k (f ∷ fs) h = by (k == f.number) refl h (none_found k fs)
   where
     by : (b : Bool) → (k == f.number) ≡ b → cond b (Some f) (feed_of fs k) ≡ None → (feed_of fs k ≡ None → AllByRecursion (λ (x : Feed). (k == x.number) ≡ false) fs)
         → ((k == f.number) ≡ false) × AllByRecursion (λ (x : Feed). (k == x.number) ≡ false) fs
-    by true q w more = absurd (some_is_none f w)
+    by true q w more = absurd (not_None-Some f w)
     by false q w more = (q, more w)
 
 using_swept : (ks : List ℕ) (g : Gate) (k : ℕ) → IsUsing (but_of (k ∷ ks)) g → IsUsing (but_of ks) (swept g k)
@@ -351,20 +353,22 @@ using_swept ks g k a = by (is_followed k g.clients) refl (feed_of g.feeds k) ref
 
     by : (d : Bool) → is_followed k g.clients ≡ d → (o : Option Feed) → feed_of g.feeds k ≡ o → IsUsing (but_of ks) (cond d g (if_some o g (shut g)))
     by true h o e = record {
-      followed = all_so {P = λ (f : Feed). but_of (k ∷ ks) f.number ≡ false → is_followed f.number g.clients ≡ true} {Q = λ (f : Feed). but_of ks f.number ≡ false → is_followed f.number g.clients ≡ true}
+      followed = AllByRecursion-map {P = λ (f : Feed). but_of (k ∷ ks) f.number ≡ false → is_followed f.number g.clients ≡ true} {Q = λ (f : Feed). but_of ks f.number ≡ false → is_followed f.number g.clients ≡ true}
           (λ f v w. test h f v w (k == f.number) refl) g.feeds a.followed;
       fit = a.fit;
     }
     by false h None e = record {
-      followed = both {P = λ (f : Feed). but_of (k ∷ ks) f.number ≡ false → is_followed f.number g.clients ≡ true} {Q = λ (f : Feed). (k == f.number) ≡ false}
+      followed = AllByRecursion-zip {P = λ (f : Feed). but_of (k ∷ ks) f.number ≡ false → is_followed f.number g.clients ≡ true} {Q = λ (f : Feed).
+        (k == f.number) ≡ false}
           {R = λ (f : Feed). but_of ks f.number ≡ false → is_followed f.number g.clients ≡ true} (λ f v q w. v (λ i. q i || w i)) g.feeds a.followed (none_found k g.feeds e);
       fit = a.fit;
     }
     by false h (Some x) e =
-        let same : k ≡ x.number = eqb-true k x.number (find_passes (λ (f : Feed). k == f.number) g.feeds x e) in
-        shut_using (but_of ks) g x
-        (filter_all (λ (f : Feed). but_of ks f.number ≡ false → is_followed f.number g.clients ≡ true) (λ (f : Feed). x.number == f.number) g.feeds
-        (all_so {P = λ (f : Feed). but_of (k ∷ ks) f.number ≡ false → is_followed f.number g.clients ≡ true} {Q = λ (f : Feed). (x.number == f.number) ≡ false → but_of ks f.number ≡ false → is_followed f.number g.clients ≡ true}
+        let same : k ≡ x.number = eqb-true k x.number (true-find (λ (f : Feed). k == f.number) g.feeds x e) in
+        IsUsing-shut (but_of ks) g x
+        (AllByRecursion-filter_not (λ (f : Feed). but_of ks f.number ≡ false → is_followed f.number g.clients ≡ true)
+          (λ (f : Feed). x.number == f.number) g.feeds
+        (AllByRecursion-map {P = λ (f : Feed). but_of (k ∷ ks) f.number ≡ false → is_followed f.number g.clients ≡ true} {Q = λ (f : Feed). (x.number == f.number) ≡ false → but_of ks f.number ≡ false → is_followed f.number g.clients ≡ true}
         (λ f v q w. v (λ i. (ap (λ j. j == f.number) same ∙ q) i || w i)) g.feeds a.followed)) a.fit
 
 using_all_swept : (g : Gate) (ks : List ℕ) → IsUsing (but_of ks) g → IsUsing none_but (all_swept g ks)
@@ -379,7 +383,7 @@ using_all_rested g (s ∷ ss) a = using_all_rested (rested g s) ss (using_rested
 
 kept_whole : (own j : ℕ) (xs : List Sub) → list_any (λ (y : Sub). own == y.own) xs ≡ false → follows j xs ≡ true → follows j (filter (λ (s : Sub). not (own == s.own)) xs) ≡ true
 kept_whole own j [] n v = v
-kept_whole own j (x ∷ xs) n v = let p = neither (own == x.own) (list_any (λ (y : Sub). own == y.own) xs) n in by (own == x.own) p.0 (j == x.feed) v (kept_whole own j xs p.1) refl
+kept_whole own j (x ∷ xs) n v = let p = or-both_false (own == x.own) (list_any (λ (y : Sub). own == y.own) xs) n in by (own == x.own) p.0 (j == x.feed) v (kept_whole own j xs p.1) refl
   where
     by : (b : Bool) → b ≡ false → (d : Bool) → (d || follows j xs) ≡ true → (follows j xs ≡ true → follows j (filter (λ (s : Sub). not (own == s.own)) xs) ≡ true)
         → (j == x.feed) ≡ d → follows j (cond (not b) (x ∷ filter (λ (s : Sub). not (own == s.own)) xs) (filter (λ (s : Sub). not (own == s.own)) xs)) ≡ true
@@ -397,7 +401,7 @@ other_stays own k j given (x ∷ xs) o f w v = by (own == x.own) refl f (j == x.
     by : (b : Bool) → (own == x.own) ≡ b → option_map (λ (s : Sub). s.feed) (cond b (Some x) (find (λ (s : Sub). own == s.own) xs)) ≡ Some k → (d : Bool) → (j == x.feed) ≡ d → (d || follows j xs) ≡ true
         → (followed_by xs own ≡ Some k → follows j xs ≡ true → follows j left ≡ true)
         → follows j (cond (not b) (x ∷ filter (λ (s : Sub). not (own == s.own)) xs) (filter (λ (s : Sub). not (own == s.own)) xs)) ≡ true
-    by true q e true u t more = absurd (false≢true (sym w ∙ (ap (λ i. i == j) (sym (one_some x.feed k e)) ∙ is_back j x.feed u)))
+    by true q e true u t more = absurd (false≢true (sym w ∙ (ap (λ i. i == j) (sym (same-Some x.feed k e)) ∙ eq-turned j x.feed u)))
     by true q e false u t more = kept_whole own j xs (ap (λ i. list_any (λ (y : Sub). i == y.own) xs) (eqb-true own x.own q) ∙ o.1) t
     by false q e true u t more = or_left (j == x.feed) (follows j left) u
     by false q e false u t more = or_right (j == x.feed) (follows j left) (more e t)
@@ -413,11 +417,11 @@ using_closes g m c id own given same o a = by (followed_by c.subs own) refl
     by None e = using_tells none_but g m (replied id (refused unknown_subscription)) a
     by (Some k) e =
         let i = using_swept [] (tells h m (replied id done)) k (using_tells (but_of (k ∷ [])) h m (replied id done) (record {
-          followed = all_so {P = λ (f : Feed). none_but f.number ≡ false → is_followed f.number g.clients ≡ true} {Q = λ (f : Feed). but_of (k ∷ []) f.number ≡ false → is_followed f.number (at_client m (closing own) g.clients) ≡ true}
-              (λ f v w. followed_one f.number m (closing own) g.clients
+          followed = AllByRecursion-map {P = λ (f : Feed). none_but f.number ≡ false → is_followed f.number g.clients ≡ true} {Q = λ (f : Feed). but_of (k ∷ []) f.number ≡ false → is_followed f.number (at_client m (closing own) g.clients) ≡ true}
+              (λ f v w. is_followed-at_client f.number m (closing own) g.clients
               (λ d t u. ap (λ ss. follows f.number (filter (λ (s : Sub). not (own == s.own)) ss)) (same d t)
-              ∙ other_stays own k f.number given c.subs o e (neither (k == f.number) false w).0 (sym (ap (follows f.number) (same d t)) ∙ u)) (v refl)) g.feeds a.followed;
-          fit = fit_one g.machine.frame.last g.feeds m (closing own) g.clients (record { role = λ d. refl; fewer = λ d j t. follows_fewer j (λ (s : Sub). not (own == s.own)) d.subs t }) a.fit;
+              ∙ other_stays own k f.number given c.subs o e (or-both_false (k == f.number) false w).0 (sym (ap (follows f.number) (same d t)) ∙ u)) (v refl)) g.feeds a.followed;
+          fit = AreFit-at_client g.machine.frame.last g.feeds m (closing own) g.clients (record { role = λ d. refl; fewer = λ d j t. follows-filter j (λ (s : Sub). not (own == s.own)) d.subs t }) a.fit;
         })) in
         record { followed = i.followed; fit = i.fit }
 
@@ -427,8 +431,9 @@ using_acts : Adds → Sounds → (g : Gate) (m : ℕ) (c : Client) (id : Option 
     → IsSoundGate g → IsUsing none_but g → IsUsing none_but (acts g m c id text act)
 using_acts adds sounds g m c id text (begin role) d given t w r s o b a = using_tells none_but g m (fault 2) a
 using_acts adds sounds g m c id text finish d given t w r s o b a = using_tells none_but g m (fault 2) a
-using_acts adds sounds g m c id text (subscribe rel) d given t w r s o b a = using_reads adds sounds g m c id rel d t (asker_of g m c id text rel d w r) b a
-using_acts adds sounds g m c id text (unsubscribe own) d given t w r s o b a = using_closes g m c id own given (λ x e. ap (λ (y : Client). y.subs) (one_some x d (sym e ∙ t)) ∙ s) o a
+using_acts adds sounds g m c id text (subscribe rel) d given t w r s o b a =
+    using_reads adds sounds g m c id rel d t (IsAsker-IsHeard g m c id text rel d w r) b a
+using_acts adds sounds g m c id text (unsubscribe own) d given t w r s o b a = using_closes g m c id own given (λ x e. ap (λ (y : Client). y.subs) (same-Some x d (sym e ∙ t)) ∙ s) o a
 using_acts adds sounds g m c id text (create_role name) d given t w r s o b a = using_shares g m c id (request_of c text (create_role name)) (claim_said text) a
 using_acts adds sounds g m c id text (create_table name owner columns) d given t w r s o b a = using_shares g m c id (request_of c text (create_table name owner columns)) (claim_said text) a
 using_acts adds sounds g m c id text (create_view name owner query) d given t w r s o b a = using_shares g m c id (request_of c text (create_view name owner query)) (claim_said text) a
@@ -448,7 +453,7 @@ using_done adds sounds g m c text too_long d given t w r s o b a = using_tells n
 using_done adds sounds g m c text no_object d given t w r s o b a = using_tells none_but g m (fault 2) a
 using_done adds sounds g m c text (no_request id why) d given t w r s o b a = using_tells none_but g m (unasked id why) a
 using_done adds sounds g m c text (request id act) d given t w r s o b a =
-    test_of (IsUsing none_but) (may_have (claim_said text) act) (acts g m c id text act) (tells g m (unasked id (unknown (codes "once")))) (using_acts adds sounds g m c id text act d given t w r s o b a) (using_tells none_but g m (unasked id (unknown (codes "once"))) a)
+    cond-either (IsUsing none_but) (may_have (claim_said text) act) (acts g m c id text act) (tells g m (unasked id (unknown (codes "once")))) (using_acts adds sounds g m c id text act d given t w r s o b a) (using_tells none_but g m (unasked id (unknown (codes "once"))) a)
 
 not_dropped : (d : Bool) (e : Bool) → (not d && e) ≡ true → d ≡ false
 not_dropped true e h = absurd (false≢true h)
@@ -460,9 +465,10 @@ using_hears adds sounds g m c text t says even b a =
     let live : c.dropped ≡ false = not_dropped c.dropped _ says in
     using_one none_but (settles (done_for asked m c text (said_by text))) m (answered c) (λ d. refl) (λ d. refl)
     (using_settles (done_for asked m c text (said_by text))
-    (using_done adds sounds asked m c text (said_by text) (saying text c) c.given (at_same m (saying text) g.clients ∙ ap (option_map (saying text)) t) refl
+    (using_done adds sounds asked m c text (said_by text) (saying text c) c.given
+      (client_at-at_client m (saying text) g.clients ∙ ap (option_map (saying text)) t) refl
     (record { role = refl; before = c.messages; messages = refl; pending = even }) refl (b.clients m c t live).own
-    (one_sound g m (saying text) (λ d e l. client_said g.machine g.feeds (seer d) text (b.clients m d e l)) b) (using_one none_but g m (saying text) (λ d. refl) (λ d. refl) a)))
+    (IsSoundGate-at_client g m (saying text) (λ d e l. IsSoundClient-said g.machine g.feeds (seer d) text (b.clients m d e l)) b) (using_one none_but g m (saying text) (λ d. refl) (λ d. refl) a)))
 
 some_using : {X : Type 0} (o : Option X) (h : Gate) (f : X → Gate) → IsUsing none_but h → ((x : X) → o ≡ Some x → IsUsing none_but (f x)) → IsUsing none_but (if_some o h f)
 some_using None h f a b = a
@@ -472,7 +478,7 @@ using_said : Adds → Sounds → (g : Gate) (m : ℕ) (text : List ℕ) → AreE
 using_said adds sounds g m text even b a = some_using (client_at g.clients m) g (λ c. cond (may_say c) (hears g m c text) g) a (λ c e. test c e (may_say c) refl)
   where
     test : (c : Client) → client_at g.clients m ≡ Some c → (t : Bool) → may_say c ≡ t → IsUsing none_but (cond t (hears g m c text) g)
-    test c e true s = using_hears adds sounds g m c text e s (even m c (record { there = e; stays = says_stays c s })) b a
+    test c e true s = using_hears adds sounds g m c text e s (even m c (record { there = e; stays = dropped-may_say c s })) b a
     test c e false s = a
 
 -- ---- a client comes, and goes
@@ -486,7 +492,7 @@ using_with g role m e a = by (seat_of g.seats role)
     further (Some n) =
         let h = record g { seats = g.seats ++ record { session = n; role = role } ∷ [] } in let k = in_session n (begin role) in (
           using_seated g n role a,
-          at_every (λ (x : Client). staying (step h.machine k).lines (telling h.entries (told_of h k.act (step h.machine k) x) x)) g.clients m
+          client_at-at_all (λ (x : Client). staying (step h.machine k).lines (telling h.entries (told_of h k.act (step h.machine k) x) x)) g.clients m
               ∙ ap (option_map (λ (x : Client). staying (step h.machine k).lines (telling h.entries (told_of h k.act (step h.machine k) x) x))) e,
         )
 
@@ -496,17 +502,18 @@ using_with g role m e a = by (seat_of g.seats role)
 
 using_came : (g : Gate) (m : ℕ) (token : List ℕ) (t : Token) → token_for g m token ≡ Some t → IsUsing none_but g → IsUsing none_but (came_as g m t)
 using_came g m token t e a =
-    let h = with_session g t.role in let p = using_with g t.role m (free_none m g.clients (opens_token g m token t e).free) a in
+    let h = with_session g t.role in let p = using_with g t.role m (client_at-is_free m g.clients (Opens-token_for g m token t e).free) a in
     let who = Some (fresh h.entries t (at_text h t)) in
     record {
-      followed = all_so {P = λ (f : Feed). none_but f.number ≡ false → is_followed f.number h.clients ≡ true} {Q = λ (f : Feed). none_but f.number ≡ false → is_followed f.number (set h.clients m who) ≡ true}
-          (λ f v w. followed_put f.number m who h.clients p.1 (v w)) h.feeds p.0.followed;
-      fit = put_one (Fits h.machine.frame.last h.feeds) m who h.clients (λ c i k z. absurd (false≢true (ap (λ (x : Client). follows k x.subs) (one_some (fresh h.entries t (at_text h t)) c i) ∙ z))) p.0.fit;
+      followed = AllByRecursion-map {P = λ (f : Feed). none_but f.number ≡ false → is_followed f.number h.clients ≡ true} {Q = λ (f : Feed). none_but f.number ≡ false → is_followed f.number (set h.clients m who) ≡ true}
+          (λ f v w. is_followed-set f.number m who h.clients p.1 (v w)) h.feeds p.0.followed;
+      fit = client_at-set_each (Fits h.machine.frame.last h.feeds) m who h.clients (λ c i k z. absurd (false≢true (ap (λ (x : Client). follows k x.subs) (same-Some (fresh h.entries t (at_text h t)) c i) ∙ z))) p.0.fit;
     }
 
 not_among : (j : ℕ) (xs : List Sub) → but_of (map (λ (s : Sub). s.feed) xs) j ≡ false → follows j xs ≡ false
 not_among j [] h = refl
-not_among j (x ∷ xs) h = let p = neither (x.feed == j) (but_of (map (λ (s : Sub). s.feed) xs) j) h in (λ i. differs_back x.feed j p.0 i || not_among j xs p.1 i)
+not_among j (x ∷ xs) h =
+    let p = or-both_false (x.feed == j) (but_of (map (λ (s : Sub). s.feed) xs) j) h in (λ i. eq-false_turned x.feed j p.0 i || not_among j xs p.1 i)
 
 using_went : (g : Gate) (m : ℕ) → IsUsing none_but g → IsUsing none_but (went g m)
 using_went g m a = by (client_at g.clients m) refl
@@ -518,9 +525,9 @@ using_went g m a = by (client_at g.clients m) refl
         let left = record g { clients = set g.clients m None } in let ks = map (λ (s : Sub). s.feed) c.subs in
         let h = all_swept left ks in let ss = filter (is_of_role c.role) h.seats in
         using_settles (all_rested h ss) (using_all_rested h ss (using_all_swept left ks (record {
-          followed = all_so {P = λ (f : Feed). none_but f.number ≡ false → is_followed f.number g.clients ≡ true} {Q = λ (f : Feed). but_of ks f.number ≡ false → is_followed f.number (set g.clients m None) ≡ true}
-              (λ f v w. followed_left f.number m g.clients c e (not_among f.number c.subs w) (v refl)) g.feeds a.followed;
-          fit = put_one (Fits g.machine.frame.last g.feeds) m None g.clients (λ d i. absurd (some_is_none d (sym i))) a.fit;
+          followed = AllByRecursion-map {P = λ (f : Feed). none_but f.number ≡ false → is_followed f.number g.clients ≡ true} {Q = λ (f : Feed). but_of ks f.number ≡ false → is_followed f.number (set g.clients m None) ≡ true}
+              (λ f v w. is_followed-set_None f.number m g.clients c e (not_among f.number c.subs w) (v refl)) g.feeds a.followed;
+          fit = client_at-set_each (Fits g.machine.frame.last g.feeds) m None g.clients (λ d i. absurd (not_None-Some d (sym i))) a.fit;
         })))
 
 -- ---- a step
@@ -528,7 +535,7 @@ using_went g m a = by (client_at g.clients m) refl
 using_landed : Sounds → (g : Gate) (e : Entry) (fs : List Fact) (o : Outcome) → stepped fs g.machine ≡ Some o → IsSoundGate g → IsUsing none_but g → IsUsing none_but (landed g e o)
 using_landed sounds g e fs o h b a =
     let now = entered g (e ∷ []) in let behind = went_on now o (step_told g o) in let same = (sounds.told fs g.machine o b.state h).last in
-    using_settles (informs behind (e ∷ [])) (using_informs behind (e ∷ []) (went_using none_but now o (step_told g o) (omega (arith, same)) (record { followed = a.followed; fit = a.fit })))
+    using_settles (informs behind (e ∷ [])) (using_informs behind (e ∷ []) (IsUsing-went_on none_but now o (step_told g o) (omega (arith, same)) (record { followed = a.followed; fit = a.fit })))
 
 using_takes : Sounds → (g : Gate) (x : Step) → IsSoundGate g → IsUsing none_but g → IsUsing none_but (takes g x)
 using_takes sounds g x b a = by (is_some (fault_of g x)) (is_behind g x) (stepped (map fact_of x.requests) g.machine) refl
@@ -545,10 +552,10 @@ happens_using : Adds → Sounds → (g : Gate) (e : Event) → AreEven g → IsS
 happens_using adds sounds g (presented m token) even b a = some_using (token_for g m token) g (came_as g m) a (λ t e. using_came g m token t e a)
 happens_using adds sounds g (message m text) even b a = using_said adds sounds g m text even b a
 happens_using adds sounds g (gone m) even b a = using_went g m a
-happens_using adds sounds g (known tokens) even b a = let x = using_all none_but g (checked tokens) (checked_subs tokens) (checked_role tokens) a in record { followed = x.followed; fit = x.fit }
+happens_using adds sounds g (known tokens) even b a = let x = using_all none_but g (checked tokens) (checked_subs tokens) (role-checked tokens) a in record { followed = x.followed; fit = x.fit }
 happens_using adds sounds g ticked even b a = using_all none_but g (beating g.entries) (λ c. refl) (λ c. refl) a
-happens_using adds sounds g synced even b a = let x = using_all none_but g released released_subs released_role a in record { followed = x.followed; fit = x.fit }
-happens_using adds sounds g (handed m) even b a = let x = using_one none_but g m handing handing_subs handing_role a in record { followed = x.followed; fit = x.fit }
+happens_using adds sounds g synced even b a = let x = using_all none_but g released released_subs role-released a in record { followed = x.followed; fit = x.fit }
+happens_using adds sounds g (handed m) even b a = let x = using_one none_but g m handing handing_subs role-handing a in record { followed = x.followed; fit = x.fit }
 happens_using adds sounds g (arrived x) even b a = using_takes sounds g x b a
 happens_using adds sounds g forgave even b a = record { followed = a.followed; fit = a.fit }
 happens_using adds sounds g failed even b a = record { followed = a.followed; fit = a.fit }
@@ -563,24 +570,24 @@ next_using adds sounds g e even b a = by g.dead
 restored_using : (cap : ℕ) (tokens : List Token) (most : ℕ) (head : Head) (sent : List Shown) (journal : List Line) (g : Gate) → Restores (gate_at_start cap tokens most head sent) journal g → IsUsing none_but g
 restored_using cap tokens most head sent journal g r = subst (IsUsing none_but) (sym r.leads.gate) (record {
   followed = tt;
-  fit = λ m c h. absurd (nobody most m c h);
+  fit = λ m c h. absurd (not_client_at-replicate most m c h);
 })
 
-pub runs_using : Adds → Starts → Sounds → (cap : ℕ) (g : Gate) → Runs cap g → IsUsing none_but g
-runs_using adds starts sounds cap _ (begins tokens most head journal g r) = restored_using cap tokens most head [] journal g r
-runs_using adds starts sounds cap _ (goes_on h e w r) = next_using adds sounds h e (runs_even cap h r) (runs_sound adds starts sounds cap h r) (runs_using adds starts sounds cap h r)
-runs_using adds starts sounds cap _ (begins_again h disk tokens most i r l x) = restored_using cap tokens most h.head h.sent disk i x
+pub IsUsing-Runs : Adds → Starts → Sounds → (cap : ℕ) (g : Gate) → Runs cap g → IsUsing none_but g
+IsUsing-Runs adds starts sounds cap _ (begins tokens most head journal g r) = restored_using cap tokens most head [] journal g r
+IsUsing-Runs adds starts sounds cap _ (goes_on h e w r) = next_using adds sounds h e (AreEven-Runs cap h r) (IsSoundGate-Runs adds starts sounds cap h r) (IsUsing-Runs adds starts sounds cap h r)
+IsUsing-Runs adds starts sounds cap _ (begins_again h disk tokens most i r l x) = restored_using cap tokens most h.head h.sent disk i x
 
 -- each subscription of the machine is a feed that some client follows
-pub reads_for_clients : Adds → Starts → Sounds → (cap : ℕ) (g : Gate) → Runs cap g → ReadsForClients g
-reads_for_clients adds starts sounds cap g r = record {
-  subscriptions = all_so {P = IsFed g.feeds} {Q = λ (e : Subscription). is_followed e.number g.clients ≡ true}
+pub ReadsForClients-Runs : Adds → Starts → Sounds → (cap : ℕ) (g : Gate) → Runs cap g → ReadsForClients g
+ReadsForClients-Runs adds starts sounds cap g r = record {
+  subscriptions = AllByRecursion-map {P = IsFed g.feeds} {Q = λ (e : Subscription). is_followed e.number g.clients ≡ true}
       (λ e h.
-      let same : e.number ≡ h.feed.number = eqb-true e.number h.feed.number (find_passes (λ (x : Feed). e.number == x.number) g.feeds h.feed h.found) in
-      ap (λ i. is_followed i g.clients) same ∙ found_all (λ (x : Feed). none_but x.number ≡ false → is_followed x.number g.clients ≡ true) g.feeds e.number h.feed a.followed h.found refl)
-      g.machine.frame.subscriptions (runs_kept adds starts sounds cap g r).shared.fed;
-  feeds = all_so {P = λ (f : Feed). none_but f.number ≡ false → is_followed f.number g.clients ≡ true} {Q = λ (f : Feed). is_followed f.number g.clients ≡ true} (λ f h. h refl) g.feeds a.followed;
+      let same : e.number ≡ h.feed.number = eqb-true e.number h.feed.number (true-find (λ (x : Feed). e.number == x.number) g.feeds h.feed h.found) in
+      ap (λ i. is_followed i g.clients) same ∙ AllByRecursion-feed_of (λ (x : Feed). none_but x.number ≡ false → is_followed x.number g.clients ≡ true) g.feeds e.number h.feed a.followed h.found refl)
+      g.machine.frame.subscriptions (IsKept-Runs adds starts sounds cap g r).shared.fed;
+  feeds = AllByRecursion-map {P = λ (f : Feed). none_but f.number ≡ false → is_followed f.number g.clients ≡ true} {Q = λ (f : Feed). is_followed f.number g.clients ≡ true} (λ f h. h refl) g.feeds a.followed;
 }
   where
     a : IsUsing none_but g
-    a = runs_using adds starts sounds cap g r
+    a = IsUsing-Runs adds starts sounds cap g r

@@ -27,25 +27,25 @@ use Rattle.iv_machine.specs.Refusing.{known_grantee, or_else, refusal}
 use Rattle.iv_machine.specs.State.{Frame, State, rel_of}
 use Rattle.iv_machine.specs.Well.{is_grantee, is_well_act}
 use Rattle.iv_message.specs.Message.{Message, no_json, too_long, no_object, no_request, request, is_well_message, message_of, message_of_value, most_bytes, on_one_line}
-use Rattle.iv_message.proofs.Meaning.{ReadsWell, value_well}
+use Rattle.iv_message.proofs.Meaning.{ReadsWell, is_well_message-ReadsWell}
 use Rattle.iv_clients.specs.Bounds.{most_said}
 use Rattle.iv_clients.specs.Journal.{Parts, begins_object, not_request, said_by, said_in, with_front, id_parts, line_said}
 use Rattle.iv_request.specs.Reading.{value_of}
 use Rattle.iv_gate.specs.Gate.{granted_by, has_some, is_member}
-use Rattle.iv_gate.proofs.Joining.{and_both, bytes_self}
-use Rattle.iv_gate.proofs.Machine.{first_none, later_none, passed, there}
-use Rattle.iv_gate.proofs.Sharing.{same_position}
+use Rattle.iv_gate.proofs.Joining.{and-both_true, bytes_eq-itself}
+use Rattle.iv_gate.proofs.Machine.{None-or_else_first, None-or_else_later, test-None, Some-not_is_some}
+use Rattle.iv_gate.proofs.Sharing.{same-position}
 use Rattle.iv_gate.proofs.Sound.{Sounds, any_more}
-use Rattle.iv_gate.proofs.Summing.{same_self}
+use Rattle.iv_gate.proofs.Summing.{eq-itself}
 
 -- ---- messages ask what the machine may be given
 
-pub text_well : ReadsWell → (text : List ℕ) → is_well_message (message_of text) ≡ true
-text_well h text = by (nat_lt most_bytes (length text))
+pub is_well_message-message_of : ReadsWell → (text : List ℕ) → is_well_message (message_of text) ≡ true
+is_well_message-message_of h text = by (nat_lt most_bytes (length text))
   where
     by : (b : Bool) → is_well_message (cond b too_long (message_of_value (value_of (on_one_line text)))) ≡ true
     by true = refl
-    by false = value_well (value_of (on_one_line text)) h
+    by false = is_well_message-ReadsWell (value_of (on_one_line text)) h
 
 front_well : (front : Option Data) (m : Message) → is_well_message m ≡ true → is_well_message (with_front front m) ≡ true
 front_well front (request None act) h = h
@@ -59,14 +59,14 @@ not_well : (m : Message) → is_well_message (not_request m) ≡ true
 not_well no_json = refl
 not_well _ = refl
 
-pub said_well : ReadsWell → (text : List ℕ) → is_well_message (said_by text) ≡ true
-said_well h text = by (nat_lt most_said (length text))
+pub is_well_message-said_by : ReadsWell → (text : List ℕ) → is_well_message (said_by text) ≡ true
+is_well_message-said_by h text = by (nat_lt most_said (length text))
   where
     p : Parts
     p = ((id_parts text).0, line_said text)
 
     object : (b : Bool) → is_well_message (cond b (with_front p.0 (message_of p.1)) (not_request (message_of p.1))) ≡ true
-    object true = front_well p.0 (message_of p.1) (text_well h p.1)
+    object true = front_well p.0 (message_of p.1) (is_well_message-message_of h p.1)
     object false = not_well (message_of p.1)
 
     by : (b : Bool) → is_well_message (cond b too_long (said_in ((id_parts text).0, line_said text))) ≡ true
@@ -78,8 +78,8 @@ said_well h text = by (nat_lt most_said (length text))
 abbrev pub HasAdmin : State → Type 0
 HasAdmin s = role_of s.frame.rights (codes "admin") ≡ Some 0
 
-pub admin_stays : Sounds → (s : State) (k : Command) → HasAdmin s → HasAdmin (step s k).state
-admin_stays sounds s k h = (sounds.lasts s k).roles (codes "admin") 0 h
+pub HasAdmin-step : Sounds → (s : State) (k : Command) → HasAdmin s → HasAdmin (step s k).state
+HasAdmin-step sounds s k h = (sounds.lasts s k).roles (codes "admin") 0 h
 
 -- ---- privileges
 
@@ -107,7 +107,7 @@ has_some_is f role rel r h = ap (λ o. if_some o false (λ x. has_at f x rel)) h
 -- ---- a grant
 
 each_part : (a b c : Bool) → (a && (b && c)) ≡ true → (a ≡ true) × (b ≡ true) × (c ≡ true)
-each_part a b c h = let x = and_both a (b && c) h in let y = and_both b c x.1 in (x.0, y.0, y.1)
+each_part a b c h = let x = and-both_true a (b && c) h in let y = and-both_true b c x.1 in (x.0, y.0, y.1)
 
 named_itself : (rel : ℕ) (p : Privilege) (ps : List Privilege) (to : Grantee) → is_named_by rel (p ∷ ps) to (grant_to to p rel) ≡ true
 named_itself rel p ps to =
@@ -135,13 +135,13 @@ module _ (s : State) (n : ℕ) (role : Name) (place : ℕ) where
   granted_to gives rel [] to z w known h = absurd (no_none to rel w)
   granted_to gives rel (p ∷ ps) to z w known h =
       let act = grant rel (p ∷ ps) to in let f = (behind act).frame in
-      let tests = later_none _ _ (first_none _ _ z) in
-      let entry = there (named s.frame.catalog rel) (passed _ unknown_relation (first_none _ _ tests)) in
+      let tests = None-or_else_later _ _ (None-or_else_first _ _ z) in
+      let entry = Some-not_is_some (named s.frame.catalog rel) (test-None _ unknown_relation (None-or_else_first _ _ tests)) in
       let number : rel_of s.frame.catalog rel ≡ entry.0.rel = ap (λ o. if_some o (length s.frame.catalog) (λ (e : CatalogEntry). e.rel)) entry.1 in
       has_some_is f role rel place known
       ∙ (ap (λ o. if_some o false (λ (e : CatalogEntry). list_any (λ q. has f.rights place q e.rel) (Select ∷ Insert ∷ Update ∷ Delete ∷ []))) entry.1
       ∙ some_privilege (λ q. has f.rights place q entry.0.rel) p
-      (subst (λ i. has f.rights place p i ≡ true) number (grant_gives gives s.frame.rights (rel_of s.frame.catalog rel) place p ps (grantee_of s.frame.rights to) (for_it to (later_none _ _ (later_none _ _ tests)) known h))))
+      (subst (λ i. has f.rights place p i ≡ true) number (grant_gives gives s.frame.rights (rel_of s.frame.catalog rel) place p ps (grantee_of s.frame.rights to) (for_it to (None-or_else_later _ _ (None-or_else_later _ _ tests)) known h))))
     where
       R : Option Name → Rights
       R who = with_grants (rel_of s.frame.catalog rel) (p ∷ ps) (grantee_of s.frame.rights who) s.frame.rights
@@ -151,7 +151,7 @@ module _ (s : State) (n : ℕ) (role : Name) (place : ℕ) where
           → is_for (R who) place (grantee_of s.frame.rights who) ≡ true
       for_it None t k m = refl
       for_it (Some other) t k m =
-          let found = there (role_of s.frame.rights other) (passed _ unknown_role (first_none _ _ t)) in
+          let found = Some-not_is_some (role_of s.frame.rights other) (test-None _ unknown_role (None-or_else_first _ _ t)) in
           let number : role_number s.frame.rights other ≡ found.0 = ap (λ o. unwrap_or o (length s.frame.rights.roles)) found.1 in
           ap (acts_as s.frame.rights place) number
           ∙ (sym (ap (λ o. if_some o false (λ r. if_some (role_of s.frame.rights other) false (acts_as s.frame.rights r))) k ∙ ap (λ o. if_some o false (acts_as s.frame.rights place)) found.1) ∙ m)
@@ -162,7 +162,7 @@ module _ (s : State) (n : ℕ) (role : Name) (place : ℕ) where
   direct_now ms m = by (is_direct ms m) refl
     where
       same : (a : ℕ) → (a == a) ≡ true
-      same a = same_self a
+      same a = eq-itself a
 
       by : (b : Bool) → is_direct ms m ≡ b → is_direct (cond b ms (ms ++ m ∷ [])) m ≡ true
       by true e = e
@@ -172,22 +172,22 @@ module _ (s : State) (n : ℕ) (role : Name) (place : ℕ) where
   not_admin other i h g k = by (i == 0) refl
     where
       not_it : bytes_eq other (codes "admin") ≡ false
-      not_it = not-true (bytes_eq other (codes "admin")) (and_both (is_name other) (not (bytes_eq other (codes "admin"))) g).1
+      not_it = not-true (bytes_eq other (codes "admin")) (and-both_true (is_name other) (not (bytes_eq other (codes "admin"))) g).1
 
       by : (b : Bool) → (i == 0) ≡ b → (i == 0) ≡ false
       by false e = e
       by true e =
-          let same : other ≡ codes "admin" = same_position other (codes "admin") s.frame.rights.roles 0 (k ∙ ap Some (eqb-true i 0 e)) h in
-          absurd (false≢true (sym not_it ∙ (ap (λ x. bytes_eq x (codes "admin")) same ∙ bytes_self (codes "admin"))))
+          let same : other ≡ codes "admin" = same-position other (codes "admin") s.frame.rights.roles 0 (k ∙ ap Some (eqb-true i 0 e)) h in
+          absurd (false≢true (sym not_it ∙ (ap (λ x. bytes_eq x (codes "admin")) same ∙ bytes_eq-itself (codes "admin"))))
 
   gets : (group to : Name) → refusal s n (grant_role group to) ≡ None → is_well_act (grant_role group to) ≡ true → HasAdmin s
       → role_of (behind (grant_role group to)).frame.rights role ≡ Some place → is_member (behind (grant_role group to)).frame role to ≡ true
       → (rel : Name) → has_some (behind (grant_role group to)).frame group rel ≡ true → has_some (behind (grant_role group to)).frame role rel ≡ true
   gets group to z w admin known member rel h =
       let f = (behind (grant_role group to)).frame in
-      let tests = later_none _ _ (later_none _ _ (first_none _ _ z)) in
-      let g = there (role_of s.frame.rights group) (passed _ unknown_role (first_none _ _ tests)) in
-      let t = there (role_of s.frame.rights to) (passed _ unknown_role (first_none _ _ (later_none _ _ tests))) in
+      let tests = None-or_else_later _ _ (None-or_else_later _ _ (None-or_else_first _ _ z)) in
+      let g = Some-not_is_some (role_of s.frame.rights group) (test-None _ unknown_role (None-or_else_first _ _ tests)) in
+      let t = Some-not_is_some (role_of s.frame.rights to) (test-None _ unknown_role (None-or_else_first _ _ (None-or_else_later _ _ tests))) in
       let ms = s.frame.rights.members in
       let gn : role_number s.frame.rights group ≡ g.0 = ap (λ o. unwrap_or o (length s.frame.rights.roles)) g.1 in
       let tn : role_number s.frame.rights to ≡ t.0 = ap (λ o. unwrap_or o (length s.frame.rights.roles)) t.1 in
@@ -198,7 +198,7 @@ module _ (s : State) (n : ℕ) (role : Name) (place : ℕ) where
       (Follows-reaches f.rights.members t.0 g.0).1 (through f.rights.members t.0 g.0 g.0
       (subst (λ m. is_direct f.rights.members m ≡ true) (λ i. member_of (gn i) (tn i)) (direct_now ms (member_of (role_number s.frame.rights group) (role_number s.frame.rights to)))) (itself f.rights.members g.0)) in
       let all : reaches f.rights.members place g.0 ≡ true = reaches-trans f.rights.members place t.0 g.0 up step_up in
-      has_some_is f role rel place known ∙ at_least f g.0 rel all (not_admin group g.0 admin (and_both (is_group group) (is_name to) w).0 g.1) (sym (has_some_is f group rel g.0 g.1) ∙ h)
+      has_some_is f role rel place known ∙ at_least f g.0 rel all (not_admin group g.0 admin (and-both_true (is_group group) (is_name to) w).0 g.1) (sym (has_some_is f group rel g.0 g.1) ∙ h)
     where
       at_least : (f : Frame) (other : ℕ) (x : Name) → reaches f.rights.members place other ≡ true → is_admin other ≡ false → has_at f other x ≡ true → has_at f place x ≡ true
       at_least f other x up common k = by (named f.catalog x) k

@@ -9,9 +9,9 @@ use Rattle.iv_clients.specs.Journal.{Entry}
 use Rattle.iv_gate.specs.Gate.{Gate, told_of}
 use Rattle.iv_gate.proofs.Walking.{Kit}
 
-pub assoc : {X : Type 0} (xs ys zs : List X) → (xs ++ ys) ++ zs ≡ xs ++ (ys ++ zs)
-assoc [] ys zs = refl
-assoc (x ∷ xs) ys zs = ap (λ z. x ∷ z) (assoc xs ys zs)
+pub append-associative : {X : Type 0} (xs ys zs : List X) → (xs ++ ys) ++ zs ≡ xs ++ (ys ++ zs)
+append-associative [] ys zs = refl
+append-associative (x ∷ xs) ys zs = ap (λ z. x ∷ z) (append-associative xs ys zs)
 
 -- ---- by a step
 
@@ -30,7 +30,7 @@ grown_then b c d x y = record {
   more = x.more ++ y.more;
   handed = y.handed ∙ x.handed;
   sendable = y.sendable ∙ x.sendable;
-  unsynced = y.unsynced ∙ (ap (λ z. z ++ y.more) x.unsynced ∙ assoc b.unsynced x.more y.more);
+  unsynced = y.unsynced ∙ (ap (λ z. z ++ y.more) x.unsynced ∙ append-associative b.unsynced x.more y.more);
 }
 
 pub grown_one : (es : List Entry) (t : Told) (c : Client) → Grown c (told_one es t c)
@@ -56,8 +56,8 @@ grown_ran c g k =
 grown_text : (c d : Client) → d.handed ≡ c.handed → d.sendable ≡ c.sendable → d.unsynced ≡ c.unsynced → Grown c d
 grown_text c d h s u = record { more = []; handed = h; sendable = s; unsynced = u ∙ sym (append-nil c.unsynced) }
 
-pub grows : (m : ℕ) → Kit m (λ j c d. Grown c d)
-grows m = record {
+pub Kit-Grown : (m : ℕ) → Kit m (λ j c d. Grown c d)
+Kit-Grown m = record {
   same = λ j c. grown_same c;
   chain = λ j b c d x y. grown_then b c d x y;
   hear = λ j c g k. grown_ran c g k;
@@ -71,18 +71,18 @@ grows m = record {
 
 -- ---- text
 
-pub shown_more : (c d : Client) (x : Grown c d) → all_shown d ≡ all_shown c ++ x.more
-shown_more c d x =
+pub all_shown-Grown : (c d : Client) (x : Grown c d) → all_shown d ≡ all_shown c ++ x.more
+all_shown-Grown c d x =
     (λ i. flat_map (λ ss. ss) (x.handed i) ++ (x.sendable i ++ x.unsynced i))
-    ∙ (ap (λ z. flat_map (λ ss. ss) c.handed ++ z) (sym (assoc c.sendable c.unsynced x.more)) ∙ sym (assoc (flat_map (λ ss. ss) c.handed) (c.sendable ++ c.unsynced) x.more))
+    ∙ (ap (λ z. flat_map (λ ss. ss) c.handed ++ z) (sym (append-associative c.sendable c.unsynced x.more)) ∙ sym (append-associative (flat_map (λ ss. ss) c.handed) (c.sendable ++ c.unsynced) x.more))
 
-pub drop_front : {X : Type 0} (xs ys : List X) → drop (length xs) (xs ++ ys) ≡ ys
-drop_front [] ys = refl
-drop_front (x ∷ xs) ys = drop_front xs ys
+pub drop-append_front : {X : Type 0} (xs ys : List X) → drop (length xs) (xs ++ ys) ≡ ys
+drop-append_front [] ys = refl
+drop-append_front (x ∷ xs) ys = drop-append_front xs ys
 
-pub map_front : {X Y : Type 0} (f : X → Y) (xs ys : List X) → map f (xs ++ ys) ≡ map f xs ++ map f ys
-map_front f [] ys = refl
-map_front f (x ∷ xs) ys = ap (λ z. f x ∷ z) (map_front f xs ys)
+pub map-append_front : {X Y : Type 0} (f : X → Y) (xs ys : List X) → map f (xs ++ ys) ≡ map f xs ++ map f ys
+map-append_front f [] ys = refl
+map-append_front f (x ∷ xs) ys = ap (λ z. f x ∷ z) (map-append_front f xs ys)
 
-pub behind_front : {X : Type 0} (xs ys zs : List X) → zs ≡ xs ++ ys → zs ≡ xs ++ drop (length xs) zs
-behind_front xs ys zs e = e ∙ ap (λ z. xs ++ z) (sym (ap (drop (length xs)) e ∙ drop_front xs ys))
+pub append-drop_front : {X : Type 0} (xs ys zs : List X) → zs ≡ xs ++ ys → zs ≡ xs ++ drop (length xs) zs
+append-drop_front xs ys zs e = e ∙ ap (λ z. xs ++ z) (sym (ap (drop (length xs)) e ∙ drop-append_front xs ys))

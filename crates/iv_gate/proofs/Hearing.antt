@@ -13,17 +13,17 @@ use Rattle.iv_clients.specs.Clients.{Client, Shown, Slots, Sub, all_shown, answe
 use Rattle.iv_clients.specs.Feeds.{Feed, ends_in, is_end, is_of_role, rel_read}
 use Rattle.iv_clients.specs.Journal.{Entry, said_by}
 use Rattle.iv_clients.specs.Tokens.{Token}
-use Rattle.iv_clients.proofs.Slots.{at_every, at_other, at_same, not_free, one_some, set_other, some_is_none}
+use Rattle.iv_clients.proofs.Slots.{client_at-at_all, client_at-at_other_client, client_at-at_client, is_free-client_at, same-Some, client_at-set_other, not_None-Some}
 use Rattle.iv_gate.specs.Events.{Event, presented, message, gone, known, ticked, synced, handed, failed, happens, arrived, forgave}
 use Rattle.iv_gate.specs.Gate.{Gate, all_rested, all_swept, done_for, hears, in_session, token_for, said, seated, settles, told_of, went, with_session, at_text, granted_by, is_accepted, reply_to}
 use Rattle.iv_gate.specs.Replies.{heard_by, is_reply, replies}
 use Rattle.iv_gate.specs.Seen.{is_end_of}
-use Rattle.iv_gate.proofs.Growing.{assoc}
-use Rattle.iv_gate.proofs.Joining.{any_moved}
-use Rattle.iv_gate.proofs.Places.{any_before, any_behind, none_replied, or_true, grants_reply, lines_reply}
-use Rattle.iv_gate.proofs.Sound.{Seer, any_left, seer, seer_one, seer_telling}
-use Rattle.iv_gate.proofs.Summing.{is_back, neither}
-use Rattle.iv_gate.proofs.Touching.{came_as, leaves_at, opens_token}
+use Rattle.iv_gate.proofs.Growing.{append-associative}
+use Rattle.iv_gate.proofs.Joining.{list_any-moved_sub}
+use Rattle.iv_gate.proofs.Places.{list_any-append_front, list_any-append_back, replies-none, or_true, replies-granted, replies-own_lines}
+use Rattle.iv_gate.proofs.Sound.{Seer, list_any-filter, seer, seer-told_one, seer-telling}
+use Rattle.iv_gate.proofs.Summing.{eq-turned, or-both_false}
+use Rattle.iv_gate.proofs.Touching.{came_as, client_at-is_gone, Opens-token_for}
 use Rattle.iv_gate.proofs.Walking.{Kit, Later, to_all_rested, to_all_swept, to_done, to_settles, to_then, to_with, step_told, to_takes}
 use Rattle.iv_gate.specs.Arriving.{Step, entry_of, newly, takes}
 
@@ -67,7 +67,7 @@ line_ends own feeds (change n k rows) s h = absurd (no (own == s.own) h)
 line_ends own feeds (ended n k why rows) s h = by (own == s.own) (s.feed == k) refl refl h
   where
     by : (a b : Bool) → (own == s.own) ≡ a → (s.feed == k) ≡ b → (a && b) ≡ true → ends_for own (cond (k == s.feed) (over s.own (rel_read feeds k) why rows ∷ []) []) ≡ true
-    by true true e f g = ap (λ z. ends_for own (cond z (over s.own (rel_read feeds k) why rows ∷ []) [])) (is_back s.feed k f) ∙ ap (λ z. z || false) e
+    by true true e f g = ap (λ z. ends_for own (cond z (over s.own (rel_read feeds k) why rows ∷ []) [])) (eq-turned s.feed k f) ∙ ap (λ z. z || false) e
     by true false e f g = absurd (false≢true g)
     by false b e f g = absurd (false≢true g)
 
@@ -77,8 +77,8 @@ subs_end own feeds l (x ∷ xs) h = by ((own == x.own) && is_end x.feed l) refl 
   where
     by : (b : Bool) → ((own == x.own) && is_end x.feed l) ≡ b → (b || list_any (λ (y : Sub). (own == y.own) && is_end y.feed l) xs) ≡ true
         → (list_any (λ (y : Sub). (own == y.own) && is_end y.feed l) xs ≡ true → ends_for own (flat_map (own_line feeds l) xs) ≡ true) → ends_for own (own_line feeds l x ++ flat_map (own_line feeds l) xs) ≡ true
-    by true e k more = any_before (is_end_of own) (own_line feeds l x) (flat_map (own_line feeds l) xs) (line_ends own feeds l x e)
-    by false e k more = any_behind (is_end_of own) (own_line feeds l x) (flat_map (own_line feeds l) xs) (more k)
+    by true e k more = list_any-append_front (is_end_of own) (own_line feeds l x) (flat_map (own_line feeds l) xs) (line_ends own feeds l x e)
+    by false e k more = list_any-append_back (is_end_of own) (own_line feeds l x) (flat_map (own_line feeds l) xs) (more k)
 
 lines_end : (own : ℕ) (feeds : List Feed) (ls : List Line) (xs : List Sub) → list_any (λ (x : Sub). (own == x.own) && ends_in ls x.feed) xs ≡ true → ends_for own (own_lines feeds ls xs) ≡ true
 lines_end own feeds [] xs h = absurd (false≢true (sym (none xs) ∙ h))
@@ -94,8 +94,8 @@ lines_end own feeds (l ∷ ls) xs h = by (any_both (λ (x : Sub). own == x.own) 
   where
     by : (list_any (λ (x : Sub). (own == x.own) && is_end x.feed l) xs ≡ true) ⊎ (list_any (λ (x : Sub). (own == x.own) && ends_in ls x.feed) xs ≡ true)
         → (list_any (λ (x : Sub). (own == x.own) && ends_in ls x.feed) xs ≡ true → ends_for own (own_lines feeds ls xs) ≡ true) → ends_for own (own_lines feeds (l ∷ ls) xs) ≡ true
-    by (inl k) more = any_before (is_end_of own) (flat_map (own_line feeds l) xs) (own_lines feeds ls xs) (subs_end own feeds l xs k)
-    by (inr k) more = any_behind (is_end_of own) (flat_map (own_line feeds l) xs) (own_lines feeds ls xs) (more k)
+    by (inl k) more = list_any-append_front (is_end_of own) (flat_map (own_line feeds l) xs) (own_lines feeds ls xs) (subs_end own feeds l xs k)
+    by (inr k) more = list_any-append_back (is_end_of own) (flat_map (own_line feeds l) xs) (own_lines feeds ls xs) (more k)
 
 taken_away : (own : ℕ) (q : Sub → Bool) (xs : List Sub) → is_own own xs ≡ true → is_own own (filter (λ x. not (q x)) xs) ≡ false → list_any (λ (x : Sub). (own == x.own) && q x) xs ≡ true
 taken_away own q [] h k = h
@@ -104,9 +104,9 @@ taken_away own q (x ∷ xs) h k = by (own == x.own) (q x) refl h k (taken_away o
     by : (a b : Bool) → (own == x.own) ≡ a → (a || is_own own xs) ≡ true → is_own own (cond (not b) (x ∷ filter (λ y. not (q y)) xs) (filter (λ y. not (q y)) xs)) ≡ false
         → (is_own own xs ≡ true → is_own own (filter (λ y. not (q y)) xs) ≡ false → list_any (λ (y : Sub). (own == y.own) && q y) xs ≡ true) → ((a && b) || list_any (λ (y : Sub). (own == y.own) && q y) xs) ≡ true
     by true true e f g more = refl
-    by true false e f g more = absurd (false≢true (sym (neither (own == x.own) _ g).0 ∙ e))
+    by true false e f g more = absurd (false≢true (sym (or-both_false (own == x.own) _ g).0 ∙ e))
     by false true e f g more = more f g
-    by false false e f g more = more f (neither (own == x.own) _ g).1
+    by false false e f g more = more f (or-both_false (own == x.own) _ g).1
 
 -- ---- steps in which it is replied nothing
 
@@ -134,14 +134,14 @@ hears_alike c d t r m g s = record {
   lost = λ own h k. absurd (false≢true (sym k ∙ (s own ∙ h)));
 }
 
-pub hears_same : (c : Client) → Hears c c
-hears_same c = hears_alike c c refl refl refl refl (λ own. refl)
+pub Hears-itself : (c : Client) → Hears c c
+Hears-itself c = hears_alike c c refl refl refl refl (λ own. refl)
 
-pub hears_then : (b c d : Client) → Hears b c → Hears c d → Hears b d
-hears_then b c d x y = record {
+pub Hears-trans : (b c d : Client) → Hears b c → Hears c d → Hears b d
+Hears-trans b c d x y = record {
   more = x.more ++ y.more;
-  text = y.text ∙ (ap (λ z. z ++ y.more) x.text ∙ assoc (told b) x.more y.more);
-  quiet = none_replied x.more y.more x.quiet y.quiet;
+  text = y.text ∙ (ap (λ z. z ++ y.more) x.text ∙ append-associative (told b) x.more y.more);
+  quiet = replies-none x.more y.more x.quiet y.quiet;
   role = y.role ∙ x.role;
   messages = y.messages ∙ x.messages;
   given = y.given ∙ x.given;
@@ -150,14 +150,14 @@ hears_then b c d x y = record {
 }
   where
     by : (own : ℕ) → is_own own b.subs ≡ true → is_own own d.subs ≡ false → (t : Bool) → is_own own c.subs ≡ t → ends_for own (x.more ++ y.more) ≡ true
-    by own h k true e = any_behind (is_end_of own) x.more y.more (y.lost own e k)
-    by own h k false e = any_before (is_end_of own) x.more y.more (x.lost own h e)
+    by own h k true e = list_any-append_back (is_end_of own) x.more y.more (y.lost own e k)
+    by own h k false e = list_any-append_front (is_end_of own) x.more y.more (x.lost own h e)
 
 -- it is told one thing that is no reply
 pub hears_one : (es : List Entry) (t : Told) (c : Client) → is_reply t ≡ false → Hears c (told_one es t c)
 hears_one es t c h = record {
   more = t ∷ [];
-  text = ap (λ (v : Seer). v.told) (seer_one es t c);
+  text = ap (λ (v : Seer). v.told) (seer-told_one es t c);
   quiet = ap (λ b. cond b (t ∷ []) []) h;
   role = refl;
   messages = refl;
@@ -166,27 +166,28 @@ hears_one es t c h = record {
   lost = λ own e k. absurd (false≢true (sym k ∙ e));
 }
 
-pub hears_all : (es : List Entry) (ts : List Told) (c : Client) → AllByRecursion (λ t. is_reply t ≡ false) ts → Hears c (telling es ts c)
-hears_all es [] c a = hears_same c
-hears_all es (t ∷ ts) c a = hears_then c (told_one es t c) (telling es ts (told_one es t c)) (hears_one es t c a.0) (hears_all es ts (told_one es t c) a.1)
+pub Hears-telling : (es : List Entry) (ts : List Told) (c : Client) → AllByRecursion (λ t. is_reply t ≡ false) ts → Hears c (telling es ts c)
+Hears-telling es [] c a = Hears-itself c
+Hears-telling es (t ∷ ts) c a =
+    Hears-trans c (told_one es t c) (telling es ts (told_one es t c)) (hears_one es t c a.0) (Hears-telling es ts (told_one es t c) a.1)
 
-pub hears_rest : (es : List Entry) (c : Client) → Hears c (settling es c)
-hears_rest es c = by c.owed
+pub Hears-settling : (es : List Entry) (c : Client) → Hears c (settling es c)
+Hears-settling es c = by c.owed
   where
     by : (b : Bool) → Hears c (cond b (record (told_one es settled c) { owed = false }) c)
     by true = let x = hears_one es settled c refl in record { more = x.more; text = x.text; quiet = x.quiet; role = refl; messages = refl; given = refl; none = x.none; lost = x.lost }
-    by false = hears_same c
+    by false = Hears-itself c
 
 hears_outcome : (feeds : List Feed) (ls : List Line) (es : List Entry) (grants : List Told) (c : Client) → replies grants ≡ [] → Hears c (staying ls (telling es (own_lines feeds ls c.subs ++ grants) c))
 hears_outcome feeds ls es grants c none = record {
   more = ts;
   text = ap (λ (v : Seer). v.told) same;
-  quiet = none_replied (own_lines feeds ls c.subs) grants (lines_reply feeds ls c.subs) none;
+  quiet = replies-none (own_lines feeds ls c.subs) grants (replies-own_lines feeds ls c.subs) none;
   role = ap (λ (v : Seer). v.role) same;
   messages = ap (λ (v : Seer). v.messages) same;
   given = ap (λ (v : Seer). v.given) same;
-  none = λ own h. left own ∙ any_left own (λ x. not (ends_in ls x.feed)) c.subs h;
-  lost = λ own h e. any_before (is_end_of own) (own_lines feeds ls c.subs) grants
+  none = λ own h. left own ∙ list_any-filter own (λ x. not (ends_in ls x.feed)) c.subs h;
+  lost = λ own h e. list_any-append_front (is_end_of own) (own_lines feeds ls c.subs) grants
       (lines_end own feeds ls c.subs (taken_away own (λ x. ends_in ls x.feed) c.subs h (sym (left own) ∙ e)));
 }
   where
@@ -194,33 +195,34 @@ hears_outcome feeds ls es grants c none = record {
     ts = own_lines feeds ls c.subs ++ grants
 
     same : seer (telling es ts c) ≡ record (seer c) { told = told c ++ ts }
-    same = seer_telling es ts c
+    same = seer-telling es ts c
 
     left : (own : ℕ) → is_own own (filter (λ x. not (ends_in ls x.feed)) (telling es ts c).subs) ≡ is_own own (filter (λ x. not (ends_in ls x.feed)) c.subs)
     left own = ap (λ (v : Seer). is_own own (filter (λ x. not (ends_in ls x.feed)) v.subs)) same
 
-pub hears_ran : (c : Client) (g : Gate) (k : Command) → Hears c (staying (step g.machine k).lines (telling g.entries (told_of g k.act (step g.machine k) c) c))
-hears_ran c g k = hears_outcome g.feeds (step g.machine k).lines g.entries _ c (by (is_accepted (reply_to g k)))
+pub Hears-staying : (c : Client) (g : Gate) (k : Command)
+    → Hears c (staying (step g.machine k).lines (telling g.entries (told_of g k.act (step g.machine k) c) c))
+Hears-staying c g k = hears_outcome g.feeds (step g.machine k).lines g.entries _ c (by (is_accepted (reply_to g k)))
   where
     by : (b : Bool) → replies (cond b (map granted (granted_by (step g.machine k).state.frame k.act c.role)) []) ≡ []
-    by true = grants_reply (granted_by (step g.machine k).state.frame k.act c.role)
+    by true = replies-granted (granted_by (step g.machine k).state.frame k.act c.role)
     by false = refl
 
 pub hears_stepped : (c : Client) (g : Gate) (es : List Entry) (o : Outcome) → Hears c (staying o.lines (telling es (step_told g o c) c))
-hears_stepped c g es o = hears_outcome g.feeds o.lines es (map granted (newly g.machine.frame o.state.frame c.role)) c (grants_reply (newly g.machine.frame o.state.frame c.role))
+hears_stepped c g es o = hears_outcome g.feeds o.lines es (map granted (newly g.machine.frame o.state.frame c.role)) c (replies-granted (newly g.machine.frame o.state.frame c.role))
 
-pub hears_move : (c : Client) (t k : ℕ) → Hears c (moved t k c)
-hears_move c t k = hears_alike c (moved t k c) refl refl refl refl (λ own. any_moved t k own c.subs)
+pub Hears-moved : (c : Client) (t k : ℕ) → Hears c (moved t k c)
+Hears-moved c t k = hears_alike c (moved t k c) refl refl refl refl (λ own. list_any-moved_sub t k own c.subs)
 
 -- ---- others
 
 -- what another client does, and what happens besides
 apart : (m : ℕ) → Kit m (λ j c d. (m ≡ j → ⊥) → Hears c d)
 apart m = record {
-  same = λ j c n. hears_same c;
-  chain = λ j b c d x y n. hears_then b c d (x n) (y n);
-  hear = λ j c g k n. hears_ran c g k;
-  rest = λ j c es n. hears_rest es c;
+  same = λ j c n. Hears-itself c;
+  chain = λ j b c d x y n. Hears-trans b c d (x n) (y n);
+  hear = λ j c g k n. Hears-staying c g k;
+  rest = λ j c es n. Hears-settling es c;
   tell = λ c es t n. absurd (n refl);
   show = λ j c es role line n. hears_one es (made role line) c refl;
   follow = λ c k n. absurd (n refl);
@@ -232,10 +234,10 @@ abbrev pub Apart : ℕ → ℕ → Client → Client → Type 0
 Apart m j c d = (m ≡ j → ⊥) → Hears c d
 
 same_client : (slots : Slots) (j : ℕ) (c d : Client) → client_at slots j ≡ Some c → client_at slots j ≡ Some d → Hears c d
-same_client slots j c d h k = subst (Hears c) (one_some c d (sym h ∙ k)) (hears_same c)
+same_client slots j c d h k = subst (Hears c) (same-Some c d (sym h ∙ k)) (Hears-itself c)
 
 apart_of : (m : ℕ) (slots : Slots) (j : ℕ) (c d : Client) → (m ≡ j → ⊥) → Later (Apart m) slots j c → client_at slots j ≡ Some d → Hears c d
-apart_of m slots j c d n p h = subst (Hears c) (one_some p.now d (sym p.there ∙ h)) (p.so n)
+apart_of m slots j c d n p h = subst (Hears c) (same-Some p.now d (sym p.there ∙ h)) (p.so n)
 
 came_apart : (g : Gate) (m : ℕ) (token : List ℕ) (j : ℕ) (c d : Client) (o : Option Token) → token_for g m token ≡ o → client_at g.clients j ≡ Some c
     → client_at (if_some o g (came_as g m)).clients j ≡ Some d → Hears c d
@@ -243,17 +245,17 @@ came_apart g m token j c d None e h k = same_client g.clients j c d h k
 came_apart g m token j c d (Some t) e h k =
     let i = with_session g t.role in
     let p = to_with m (Apart m) (apart m) g t.role j c h in
-    let there : client_at (came_as g m t).clients j ≡ Some p.now = set_other m j (Some (fresh i.entries t (at_text i t))) i.clients ne ∙ p.there in
-    subst (Hears c) (one_some p.now d (sym there ∙ k)) (p.so ne)
+    let there : client_at (came_as g m t).clients j ≡ Some p.now = client_at-set_other m j (Some (fresh i.entries t (at_text i t))) i.clients ne ∙ p.there in
+    subst (Hears c) (same-Some p.now d (sym there ∙ k)) (p.so ne)
   where
     ne : m ≡ j → ⊥
-    ne same = false≢true (sym (not_free m c g.clients (ap (client_at g.clients) same ∙ h)) ∙ (opens_token g m token t e).free)
+    ne same = false≢true (sym (is_free-client_at m c g.clients (ap (client_at g.clients) same ∙ h)) ∙ (Opens-token_for g m token t e).free)
 
 heard_apart : (g : Gate) (m : ℕ) (text : List ℕ) (j : ℕ) (c d b : Client) → (m ≡ j → ⊥) → client_at g.clients j ≡ Some c → client_at (hears g m b text).clients j ≡ Some d → Hears c d
 heard_apart g m text j c d b ne h k =
     let asked = record g { clients = at_client m (saying text) g.clients } in let did = done_for asked m b text (said_by text) in
     let leads = to_then m (Apart m) (apart m) asked.clients did.clients (settles did).clients (to_done m (Apart m) (apart m) asked b text (said_by text)) (to_settles m (Apart m) (apart m) did) in
-    apart_of m (settles did).clients j c d ne (leads j c (at_other m j (saying text) g.clients ne ∙ h)) (sym (at_other m j (answered b) (settles did).clients ne) ∙ k)
+    apart_of m (settles did).clients j c d ne (leads j c (client_at-at_other_client m j (saying text) g.clients ne ∙ h)) (sym (client_at-at_other_client m j (answered b) (settles did).clients ne) ∙ k)
 
 said_apart : (g : Gate) (m : ℕ) (text : List ℕ) (j : ℕ) (c d : Client) → heard_by j c (message m text) ≡ None → client_at g.clients j ≡ Some c → client_at (said g m text).clients j ≡ Some d → Hears c d
 said_apart g m text j c d u h k = by (m == j) refl u
@@ -267,7 +269,7 @@ said_apart g m text j c d u h k = by (m == j) refl u
     other ne (Some b) x = test ne b (may_say b) x
 
     own : m ≡ j → (e : Bool) → may_say c ≡ e → cond e (Some text) None ≡ None → Hears c d
-    own same true t v = absurd (some_is_none text v)
+    own same true t v = absurd (not_None-Some text v)
     own same false t v = same_client g.clients j c d h
         (sym (ap (λ o. client_at (if_some o g (λ b. cond (may_say b) (hears g m b text) g)).clients j) (ap (client_at g.clients) same ∙ h) ∙ ap (λ e. client_at (cond e (hears g m c text) g).clients j) t) ∙ k)
 
@@ -286,7 +288,7 @@ went_apart g m j c d ne h k = by (client_at g.clients m) k
         let i = all_swept left (map (λ s. s.feed) b.subs) in let r = all_rested i (filter (is_of_role b.role) i.seats) in
         let leads = to_then m (Apart m) (apart m) left.clients i.clients (settles r).clients (to_all_swept m (Apart m) (apart m) left (map (λ s. s.feed) b.subs))
         (to_then m (Apart m) (apart m) i.clients r.clients (settles r).clients (to_all_rested m (Apart m) (apart m) i (filter (is_of_role b.role) i.seats)) (to_settles m (Apart m) (apart m) r)) in
-        apart_of m (settles r).clients j c d ne (leads j c (set_other m j None g.clients ne ∙ h)) x
+        apart_of m (settles r).clients j c d ne (leads j c (client_at-set_other m j None g.clients ne ∙ h)) x
 
     by : (o : Option Client) → client_at (if_some o g (λ b. let i = all_swept left (map (λ s. s.feed) b.subs) in settles (all_rested i (filter (is_of_role b.role) i.seats)))).clients j ≡ Some d → Hears c d
     by None x = same_client g.clients j c d h x
@@ -302,13 +304,13 @@ is_dropped : (c d : Client) → dropping c ≡ d → d.dropped ≡ false → Hea
 is_dropped c d e s = absurd (false≢true (sym s ∙ sym (ap (λ (x : Client). x.dropped) e)))
 
 every_made : (f : Client → Client) (slots : Slots) (j : ℕ) (c d : Client) → client_at slots j ≡ Some c → client_at (at_all f slots) j ≡ Some d → f c ≡ d
-every_made f slots j c d h k = one_some (f c) d (ap (option_map f) (sym h) ∙ (sym (at_every f slots j) ∙ k))
+every_made f slots j c d h k = same-Some (f c) d (ap (option_map f) (sym h) ∙ (sym (client_at-at_all f slots j) ∙ k))
 
 checked_apart : (tokens : List Token) (c d : Client) → checked tokens c ≡ d → d.dropped ≡ false → Hears c d
 checked_apart tokens c d e s = by (opens tokens c) e
   where
     by : (b : Bool) → cond b c (dropping c) ≡ d → Hears c d
-    by true x = subst (Hears c) x (hears_same c)
+    by true x = subst (Hears c) x (Hears-itself c)
     by false x = is_dropped c d x s
 
 released_apart : (c d : Client) → released c ≡ d → d.dropped ≡ false → Hears c d
@@ -322,40 +324,40 @@ released_apart c d e s = by (c.dropped || is_slow c) e
 handed_shown : (c : Client) → all_shown (record c { sendable = []; asked = 0; handed = c.handed ++ c.sendable ∷ [] }) ≡ all_shown c
 handed_shown c =
     ap (λ z. z ++ c.unsynced) (flat_map-append (λ ss. ss) c.handed (c.sendable ∷ []) ∙ ap (λ z. flat_map (λ ss. ss) c.handed ++ z) (append-nil c.sendable))
-    ∙ assoc (flat_map (λ ss. ss) c.handed) c.sendable c.unsynced
+    ∙ append-associative (flat_map (λ ss. ss) c.handed) c.sendable c.unsynced
 
 handing_apart : (c d : Client) → handing c ≡ d → Hears c d
 handing_apart c d e = by (length c.sendable == 0) e
   where
     by : (b : Bool) → cond b c (record c { sendable = []; asked = 0; handed = c.handed ++ c.sendable ∷ [] }) ≡ d → Hears c d
-    by true x = subst (Hears c) x (hears_same c)
+    by true x = subst (Hears c) x (Hears-itself c)
     by false x = subst (Hears c) x (hears_alike c (record c { sendable = []; asked = 0; handed = c.handed ++ c.sendable ∷ [] }) (ap (map (λ (s : Shown). s.told)) (handed_shown c)) refl refl refl (λ own. refl))
 
 handed_apart : (g : Gate) (m j : ℕ) (c d : Client) → client_at g.clients j ≡ Some c → client_at (at_client m handing g.clients) j ≡ Some d → Hears c d
 handed_apart g m j c d h k = by (m == j) refl
   where
     by : (b : Bool) → (m == j) ≡ b → Hears c d
-    by true e = handing_apart c d (one_some (handing c) d (ap (option_map handing) (sym h) ∙ (sym (at_same j handing g.clients) ∙ (ap (λ i. client_at (at_client i handing g.clients) j) (sym (eqb-true m j e)) ∙ k))))
-    by false e = same_client g.clients j c d h (sym (at_other m j handing g.clients (eqb-false m j e)) ∙ k)
+    by true e = handing_apart c d (same-Some (handing c) d (ap (option_map handing) (sym h) ∙ (sym (client_at-at_client j handing g.clients) ∙ (ap (λ i. client_at (at_client i handing g.clients) j) (sym (eqb-true m j e)) ∙ k))))
+    by false e = same_client g.clients j c d h (sym (client_at-at_other_client m j handing g.clients (eqb-false m j e)) ∙ k)
 
 -- by whatever is no message of its own that is heard
-pub happens_apart : (g : Gate) (e : Event) (j : ℕ) (c d : Client) → client_at g.clients j ≡ Some c → client_at (happens g e).clients j ≡ Some d → d.dropped ≡ false → heard_by j c e ≡ None → Hears c d
-happens_apart g (presented m token) j c d h k s u = came_apart g m token j c d (token_for g m token) refl h k
-happens_apart g (message m text) j c d h k s u = said_apart g m text j c d u h k
-happens_apart g (gone m) j c d h k s u = by (m == j) refl
+pub Hears-happens : (g : Gate) (e : Event) (j : ℕ) (c d : Client) → client_at g.clients j ≡ Some c → client_at (happens g e).clients j ≡ Some d → d.dropped ≡ false → heard_by j c e ≡ None → Hears c d
+Hears-happens g (presented m token) j c d h k s u = came_apart g m token j c d (token_for g m token) refl h k
+Hears-happens g (message m text) j c d h k s u = said_apart g m text j c d u h k
+Hears-happens g (gone m) j c d h k s u = by (m == j) refl
   where
     by : (b : Bool) → (m == j) ≡ b → Hears c d
-    by true e = absurd (some_is_none d (sym k ∙ leaves_at g (gone m) j e))
+    by true e = absurd (not_None-Some d (sym k ∙ client_at-is_gone g (gone m) j e))
     by false e = went_apart g m j c d (eqb-false m j e) h k
-happens_apart g (known tokens) j c d h k s u = checked_apart tokens c d (every_made (checked tokens) g.clients j c d h k) s
-happens_apart g ticked j c d h k s u =
+Hears-happens g (known tokens) j c d h k s u = checked_apart tokens c d (every_made (checked tokens) g.clients j c d h k) s
+Hears-happens g ticked j c d h k s u =
     let x = hears_one g.entries alive c refl in
     subst (Hears c) (every_made (beating g.entries) g.clients j c d h k) (record { more = x.more; text = x.text; quiet = x.quiet; role = refl; messages = refl; given = refl; none = x.none; lost = x.lost })
-happens_apart g synced j c d h k s u = released_apart c d (every_made released g.clients j c d h k) s
-happens_apart g (handed m) j c d h k s u = handed_apart g m j c d h k
-happens_apart g (arrived x) j c d h k s u = takes_apart g x j c d h k
-happens_apart g forgave j c d h k s u = same_client g.clients j c d h k
-happens_apart g failed j c d h k s u = same_client g.clients j c d h k
+Hears-happens g synced j c d h k s u = released_apart c d (every_made released g.clients j c d h k) s
+Hears-happens g (handed m) j c d h k s u = handed_apart g m j c d h k
+Hears-happens g (arrived x) j c d h k s u = takes_apart g x j c d h k
+Hears-happens g forgave j c d h k s u = same_client g.clients j c d h k
+Hears-happens g failed j c d h k s u = same_client g.clients j c d h k
 
 -- ---- a session is begun
 
@@ -368,18 +370,18 @@ pub record Began (g : Gate) (c d : Client) : Type 0 where
   pub hears : Hears c d
   pub first : BeginsQuietly g → hears.more ≡ []
 
-pub began_same : (g : Gate) (c : Client) → Began g c c
-unfolding hears_same hears_alike
-began_same g c = record { hears = hears_same c; first = λ q. refl }
+pub Began-itself : (g : Gate) (c : Client) → Began g c c
+unfolding Hears-itself hears_alike
+Began-itself g c = record { hears = Hears-itself c; first = λ q. refl }
 
 -- a session is begun for it
-pub seated_began : (g : Gate) (n : ℕ) (role : Name) (m : ℕ) (c : Client) → client_at g.clients m ≡ Some c → Later (λ j x y. Began g x y) (seated g n role).clients m c
-unfolding hears_ran hears_outcome
-seated_began g n role m c e =
+pub Later-seated : (g : Gate) (n : ℕ) (role : Name) (m : ℕ) (c : Client) → client_at g.clients m ≡ Some c → Later (λ j x y. Began g x y) (seated g n role).clients m c
+unfolding Hears-staying hears_outcome
+Later-seated g n role m c e =
     let h = record g { seats = g.seats ++ record { session = n; role = role } ∷ [] } in let k = in_session n (begin role) in
     let f : Client → Client = λ d. staying (step h.machine k).lines (telling h.entries (told_of h k.act (step h.machine k) d) d) in
     record {
       now = f c;
-      there = at_every f g.clients m ∙ ap (option_map f) e;
-      so = record { hears = hears_ran c h k; first = λ q. q n role c };
+      there = client_at-at_all f g.clients m ∙ ap (option_map f) e;
+      so = record { hears = Hears-staying c h k; first = λ q. q n role c };
     }

@@ -18,19 +18,19 @@ use Rattle.iv_clients.specs.Laws.{ReadsBack}
 use Rattle.iv_once.specs.Names.{Ask}
 use Rattle.iv_steps.specs.Steps.{stepped}
 use Rattle.iv_clients.specs.Tokens.{Token, token_of}
-use Rattle.iv_clients.proofs.Slots.{at_every, at_other, at_same, nobody, one_some, set_other, some_is_none}
+use Rattle.iv_clients.proofs.Slots.{client_at-at_all, client_at-at_other_client, client_at-at_client, not_client_at-replicate, same-Some, client_at-set_other, not_None-Some}
 use Rattle.iv_gate.specs.Arriving.{Step, entry_of, fact_of, fault_of, first_known, is_behind, landed, takes}
 use Rattle.iv_gate.specs.Events.{Event, presented, message, gone, known, ticked, synced, handed, arrived, forgave, failed, IsWell, happens, hands, knowing, next, on_disk, ticking}
 use Rattle.iv_gate.specs.Gate.{Gate, Head, at_text, hears, known_at, came, done_in, entered, entries_of, has_session, in_session, informs, ran, replies_to, reply_to, reply_told, said, tells, token_for, told_of, went, went_on}
 use Rattle.iv_gate.specs.Laws.{IsFront, SentIsKept}
 use Rattle.iv_gate.specs.Restoring.{Restores, are_rising, gate_at_start}
 use Rattle.iv_gate.specs.Runs.{LeavesOnDisk, Runs, begins, goes_on, begins_again}
-use Rattle.iv_gate.proofs.Booking.{IsBooked, Texts, came_adds, is_next, went_adds, booked_more, booked_same, said_more, step_more}
-use Rattle.iv_gate.proofs.Damage.{Compared, compare, entry_there, longer, no_lines, same, shorter}
-use Rattle.iv_gate.proofs.Replying.{adds_said, asked, said_added}
-use Rattle.iv_gate.proofs.Growing.{assoc}
-use Rattle.iv_gate.proofs.Joining.{and_both}
-use Rattle.iv_gate.proofs.Running.{all_so}
+use Rattle.iv_gate.proofs.Booking.{IsBooked, Texts, entries-came, IsNext-fault_of, entries-went, IsBooked-MayAdd, IsBooked-same_entries, said_more, MayAdd-entry_of}
+use Rattle.iv_gate.proofs.Damage.{Compared, Compared-journal_of, IsEntry-append, longer, not_nothing-journal_of, same, shorter}
+use Rattle.iv_gate.proofs.Replying.{entries-done_for, asked, said_added}
+use Rattle.iv_gate.proofs.Growing.{append-associative}
+use Rattle.iv_gate.proofs.Joining.{and-both_true}
+use Rattle.iv_gate.proofs.Running.{AllByRecursion-map}
 use Rattle.iv_gate.proofs.Stepping.{Keeps, Steps, came_keeps, request_of, said_keeps, step_done, went_keeps}
 use Rattle.iv_gate.proofs.Walking.{step_told}
 use Rattle.iv_gate.proofs.Shaping.{told_itself}
@@ -38,23 +38,23 @@ use Rattle.iv_journal.specs.Journal.{Line}
 
 -- ---- fronts
 
-pub front_self : (es : List Entry) → IsFront es es
-front_self es = ([], sym (append-nil es))
+pub IsFront-itself : (es : List Entry) → IsFront es es
+IsFront-itself es = ([], sym (append-nil es))
 
 pub front_then : (es fs gs : List Entry) → IsFront es fs → IsFront fs gs → IsFront es gs
-front_then es fs gs x y = (x.0 ++ y.0, y.1 ∙ (ap (λ z. z ++ y.0) x.1 ∙ assoc es x.0 y.0))
+front_then es fs gs x y = (x.0 ++ y.0, y.1 ∙ (ap (λ z. z ++ y.0) x.1 ∙ append-associative es x.0 y.0))
 
-pub front_taken : (n : ℕ) (es : List Entry) → IsFront (take n es) es
-front_taken n es = (drop n es, sym (take-append-drop n es))
+pub IsFront-take : (n : ℕ) (es : List Entry) → IsFront (take n es) es
+IsFront-take n es = (drop n es, sym (take-append-drop n es))
 
 pub all_more : {X : Type 0} (P : X → Type 0) (xs ys : List X) → AllByRecursion P xs → AllByRecursion P ys → AllByRecursion P (xs ++ ys)
 all_more P [] ys a b = b
 all_more P (x ∷ xs) ys a b = (a.0, all_more P xs ys a.1 b)
 
-pub all_taken : {X : Type 0} (P : X → Type 0) (n : ℕ) (xs : List X) → AllByRecursion P xs → AllByRecursion P (take n xs)
-all_taken P zero xs a = tt
-all_taken P (suc n) [] a = tt
-all_taken P (suc n) (x ∷ xs) a = (a.0, all_taken P n xs a.1)
+pub AllByRecursion-take : {X : Type 0} (P : X → Type 0) (n : ℕ) (xs : List X) → AllByRecursion P xs → AllByRecursion P (take n xs)
+AllByRecursion-take P zero xs a = tt
+AllByRecursion-take P (suc n) [] a = tt
+AllByRecursion-take P (suc n) (x ∷ xs) a = (a.0, AllByRecursion-take P n xs a.1)
 
 pub all_dropped : {X : Type 0} (P : X → Type 0) (n : ℕ) (xs : List X) → AllByRecursion P xs → AllByRecursion P (drop n xs)
 all_dropped P zero xs a = a
@@ -67,11 +67,11 @@ abbrev pub AllClients : (Client → Type 0) → Slots → Type 0
 AllClients Q slots = (m : ℕ) (c : Client) → client_at slots m ≡ Some c → Q c
 
 changed_by : (Q : Client → Type 0) (f : Client → Client) (o : Option Client) (d : Client) → ((c : Client) → o ≡ Some c → Q (f c)) → option_map f o ≡ Some d → Q d
-changed_by Q f None d k h = absurd (some_is_none d (sym h))
-changed_by Q f (Some c) d k h = subst Q (one_some (f c) d h) (k c refl)
+changed_by Q f None d k h = absurd (not_None-Some d (sym h))
+changed_by Q f (Some c) d k h = subst Q (same-Some (f c) d h) (k c refl)
 
 every_client : (Q R : Client → Type 0) (f : Client → Client) → ((c : Client) → Q c → R (f c)) → (slots : Slots) → AllClients Q slots → AllClients R (at_all f slots)
-every_client Q R f k slots a j d h = changed_by R f (client_at slots j) d (λ c e. k c (a j c e)) (sym (at_every f slots j) ∙ h)
+every_client Q R f k slots a j d h = changed_by R f (client_at slots j) d (λ c e. k c (a j c e)) (sym (client_at-at_all f slots j) ∙ h)
 
 one_client : (Q : Client → Type 0) (m : ℕ) (f : Client → Client) (slots : Slots) → ((c : Client) → client_at slots m ≡ Some c → Q c → Q (f c)) → AllClients Q slots → AllClients Q (at_client m f slots)
 one_client Q m f slots k a j d h = by (m == j) refl
@@ -79,20 +79,20 @@ one_client Q m f slots k a j d h = by (m == j) refl
     by : (t : Bool) → (m == j) ≡ t → Q d
     by true e =
         let same = eqb-true m j e in
-        changed_by Q f (client_at slots m) d (λ c q. k c q (a m c q)) (sym (at_same m f slots) ∙ (ap (client_at (at_client m f slots)) same ∙ h))
-    by false e = a j d (sym (at_other m j f slots (eqb-false m j e)) ∙ h)
+        changed_by Q f (client_at slots m) d (λ c q. k c q (a m c q)) (sym (client_at-at_client m f slots) ∙ (ap (client_at (at_client m f slots)) same ∙ h))
+    by false e = a j d (sym (client_at-at_other_client m j f slots (eqb-false m j e)) ∙ h)
 
 put_client : (Q : Client → Type 0) (m : ℕ) (o : Option Client) → ((c : Client) → o ≡ Some c → Q c) → (slots : Slots) → AllClients Q slots → AllClients Q (set slots m o)
 put_client Q m o k slots a j d h = by (m == j) refl
   where
     there : (ss : Slots) (i : ℕ) → client_at (set ss i o) i ≡ Some d → o ≡ Some d
-    there [] i e = absurd (some_is_none d (sym e))
+    there [] i e = absurd (not_None-Some d (sym e))
     there (s ∷ ss) zero e = e
     there (s ∷ ss) (suc i) e = there ss i e
 
     by : (t : Bool) → (m == j) ≡ t → Q d
     by true e = k d (there slots m (ap (client_at (set slots m o)) (eqb-true m j e) ∙ h))
-    by false e = a j d (sym (set_other m j o slots (eqb-false m j e)) ∙ h)
+    by false e = a j d (sym (client_at-set_other m j o slots (eqb-false m j e)) ∙ h)
 
 -- a client's role has a name; what may be sent to it shows what is kept, and what waits shows what is accepted
 pub record IsHolding (kept all : List Entry) (c : Client) : Type 0 where
@@ -104,7 +104,7 @@ holding_one : (kept all : List Entry) (t : Told) (c : Client) → IsHolding kept
 holding_one kept all t c b = record {
   name = b.name;
   sendable = b.sendable;
-  unsynced = all_more (λ (s : Shown). IsFront s.entries all) c.unsynced (record { told = t; entries = all; answers = false } ∷ []) b.unsynced (front_self all, tt);
+  unsynced = all_more (λ (s : Shown). IsFront s.entries all) c.unsynced (record { told = t; entries = all; answers = false } ∷ []) b.unsynced (IsFront-itself all, tt);
 }
 
 holding_telling : (kept all : List Entry) (ts : List Told) (c : Client) → IsHolding kept all c → IsHolding kept all (telling all ts c)
@@ -133,7 +133,7 @@ holding_released kept all c f b = by (c.dropped || is_slow c)
     by false = record {
       name = b.name;
       sendable = all_more (λ (s : Shown). IsFront s.entries all) c.sendable c.unsynced
-          (all_so {P = λ (s : Shown). IsFront s.entries kept} {Q = λ (s : Shown). IsFront s.entries all} (λ s x. front_then s.entries kept all x f) c.sendable b.sendable) b.unsynced;
+          (AllByRecursion-map {P = λ (s : Shown). IsFront s.entries kept} {Q = λ (s : Shown). IsFront s.entries all} (λ s x. front_then s.entries kept all x f) c.sendable b.sendable) b.unsynced;
       unsynced = tt;
     }
 
@@ -239,7 +239,7 @@ module _ (base : List Entry) where
         clients = λ m c h. let x = b.clients m c h in record {
           name = x.name;
           sendable = subst (λ z. AllByRecursion (λ (s : Shown). IsFront s.entries z) c.sendable) (sym same) x.sendable;
-          unsynced = all_so {P = λ (s : Shown). IsFront s.entries g.entries} {Q = λ (s : Shown). IsFront s.entries (g.entries ++ more)}
+          unsynced = AllByRecursion-map {P = λ (s : Shown). IsFront s.entries g.entries} {Q = λ (s : Shown). IsFront s.entries (g.entries ++ more)}
               (λ s f. front_then s.entries g.entries (g.entries ++ more) f (more, refl)) c.unsynced x.unsynced;
         };
       }
@@ -286,24 +286,25 @@ name_opened : (g : Gate) (m : ℕ) (token : List ℕ) (t : Token) → token_for 
 name_opened g m token t h = by (token_of g.tokens (sha256 token)) h
   where
     test : (r : Token) (b : Bool) → (is_name r.role && (is_free m g.clients && has_session g r.role)) ≡ b → cond b (Some r) None ≡ Some t → is_name t.role ≡ true
-    test r true x e = ap (λ (z : Token). is_name z.role) (sym (one_some r t e)) ∙ (and_both (is_name r.role) (is_free m g.clients && has_session g r.role) x).0
-    test r false x e = absurd (some_is_none t (sym e))
+    test r true x e =
+      ap (λ (z : Token). is_name z.role) (sym (same-Some r t e)) ∙ (and-both_true (is_name r.role) (is_free m g.clients && has_session g r.role) x).0
+    test r false x e = absurd (not_None-Some t (sym e))
 
     by : (o : Option Token) → option_and_then (λ (r : Token). cond (is_name r.role && (is_free m g.clients && has_session g r.role)) (Some r) None) o ≡ Some t → is_name t.role ≡ true
-    by None e = absurd (some_is_none t (sym e))
+    by None e = absurd (not_None-Some t (sym e))
     by (Some r) e = test r (is_name r.role && (is_free m g.clients && has_session g r.role)) refl e
 
 itself_shows : (es : List Entry) (ts : List Told) → AllByRecursion (λ (s : Shown). IsFront s.entries es) (map (told_itself es) ts)
 itself_shows es [] = tt
-itself_shows es (t ∷ ts) = (front_self es, itself_shows es ts)
+itself_shows es (t ∷ ts) = (IsFront-itself es, itself_shows es ts)
 
 came_held : (g : Gate) (m : ℕ) (token : List ℕ) → IsHeld [] g → IsHeld [] (came g m token)
 came_held g m token b = came_keeps (IsHeld []) (held_kit []) g m token
     (λ h t e x. let at = at_text h t in let who = fresh h.entries t at in put_held [] h m (Some who)
-    (λ c same. subst (IsHolding (take h.kept h.entries) h.entries) (one_some who c same) (record { name = name_opened g m token t e; sendable = tt; unsynced = itself_shows h.entries (greeting h.entries t.role at) })) x) b
+    (λ c same. subst (IsHolding (take h.kept h.entries) h.entries) (same-Some who c same) (record { name = name_opened g m token t e; sendable = tt; unsynced = itself_shows h.entries (greeting h.entries t.role at) })) x) b
 
 nobody_new : (Q : Client → Type 0) (c : Client) → None ≡ Some c → Q c
-nobody_new Q c e = absurd (some_is_none c (sym e))
+nobody_new Q c e = absurd (not_None-Some c (sym e))
 
 went_held : (g : Gate) (m : ℕ) → IsHeld [] g → IsHeld [] (went g m)
 went_held g m b = went_keeps (IsHeld []) (held_kit []) g m (λ x. put_held [] g m None (λ c e. nobody_new (IsHolding (take g.kept g.entries) g.entries) c e) x) b
@@ -314,10 +315,10 @@ said_held g m text b =
     let y = said_keeps (IsHeld g.entries) (held_kit g.entries) g m text (λ c e. record {
       says = λ x. one_held g.entries g m (saying text) (λ d z. record { name = z.name; sendable = z.sendable; unsynced = z.unsynced }) x;
       answers = λ i x. answered_held g.entries i m c
-          (all_so {P = λ (s : Shown). IsFront s.entries g.entries} {Q = λ (s : Shown). IsFront s.entries i.entries} (λ s f. front_then s.entries g.entries i.entries f x.front) c.unsynced (b.clients m c e).unsynced) x;
+          (AllByRecursion-map {P = λ (s : Shown). IsFront s.entries g.entries} {Q = λ (s : Shown). IsFront s.entries i.entries} (λ s f. front_then s.entries g.entries i.entries f x.front) c.unsynced (b.clients m c e).unsynced) x;
       asks = λ id act name n t shared seat x. requests_held g.entries (record g { clients = at_client m (saying text) g.clients }) m id (request_of c text act) name n x;
       refuses = λ id act a r t shared x. replied_held g.entries (record g { clients = at_client m (saying text) g.clients }) m id (request_of c text act) (Some a) (refused r) x;
-    }) (based [] g.entries g (front_self g.entries) b) in
+    }) (based [] g.entries g (IsFront-itself g.entries) b) in
     based g.entries [] h (h.entries, refl) y
 
 known_held : (g : Gate) (tokens : List Token) → IsHeld [] g → IsHeld [] (knowing g tokens)
@@ -343,12 +344,12 @@ all_kept es = take-length es
 
 synced_held : (g : Gate) → IsHeld [] g → IsHeld [] (on_disk g)
 synced_held g b =
-    let f : IsFront (take g.kept g.entries) g.entries = front_taken g.kept g.entries in
+    let f : IsFront (take g.kept g.entries) g.entries = IsFront-take g.kept g.entries in
     record {
       front = b.front;
       kept = omega arith;
       sent = subst (λ z. AllByRecursion (λ (s : Shown). IsFront s.entries z) g.sent) (sym (all_kept g.entries))
-          (all_so {P = λ (s : Shown). IsFront s.entries (take g.kept g.entries)} {Q = λ (s : Shown). IsFront s.entries g.entries}
+          (AllByRecursion-map {P = λ (s : Shown). IsFront s.entries (take g.kept g.entries)} {Q = λ (s : Shown). IsFront s.entries g.entries}
           (λ s x. front_then s.entries (take g.kept g.entries) g.entries x f) g.sent b.sent);
       clients = subst (λ z. AllClients (IsHolding z g.entries) (at_all released g.clients)) (sym (all_kept g.entries))
           (every_client (IsHolding (take g.kept g.entries) g.entries) (IsHolding g.entries g.entries) released (λ c x. holding_released (take g.kept g.entries) g.entries c f x) g.clients b.clients);
@@ -395,28 +396,28 @@ restored_held cap tokens most head sent journal h r a = subst (IsHeld []) (sym r
   front = (h.entries, refl);
   kept = omega arith;
   sent = subst (λ z. AllByRecursion (λ (s : Shown). IsFront s.entries z) sent) (sym (all_kept h.entries)) a;
-  clients = λ m c e. absurd (nobody most m c e);
+  clients = λ m c e. absurd (not_client_at-replicate most m c e);
 })
 
-pub same_entries : ReadsBack → (es fs : List Entry) → AllByRecursion IsEntry es → AllByRecursion IsEntry fs → journal_of es ≡ journal_of fs → es ≡ fs
-same_entries reads es fs w v h = by (compare reads es fs [] [] w v (append-nil (journal_of es) ∙ (h ∙ sym (append-nil (journal_of fs)))))
+pub same-journal_of : ReadsBack → (es fs : List Entry) → AllByRecursion IsEntry es → AllByRecursion IsEntry fs → journal_of es ≡ journal_of fs → es ≡ fs
+same-journal_of reads es fs w v h = by (Compared-journal_of reads es fs [] [] w v (append-nil (journal_of es) ∙ (h ∙ sym (append-nil (journal_of fs)))))
   where
     by : Compared es fs [] [] → es ≡ fs
     by (same a b) = a
-    by (shorter f more a b) = absurd (no_lines f more [] (entry_there es fs f more a v) b)
-    by (longer e more a b) = absurd (no_lines e more [] (entry_there fs es e more a w) b)
+    by (shorter f more a b) = absurd (not_nothing-journal_of f more [] (IsEntry-append es fs f more a v) b)
+    by (longer e more a b) = absurd (not_nothing-journal_of e more [] (IsEntry-append fs es e more a w) b)
 
-pub taken_more : (n m : ℕ) (es : List Entry) → n ≤ m → IsFront (take n es) (take m es)
-taken_more zero m es h = (take m es, refl)
-taken_more (suc n) zero es h = absurd (let no : ⊥ = omega (arith, h) in no)
-taken_more (suc n) (suc m) [] h = ([], refl)
-taken_more (suc n) (suc m) (e ∷ es) h = let x = taken_more n m es (omega (arith, h)) in (x.0, ap (λ z. e ∷ z) x.1)
+pub IsFront-take_take : (n m : ℕ) (es : List Entry) → n ≤ m → IsFront (take n es) (take m es)
+IsFront-take_take zero m es h = (take m es, refl)
+IsFront-take_take (suc n) zero es h = absurd (let no : ⊥ = omega (arith, h) in no)
+IsFront-take_take (suc n) (suc m) [] h = ([], refl)
+IsFront-take_take (suc n) (suc m) (e ∷ es) h = let x = IsFront-take_take n m es (omega (arith, h)) in (x.0, ap (λ z. e ∷ z) x.1)
 
 -- what is on disk leads to all that was kept
 pub kept_again : ReadsBack → (g h : Gate) (disk : List Line) (start : Gate) → AllByRecursion IsEntry g.entries → LeavesOnDisk g disk → Restores start disk h
     → IsFront (take g.kept g.entries) h.entries
 kept_again reads g h disk start w l r =
-    subst (IsFront (take g.kept g.entries)) (same_entries reads (take l.0 g.entries) h.entries (all_taken IsEntry l.0 g.entries w) r.leads.well (sym l.2 ∙ r.all)) (taken_more g.kept l.0 g.entries l.1)
+    subst (IsFront (take g.kept g.entries)) (same-journal_of reads (take l.0 g.entries) h.entries (AllByRecursion-take IsEntry l.0 g.entries w) r.leads.well (sym l.2 ∙ r.all)) (IsFront-take_take g.kept l.0 g.entries l.1)
 
 -- ---- the journal
 
@@ -447,7 +448,7 @@ said_booked texts g m text b k = by (client_at g.clients m) refl
     heard c e false = k
     heard c e true =
         let i = asked g m text in let x = said_more texts i c text (b.clients m c e).name (said_by text) refl in
-        booked_more g (hears g m c text) (said_added i c text (said_by text)) (adds_said i m c text (said_by text)) (head c)
+        IsBooked-MayAdd g (hears g m c text) (said_added i c text (said_by text)) (entries-done_for i m c text (said_by text)) (head c)
         (record { well = x.well; names = x.names; steps = x.steps }) k
 
     by : (o : Option Client) → client_at g.clients m ≡ o → IsBooked (if_some o g (λ c. cond (may_say c) (hears g m c text) g))
@@ -459,24 +460,24 @@ takes_booked g s w k = by (is_some (fault_of g s)) refl (is_behind g s) refl (st
   where
     by : (d : Bool) → is_some (fault_of g s) ≡ d → (p : Bool) → is_behind g s ≡ p → (o : Option Outcome)
         → IsBooked (cond d (record g { dead = true }) (cond p g (if_some o g (landed g (entry_of s)))))
-    by true e p f o = booked_same g (record g { dead = true }) refl refl k
+    by true e p f o = IsBooked-same_entries g (record g { dead = true }) refl refl k
     by false e true f o = k
     by false e false f None = k
     by false e false f (Some o) =
-        let n = is_next g s e f in booked_more g (landed g (entry_of s) o) (entry_of s ∷ []) refl refl (step_more g s w n.new n.rises) k
+        let n = IsNext-fault_of g s e f in IsBooked-MayAdd g (landed g (entry_of s) o) (entry_of s ∷ []) refl refl (MayAdd-entry_of g s w n.new n.rises) k
 
 happens_booked : Texts → (g : Gate) (e : Event) → IsWell e → IsHeld [] g → IsBooked g → IsBooked (happens g e)
 happens_booked texts g (presented m token) w b k =
-    booked_same g (came g m token) (came_adds g m token) (came_keeps (HasHead g) (head_kit g) g m token (λ h t e y. y) refl) k
+    IsBooked-same_entries g (came g m token) (entries-came g m token) (came_keeps (HasHead g) (head_kit g) g m token (λ h t e y. y) refl) k
 happens_booked texts g (message m text) w b k = said_booked texts g m text b k
-happens_booked texts g (gone m) w b k = booked_same g (went g m) (went_adds g m) (went_keeps (HasHead g) (head_kit g) g m (λ y. y) refl) k
-happens_booked texts g (known tokens) w b k = booked_same g (knowing g tokens) refl refl k
-happens_booked texts g ticked w b k = booked_same g (ticking g) refl refl k
-happens_booked texts g synced w b k = booked_same g (on_disk g) refl refl k
-happens_booked texts g (handed m) w b k = booked_same g (hands g m) refl refl k
+happens_booked texts g (gone m) w b k = IsBooked-same_entries g (went g m) (entries-went g m) (went_keeps (HasHead g) (head_kit g) g m (λ y. y) refl) k
+happens_booked texts g (known tokens) w b k = IsBooked-same_entries g (knowing g tokens) refl refl k
+happens_booked texts g ticked w b k = IsBooked-same_entries g (ticking g) refl refl k
+happens_booked texts g synced w b k = IsBooked-same_entries g (on_disk g) refl refl k
+happens_booked texts g (handed m) w b k = IsBooked-same_entries g (hands g m) refl refl k
 happens_booked texts g (arrived s) w b k = takes_booked g s w.0 k
-happens_booked texts g forgave w b k = booked_same g (record g { forgiven = length g.entries }) refl refl k
-happens_booked texts g failed w b k = booked_same g (record g { dead = true }) refl refl k
+happens_booked texts g forgave w b k = IsBooked-same_entries g (record g { forgiven = length g.entries }) refl refl k
+happens_booked texts g failed w b k = IsBooked-same_entries g (record g { dead = true }) refl refl k
 
 next_booked : Texts → (g : Gate) (e : Event) → IsWell e → IsHeld [] g → IsBooked g → IsBooked (next g e)
 next_booked texts g e w b k = by g.dead
@@ -500,19 +501,20 @@ pub record IsWritten (g : Gate) : Type 0 where
   pub held : IsHeld [] g
   pub booked : IsBooked g
 
-pub runs_written : ReadsBack → Texts → (cap : ℕ) (g : Gate) → Runs cap g → IsWritten g
-runs_written reads texts cap _ (begins tokens most head journal g r) =
+pub IsWritten-Runs : ReadsBack → Texts → (cap : ℕ) (g : Gate) → Runs cap g → IsWritten g
+IsWritten-Runs reads texts cap _ (begins tokens most head journal g r) =
     record { held = restored_held cap tokens most head [] journal g r tt; booked = restored_booked cap tokens most head [] journal g r }
-runs_written reads texts cap _ (goes_on g e w r) =
-    let b = runs_written reads texts cap g r in record { held = next_held g e b.held; booked = next_booked texts g e w b.held b.booked }
-runs_written reads texts cap _ (begins_again g disk tokens most h r l x) =
-    let b = runs_written reads texts cap g r in let start = gate_at_start cap tokens most g.head g.sent in
+IsWritten-Runs reads texts cap _ (goes_on g e w r) =
+    let b = IsWritten-Runs reads texts cap g r in record { held = next_held g e b.held; booked = next_booked texts g e w b.held b.booked }
+IsWritten-Runs reads texts cap _ (begins_again g disk tokens most h r l x) =
+    let b = IsWritten-Runs reads texts cap g r in let start = gate_at_start cap tokens most g.head g.sent in
     record {
       held = restored_held cap tokens most g.head g.sent disk h x
-          (all_so {P = λ (s : Shown). IsFront s.entries (take g.kept g.entries)} {Q = λ (s : Shown). IsFront s.entries h.entries}
+          (AllByRecursion-map {P = λ (s : Shown). IsFront s.entries (take g.kept g.entries)} {Q = λ (s : Shown). IsFront s.entries h.entries}
           (λ s f. front_then s.entries (take g.kept g.entries) h.entries f (kept_again reads g h disk start b.booked.well l x)) g.sent b.held.sent);
       booked = restored_booked cap tokens most g.head g.sent disk h x;
     }
 
-pub sent_is_kept : ReadsBack → Texts → (cap : ℕ) (g : Gate) → Runs cap g → SentIsKept g
-sent_is_kept reads texts cap g r = let b = (runs_written reads texts cap g r).held in record { sent = b.sent; sendable = λ m c h. (b.clients m c h).sendable }
+pub SentIsKept-Runs : ReadsBack → Texts → (cap : ℕ) (g : Gate) → Runs cap g → SentIsKept g
+SentIsKept-Runs reads texts cap g r =
+    let b = (IsWritten-Runs reads texts cap g r).held in record { sent = b.sent; sendable = λ m c h. (b.clients m c h).sendable }

@@ -17,24 +17,24 @@ use Rattle.iv_clients.specs.Clients.{Client, Shown, Slots, Sub, answered, at_all
 use Rattle.iv_clients.specs.Feeds.{Feed, Seat, ends_in, feed_for, feed_of, is_of_role, is_reading, room_for, seat_of, without_seat}
 use Rattle.iv_clients.specs.Journal.{Entry, said_by, shape_for, Request, claim_said, requests_in}
 use Rattle.iv_clients.specs.Tokens.{Token}
-use Rattle.iv_clients.proofs.Slots.{at_same, one_some, some_is_none}
+use Rattle.iv_clients.proofs.Slots.{client_at-at_client, same-Some, not_None-Some}
 use Rattle.iv_gate.specs.Events.{Event, presented, message, gone, known, ticked, synced, handed, failed, happens, next, arrived, forgave}
 use Rattle.iv_gate.specs.Gate.{Gate, acts, all_rested, all_swept, begun_for, closes, done_for, entered, has_session, hears, in_session, is_needed, joined, joined_by, joins, ran, reads, reads_first, reply_to, done_in, rested, token_for, said, seated, settles, shut, subscribes, swept, tells, went, with_session, informs, entries_of, at_text, shares, may_have, reply_told, replies_to, Head, went_on}
 use Rattle.iv_gate.specs.Replies.{ActsAs}
 use Rattle.iv_journal.specs.Journal.{Line}
 use Rattle.iv_gate.specs.Restoring.{Restores, gate_at_start}
-use Rattle.iv_gate.proofs.Asking.{IsHeard, asker_of, feed_acts, seated_sound}
-use Rattle.iv_gate.proofs.Few.{AreFew, feeds_in, few_joins, few_less, few_subscribes, found_for, new_has_room, none_reading, room_has, shorter_by}
-use Rattle.iv_gate.proofs.Finishing.{rested_sound}
-use Rattle.iv_gate.proofs.Joining.{same_name}
-use Rattle.iv_gate.proofs.Opening.{IsAsker, subscribes_sound}
-use Rattle.iv_gate.proofs.Running.{all_so, all_swept_sound, client_said, filter_plain, found_all, one_sound, swept_sound}
-use Rattle.iv_gate.proofs.Serving.{AreEven, IsEven, put_sound, says_stays}
-use Rattle.iv_gate.proofs.Sharing.{IsAlone, IsFed, IsShared, alone_of, is_plain, numbers_in, seats_in, shared_all, shared_finished, shared_one, shared_plain, shared_seated, shared_shut, shared_subscribes, shared_stepped}
-use Rattle.iv_gate.proofs.Sound.{Adds, IsFeed, IsSoundGate, Sounds, seer, seer_telling, Seer}
-use Rattle.iv_gate.proofs.Summing.{neither}
-use Rattle.iv_gate.proofs.Touching.{came_as, opens_token, test_same}
-use Rattle.iv_gate.proofs.Shaping.{test_of}
+use Rattle.iv_gate.proofs.Asking.{IsHeard, IsAsker-IsHeard, ActsAs-feed_for, IsSoundGate-seated}
+use Rattle.iv_gate.proofs.Few.{AreFew, feeds_in, AreFew-joins, AreFew-filter, AreFew-subscribes, feed_of-feed_for, lt-begun_for, length-no_feed_for, lt-room_for, le-length_filter_filter}
+use Rattle.iv_gate.proofs.Finishing.{IsSoundGate-rested}
+use Rattle.iv_gate.proofs.Joining.{same-bytes_eq}
+use Rattle.iv_gate.proofs.Opening.{IsAsker, IsSoundGate-subscribes}
+use Rattle.iv_gate.proofs.Running.{AllByRecursion-map, IsSoundGate-all_swept, IsSoundClient-said, AllByRecursion-filter, AllByRecursion-feed_of, IsSoundGate-at_client, IsSoundGate-swept}
+use Rattle.iv_gate.proofs.Serving.{AreEven, IsEven, IsSoundGate-set, dropped-may_say}
+use Rattle.iv_gate.proofs.Sharing.{IsAlone, IsFed, IsShared, IsAlone-ActsAs, is_plain, numbers_in, seats_in, IsShared-at_all, IsShared-finish, IsShared-at_client, IsShared-ran, IsShared-seated, IsShared-shut, IsShared-subscribes, IsShared-stepped}
+use Rattle.iv_gate.proofs.Sound.{Adds, IsFeed, IsSoundGate, Sounds, seer, seer-telling, Seer}
+use Rattle.iv_gate.proofs.Summing.{or-both_false}
+use Rattle.iv_gate.proofs.Touching.{came_as, Opens-token_for, cond-same}
+use Rattle.iv_gate.proofs.Shaping.{cond-either}
 use Rattle.iv_clients.specs.Names.{Claim}
 use Rattle.iv_once.specs.Names.{Ask}
 use Rattle.iv_gate.proofs.Choosing.{shares_so}
@@ -42,7 +42,7 @@ use Rattle.iv_gate.proofs.Stepping.{request_of}
 use Rattle.iv_steps.specs.Steps.{Fact, stepped}
 use Rattle.iv_machine.specs.Sound.{IsSoundState}
 use Rattle.iv_gate.specs.Arriving.{Step, entry_of, fact_of, fault_of, is_behind, landed, newly, takes}
-use Rattle.iv_gate.proofs.Arrived.{led_from_start}
+use Rattle.iv_gate.proofs.Arrived.{IsBegun-all_carried}
 
 -- what holds of a gateway besides that its clients are in step
 pub record IsKept (g : Gate) : Type 0 where
@@ -50,35 +50,35 @@ pub record IsKept (g : Gate) : Type 0 where
   pub few : AreFew g.feeds
 
 kept_one : (g : Gate) (m : ℕ) (f : Client → Client) → ((c : Client) → (f c).role ≡ c.role) → IsKept g → IsKept (record g { clients = at_client m f g.clients })
-kept_one g m f k b = record { shared = shared_one g m f k b.shared; few = b.few }
+kept_one g m f k b = record { shared = IsShared-at_client g m f k b.shared; few = b.few }
 
 kept_all : (g : Gate) (f : Client → Client) → ((c : Client) → (f c).role ≡ c.role) → IsKept g → IsKept (record g { clients = at_all f g.clients })
-kept_all g f k b = record { shared = shared_all g f k b.shared; few = b.few }
+kept_all g f k b = record { shared = IsShared-at_all g f k b.shared; few = b.few }
 
 kept_tells : (g : Gate) (m : ℕ) (t : Told) → IsKept g → IsKept (tells g m t)
 kept_tells g m t b = kept_one g m (told_one g.entries t) (λ c. refl) b
 
-pub settling_role : (es : List Entry) (c : Client) → (settling es c).role ≡ c.role
-settling_role es c = test_same (λ (x : Client). x.role) (c.owed) (record (told_one es settled c) { owed = false }) c c.role refl refl
+pub role-settling : (es : List Entry) (c : Client) → (settling es c).role ≡ c.role
+role-settling es c = cond-same (λ (x : Client). x.role) (c.owed) (record (told_one es settled c) { owed = false }) c c.role refl refl
 
 kept_settles : (g : Gate) → IsKept g → IsKept (settles g)
-kept_settles g b = kept_all g (settling g.entries) (settling_role g.entries) b
+kept_settles g b = kept_all g (settling g.entries) (role-settling g.entries) b
 
 kept_informs : (g : Gate) (es : List Entry) → IsKept g → IsKept (informs g es)
-kept_informs g es b = kept_all g (λ c. telling g.entries (shape_for c.role es) c) (λ c. ap (λ (v : Seer). v.role) (seer_telling g.entries (shape_for c.role es) c)) b
+kept_informs g es b = kept_all g (λ c. telling g.entries (shape_for c.role es) c) (λ c. ap (λ (v : Seer). v.role) (seer-telling g.entries (shape_for c.role es) c)) b
 
 kept_plain : (g : Gate) (k : Command) → is_plain k.act ≡ true → IsSoundGate g → IsKept g → IsKept (ran g k)
-kept_plain g k p s b = record { shared = shared_plain g k p s.state.numbers b.shared; few = few_less _ g.feeds b.few }
+kept_plain g k p s b = record { shared = IsShared-ran g k p s.state.numbers b.shared; few = AreFew-filter _ g.feeds b.few }
 
 kept_seated : (g : Gate) (n : ℕ) (role : Name) → begun_for g role ≡ Some n → IsSoundGate g → IsKept g → IsKept (seated g n role)
-kept_seated g n role e s b = record { shared = shared_seated g n role e s.state.numbers b.shared; few = few_less _ g.feeds b.few }
+kept_seated g n role e s b = record { shared = IsShared-seated g n role e s.state.numbers b.shared; few = AreFew-filter _ g.feeds b.few }
 
 kept_subscribes : (g : Gate) (m : ℕ) (id : Option Data) (n : ℕ) (role rel : Name) → IsSoundGate g → length (feeds_in n g.feeds) < most_feeds
     → length (filter (is_reading role rel) g.feeds) ≡ 0 → IsKept g → IsKept (subscribes g m id n role rel)
-kept_subscribes g m id n role rel s l z b = record { shared = shared_subscribes g m id n role rel s.state.numbers b.shared; few = few_subscribes g m id n role rel s b.few l z }
+kept_subscribes g m id n role rel s l z b = record { shared = IsShared-subscribes g m id n role rel s.state.numbers b.shared; few = AreFew-subscribes g m id n role rel s b.few l z }
 
 shut_shared : (g : Gate) (f : Feed) → AllByRecursion (IsFeed g.machine) g.feeds → IsSoundGate g → (k : ℕ) → feed_of g.feeds k ≡ Some f → IsShared g → IsShared (shut g f)
-shut_shared g f a s k h b = shared_shut g f (found_all (IsFeed g.machine) g.feeds k f a h) s.state.numbers b
+shut_shared g f a s k h b = IsShared-shut g f (AllByRecursion-feed_of (IsFeed g.machine) g.feeds k f a h) s.state.numbers b
 
 kept_swept : (g : Gate) (k : ℕ) → IsSoundGate g → IsKept g → IsKept (swept g k)
 kept_swept g k s b = by (is_followed k g.clients) (feed_of g.feeds k) refl
@@ -86,11 +86,11 @@ kept_swept g k s b = by (is_followed k g.clients) (feed_of g.feeds k) refl
     by : (t : Bool) (o : Option Feed) → feed_of g.feeds k ≡ o → IsKept (cond t g (if_some o g (shut g)))
     by true o e = b
     by false None e = b
-    by false (Some f) e = record { shared = shut_shared g f s.feeds s k e b.shared; few = few_less _ _ (few_less _ g.feeds b.few) }
+    by false (Some f) e = record { shared = shut_shared g f s.feeds s k e b.shared; few = AreFew-filter _ _ (AreFew-filter _ g.feeds b.few) }
 
 kept_all_swept : Adds → Sounds → (g : Gate) (ks : List ℕ) → IsSoundGate g → IsKept g → IsKept (all_swept g ks)
 kept_all_swept adds sounds g [] s b = b
-kept_all_swept adds sounds g (k ∷ ks) s b = kept_all_swept adds sounds (swept g k) ks (swept_sound adds sounds g k s) (kept_swept g k s b)
+kept_all_swept adds sounds g (k ∷ ks) s b = kept_all_swept adds sounds (swept g k) ks (IsSoundGate-swept adds sounds g k s) (kept_swept g k s b)
 
 -- ---- sessions that are not needed
 
@@ -99,19 +99,20 @@ kept_rested g s a b k = by (is_needed g s) refl
   where
     by : (t : Bool) → (has_role s.role g.clients || list_any (λ (f : Feed). s.session == f.session) g.feeds) ≡ t → IsKept (cond t g (ran (record g { seats = without_seat s.session g.seats }) (in_session s.session finish)))
     by true h = k
-    by false h = record { shared = shared_finished g s a (neither (has_role s.role g.clients) _ h).0 b.state.numbers k.shared; few = few_less _ g.feeds k.few }
+    by false h =
+      record { shared = IsShared-finish g s a (or-both_false (has_role s.role g.clients) _ h).0 b.state.numbers k.shared; few = AreFew-filter _ g.feeds k.few }
 
 alone_left : (g : Gate) (x s : Seat) → IsAlone x g.seats → IsAlone x (rested g s).seats
 alone_left g x s a = by (is_needed g s)
   where
     by : (t : Bool) → IsAlone x (cond t g (ran (record g { seats = without_seat s.session g.seats }) (in_session s.session finish))).seats
     by true = a
-    by false = filter_plain (λ (y : Seat). (x.session == y.session) ≡ true → y.role ≡ x.role) (λ (y : Seat). not (s.session == y.session)) g.seats a
+    by false = AllByRecursion-filter (λ (y : Seat). (x.session == y.session) ≡ true → y.role ≡ x.role) (λ (y : Seat). not (s.session == y.session)) g.seats a
 
 kept_all_rested : Adds → Sounds → (g : Gate) (ss : List Seat) → AllByRecursion (λ x. IsAlone x g.seats) ss → IsSoundGate g → IsKept g → IsKept (all_rested g ss)
 kept_all_rested adds sounds g [] a b k = k
 kept_all_rested adds sounds g (s ∷ ss) a b k = kept_all_rested adds sounds (rested g s) ss
-    (all_so {P = λ x. IsAlone x g.seats} {Q = λ x. IsAlone x (rested g s).seats} (λ x h. alone_left g x s h) ss a.1) (rested_sound adds sounds g s b) (kept_rested g s a.0 b k)
+    (AllByRecursion-map {P = λ x. IsAlone x g.seats} {Q = λ x. IsAlone x (rested g s).seats} (λ x h. alone_left g x s h) ss a.1) (IsSoundGate-rested adds sounds g s b) (kept_rested g s a.0 b k)
 
 -- ---- messages
 
@@ -122,13 +123,13 @@ kept_joined g m (Some t) (Some k) there s b = by (is_reading t.role t.rel k && n
     h = record g { clients = at_client m (moved t.number k.number) g.clients }
 
     by : (d : Bool) → IsShared (cond d (shut (record g { clients = at_client m (moved t.number k.number) g.clients }) t) g)
-    by true = shared_shut h t (there t refl) s.state.numbers (shared_one g m (moved t.number k.number) (λ c. refl) b)
+    by true = IsShared-shut h t (there t refl) s.state.numbers (IsShared-at_client g m (moved t.number k.number) (λ c. refl) b)
     by false = b
 kept_joined g m (Some t) None there s b = b
 kept_joined g m None p there s b = b
 
 kept_joined_by : (g : Gate) (m k : ℕ) (r : Reply) → IsSoundGate g → IsShared g → IsShared (joined_by g m k r)
-kept_joined_by g m k (subscribed t) s b = kept_joined g m (feed_of g.feeds t) (feed_of g.feeds k) (λ f e. found_all (IsFeed g.machine) g.feeds t f s.feeds e) s b
+kept_joined_by g m k (subscribed t) s b = kept_joined g m (feed_of g.feeds t) (feed_of g.feeds k) (λ f e. AllByRecursion-feed_of (IsFeed g.machine) g.feeds t f s.feeds e) s b
 kept_joined_by g m k done s b = b
 kept_joined_by g m k (refused r) s b = b
 
@@ -136,8 +137,9 @@ kept_joins : Adds → Sounds → (g : Gate) (m : ℕ) (id : Option Data) (f : Fe
     → feed_of g.feeds f.number ≡ Some f → IsSoundGate g → IsKept g → IsKept (joins g m id f)
 kept_joins adds sounds g m id f acts same there s b = record {
   shared = kept_joined_by (subscribes g m id f.session f.role f.rel) m f.number (reply_to g (in_session f.session (subscribe f.rel)))
-      (subscribes_sound adds sounds g m id f.session f.role f.rel acts same s) (shared_subscribes g m id f.session f.role f.rel s.state.numbers b.shared);
-  few = few_joins g m id f s b.few there;
+      (IsSoundGate-subscribes adds sounds g m id f.session f.role f.rel acts same s)
+        (IsShared-subscribes g m id f.session f.role f.rel s.state.numbers b.shared);
+  few = AreFew-joins g m id f s b.few there;
 }
 
 kept_first : Adds → Sounds → (g : Gate) (m : ℕ) (id : Option Data) (role rel : Name) → IsSoundGate g → length (filter (is_reading role rel) g.feeds) ≡ 0 → IsKept g → IsKept (reads_first g m id role rel)
@@ -145,29 +147,29 @@ kept_first adds sounds g m id role rel s z b = by (room_for g.seats g.feeds role
   where
     still_none : (n : ℕ) → length (filter (is_reading role rel) (seated g n role).feeds) ≡ 0
     still_none n = below (length (filter (is_reading role rel) (seated g n role).feeds)) (length (filter (is_reading role rel) g.feeds))
-        (shorter_by (is_reading role rel) (λ (f : Feed). not (ends_in (step g.machine (in_session n (begin role))).lines f.number)) g.feeds) z
+        (le-length_filter_filter (is_reading role rel) (λ (f : Feed). not (ends_in (step g.machine (in_session n (begin role))).lines f.number)) g.feeds) z
       where
         below : (x y : ℕ) → x ≤ y → y ≡ 0 → x ≡ 0
         below x y i j = omega (arith, i, j)
 
     further : (o : Option ℕ) → begun_for g role ≡ o → IsKept (if_some o (tells g m (replied id (refused too_many))) (λ n. subscribes (seated g n role) m id n role rel))
     further None e = kept_tells g m (replied id (refused too_many)) b
-    further (Some n) e = kept_subscribes (seated g n role) m id n role rel (seated_sound adds sounds g role n e s) (new_has_room g role n e s) (still_none n) (kept_seated g n role e s b)
+    further (Some n) e = kept_subscribes (seated g n role) m id n role rel (IsSoundGate-seated adds sounds g role n e s) (lt-begun_for g role n e s) (still_none n) (kept_seated g n role e s b)
 
     by : (o : Option ℕ) → room_for g.seats g.feeds role ≡ o
         → IsKept (if_some o (if_some (begun_for g role) (tells g m (replied id (refused too_many))) (λ n. subscribes (seated g n role) m id n role rel)) (λ n. subscribes g m id n role rel))
     by None e = further (begun_for g role) refl
-    by (Some n) e = kept_subscribes g m id n role rel s (room_has g.seats g.feeds role n e) z b
+    by (Some n) e = kept_subscribes g m id n role rel s (lt-room_for g.seats g.feeds role n e) z b
 
 kept_reads : Adds → Sounds → (g : Gate) (m : ℕ) (c : Client) (id : Option Data) (rel : Name) → ((d : Client) → client_at g.clients m ≡ Some d → IsAsker d id c.role rel) → IsSoundGate g → IsKept g
     → IsKept (reads g m c id rel)
 kept_reads adds sounds g m c id rel same s b = test (nat_lt (length c.subs) most_subs)
   where
     by : (o : Option Feed) → feed_for g.feeds c.role rel ≡ o → IsKept (if_some o (reads_first g m id c.role rel) (joins g m id))
-    by None e = kept_first adds sounds g m id c.role rel s (none_reading c.role rel g.feeds e) b
+    by None e = kept_first adds sounds g m id c.role rel s (length-no_feed_for c.role rel g.feeds e) b
     by (Some f) e =
-        let p = feed_acts g.machine c.role rel g.feeds f s.feeds e in
-        kept_joins adds sounds g m id f p.0 (λ d t. subst (λ r. IsAsker d id r f.rel) (sym p.1) (subst (λ r. IsAsker d id c.role r) (sym p.2) (same d t))) (found_for g.feeds c.role rel f b.few.apart e) s b
+        let p = ActsAs-feed_for g.machine c.role rel g.feeds f s.feeds e in
+        kept_joins adds sounds g m id f p.0 (λ d t. subst (λ r. IsAsker d id r f.rel) (sym p.1) (subst (λ r. IsAsker d id c.role r) (sym p.2) (same d t))) (feed_of-feed_for g.feeds c.role rel f b.few.apart e) s b
 
     test : (t : Bool) → IsKept (cond t (if_some (feed_for g.feeds c.role rel) (reads_first g m id c.role rel) (joins g m id)) (tells g m (replied id (refused too_many))))
     test true = by (feed_for g.feeds c.role rel) refl
@@ -189,8 +191,8 @@ kept_closes g m c id own s b = by (followed_by c.subs own)
     sweeps k true o e = kept
     sweeps k false None e = kept
     sweeps k false (Some f) e = record {
-      shared = shared_shut i f (found_all (IsFeed g.machine) g.feeds k f s.feeds e) s.state.numbers kept.shared;
-      few = few_less _ _ (few_less _ g.feeds b.few);
+      shared = IsShared-shut i f (AllByRecursion-feed_of (IsFeed g.machine) g.feeds k f s.feeds e) s.state.numbers kept.shared;
+      few = AreFew-filter _ _ (AreFew-filter _ g.feeds b.few);
     }
 
     by : (o : Option ℕ) → IsKept (if_some o (tells g m (replied id (refused unknown_subscription))) (λ k. swept (tells (record g { clients = at_client m (closing own) g.clients }) m (replied id done)) k))
@@ -204,7 +206,7 @@ kept_replies g m id q name r b = let h = entered g (entries_of q name r) in
 kept_requests : (g : Gate) (m : ℕ) (id : Option Data) (q : Request) (name : Option Ask) (n : ℕ) → is_plain q.act ≡ true → IsSoundGate g → IsKept g → IsKept (done_in g m id q name n)
 kept_requests g m id q name n p s b =
     let k = in_session n q.act in let r = reply_to g k in let i = replies_to g m id q name r in let x = kept_replies g m id q name r b in
-    kept_informs (ran i k) (entries_of q name r) (record { shared = shared_plain i k p s.state.numbers x.shared; few = few_less _ g.feeds b.few })
+    kept_informs (ran i k) (entries_of q name r) (record { shared = IsShared-ran i k p s.state.numbers x.shared; few = AreFew-filter _ g.feeds b.few })
 
 kept_shares : (g : Gate) (m : ℕ) (c : Client) (id : Option Data) (q : Request) (claim : Option Claim) → is_plain q.act ≡ true → IsSoundGate g → IsKept g → IsKept (shares g m c id q claim)
 kept_shares g m c id q claim p s b = shares_so IsKept g m id q
@@ -214,7 +216,7 @@ kept_acts : Adds → Sounds → (g : Gate) (m : ℕ) (c : Client) (id : Option D
     → IsSoundGate g → IsKept g → IsKept (acts g m c id text act)
 kept_acts adds sounds g m c id text (begin role) said same s b = kept_tells g m (fault 2) b
 kept_acts adds sounds g m c id text finish said same s b = kept_tells g m (fault 2) b
-kept_acts adds sounds g m c id text (subscribe rel) said same s b = kept_reads adds sounds g m c id rel (λ d t. asker_of g m c id text rel d said (same d t)) s b
+kept_acts adds sounds g m c id text (subscribe rel) said same s b = kept_reads adds sounds g m c id rel (λ d t. IsAsker-IsHeard g m c id text rel d said (same d t)) s b
 kept_acts adds sounds g m c id text (unsubscribe own) said same s b = kept_closes g m c id own s b
 kept_acts adds sounds g m c id text (create_role name) said same s b = kept_shares g m c id (request_of c text (create_role name)) (claim_said text) refl s b
 kept_acts adds sounds g m c id text (create_table name owner columns) said same s b = kept_shares g m c id (request_of c text (create_table name owner columns)) (claim_said text) refl s b
@@ -236,23 +238,23 @@ kept_done adds sounds g m c text too_long h same s b = kept_tells g m (fault 22)
 kept_done adds sounds g m c text no_object h same s b = kept_tells g m (fault 2) b
 kept_done adds sounds g m c text (no_request id why) h same s b = kept_tells g m (unasked id why) b
 kept_done adds sounds g m c text (request id act) h same s b =
-    test_of IsKept (may_have (claim_said text) act) (acts g m c id text act) (tells g m (unasked id (unknown (codes "once")))) (kept_acts adds sounds g m c id text act h same s b) (kept_tells g m (unasked id (unknown (codes "once"))) b)
+    cond-either IsKept (may_have (claim_said text) act) (acts g m c id text act) (tells g m (unasked id (unknown (codes "once")))) (kept_acts adds sounds g m c id text act h same s b) (kept_tells g m (unasked id (unknown (codes "once"))) b)
 
 -- ---- events
 
 kept_hears : Adds → Sounds → (g : Gate) (m : ℕ) (c : Client) (text : List ℕ) → client_at g.clients m ≡ Some c → IsEven c → IsSoundGate g → IsKept g → IsKept (hears g m c text)
 kept_hears adds sounds g m c text t even s b =
     let asked = record g { clients = at_client m (saying text) g.clients } in let did = done_for asked m c text (said_by text) in
-    let there : client_at asked.clients m ≡ Some (saying text c) = at_same m (saying text) g.clients ∙ ap (option_map (saying text)) t in
+    let there : client_at asked.clients m ≡ Some (saying text c) = client_at-at_client m (saying text) g.clients ∙ ap (option_map (saying text)) t in
     kept_one (settles did) m (answered c) (λ d. refl) (kept_settles did (kept_done adds sounds asked m c text (said_by text) refl
-    (λ d e. subst (IsHeard asked m c text) (one_some (saying text c) d (sym there ∙ e)) (record { role = refl; before = c.messages; messages = refl; pending = even }))
-    (one_sound g m (saying text) (λ d e live. client_said g.machine g.feeds (seer d) text (s.clients m d e live)) s) (kept_one g m (saying text) (λ d. refl) b)))
+    (λ d e. subst (IsHeard asked m c text) (same-Some (saying text c) d (sym there ∙ e)) (record { role = refl; before = c.messages; messages = refl; pending = even }))
+    (IsSoundGate-at_client g m (saying text) (λ d e live. IsSoundClient-said g.machine g.feeds (seer d) text (s.clients m d e live)) s) (kept_one g m (saying text) (λ d. refl) b)))
 
 kept_said : Adds → Sounds → (g : Gate) (m : ℕ) (text : List ℕ) → AreEven g → IsSoundGate g → IsKept g → IsKept (said g m text)
 kept_said adds sounds g m text even s b = by (client_at g.clients m) refl
   where
     test : (c : Client) → client_at g.clients m ≡ Some c → (t : Bool) → may_say c ≡ t → IsKept (cond t (hears g m c text) g)
-    test c e true t = kept_hears adds sounds g m c text e (even m c (record { there = e; stays = says_stays c t })) s b
+    test c e true t = kept_hears adds sounds g m c text e (even m c (record { there = e; stays = dropped-may_say c t })) s b
     test c e false t = b
 
     by : (o : Option Client) → client_at g.clients m ≡ o → IsKept (if_some o g (λ c. cond (may_say c) (hears g m c text) g))
@@ -293,7 +295,7 @@ role_put (o ∷ os) zero es t name at h = by (bytes_eq t.role name) refl h
     right false b k = k
 
     by : (b : Bool) → bytes_eq t.role name ≡ b → (b || has_role name os) ≡ true → (t.role ≡ name) ⊎ ((if_some o false (λ (c : Client). bytes_eq c.role name) || has_role name os) ≡ true)
-    by true e k = inl (same_name t.role name e)
+    by true e k = inl (same-bytes_eq t.role name e)
     by false e k = inr (right _ _ k)
 role_put (o ∷ os) (suc m) es t name at h = by (if_some o false (λ (c : Client). bytes_eq c.role name)) h (role_put os m es t name at)
   where
@@ -331,7 +333,7 @@ kept_came g m token t e s b = placed
     put = record h { clients = set h.clients m (Some (fresh h.entries t (at_text h t))) }
 
     seats : (name : Name) → (t.role ≡ name) ⊎ (has_role name h.clients ≡ true) → is_some (seat_of h.seats name) ≡ true
-    seats name (inl x) = subst (λ r. is_some (seat_of h.seats r) ≡ true) x (with_seat g t.role (opens_token g m token t e).session)
+    seats name (inl x) = subst (λ r. is_some (seat_of h.seats r) ≡ true) x (with_seat g t.role (Opens-token_for g m token t e).session)
     seats name (inr x) = k.shared.seated name x
 
     placed : IsKept put
@@ -347,28 +349,28 @@ kept_went adds sounds g m s b = by (client_at g.clients m)
     left_kept = record { shared = record { sessions = b.shared.sessions; seated = λ name i. b.shared.seated name (role_left g.clients m name i); fed = b.shared.fed }; few = b.few }
 
     left_sound : IsSoundGate left
-    left_sound = put_sound g m None (λ d e. absurd (some_is_none d (sym e))) s
+    left_sound = IsSoundGate-set g m None (λ d e. absurd (not_None-Some d (sym e))) s
 
     gone_as : (c : Client) → IsKept (let h = all_swept left (map (λ s. s.feed) c.subs) in settles (all_rested h (filter (is_of_role c.role) h.seats)))
     gone_as c =
         let ks = map (λ (x : Sub). x.feed) c.subs in
-        let h = all_swept left ks in let hs = all_swept_sound adds sounds left ks left_sound in let ss = filter (is_of_role c.role) h.seats in
+        let h = all_swept left ks in let hs = IsSoundGate-all_swept adds sounds left ks left_sound in let ss = filter (is_of_role c.role) h.seats in
         kept_settles (all_rested h ss) (kept_all_rested adds sounds h ss
-        (filter_plain (λ (x : Seat). IsAlone x h.seats) (is_of_role c.role) h.seats (all_so {P = λ (x : Seat). ActsAs h.machine x.session x.role} {Q = λ (x : Seat). IsAlone x h.seats} (λ x a. alone_of h.machine x h.seats a hs.seats) h.seats hs.seats))
+        (AllByRecursion-filter (λ (x : Seat). IsAlone x h.seats) (is_of_role c.role) h.seats (AllByRecursion-map {P = λ (x : Seat). ActsAs h.machine x.session x.role} {Q = λ (x : Seat). IsAlone x h.seats} (λ x a. IsAlone-ActsAs h.machine x h.seats a hs.seats) h.seats hs.seats))
         hs (kept_all_swept adds sounds left ks left_sound left_kept))
 
     by : (o : Option Client) → IsKept (if_some o g (λ c. let h = all_swept (record g { clients = set g.clients m None }) (map (λ s. s.feed) c.subs) in settles (all_rested h (filter (is_of_role c.role) h.seats))))
     by None = b
     by (Some c) = gone_as c
 
-pub checked_role : (tokens : List Token) (c : Client) → (checked tokens c).role ≡ c.role
-checked_role tokens c = test_same (λ (x : Client). x.role) (opens tokens c) c (dropping c) c.role refl refl
+pub role-checked : (tokens : List Token) (c : Client) → (checked tokens c).role ≡ c.role
+role-checked tokens c = cond-same (λ (x : Client). x.role) (opens tokens c) c (dropping c) c.role refl refl
 
-pub released_role : (c : Client) → (released c).role ≡ c.role
-released_role c = test_same (λ (x : Client). x.role) (c.dropped || is_slow c) (dropping c) (record c { unsynced = []; sendable = c.sendable ++ c.unsynced }) c.role refl refl
+pub role-released : (c : Client) → (released c).role ≡ c.role
+role-released c = cond-same (λ (x : Client). x.role) (c.dropped || is_slow c) (dropping c) (record c { unsynced = []; sendable = c.sendable ++ c.unsynced }) c.role refl refl
 
-pub handing_role : (c : Client) → (handing c).role ≡ c.role
-handing_role c = test_same (λ (x : Client). x.role) (length c.sendable == 0) c (record c { sendable = []; asked = 0; handed = c.handed ++ c.sendable ∷ [] }) c.role refl refl
+pub role-handing : (c : Client) → (handing c).role ≡ c.role
+role-handing c = cond-same (λ (x : Client). x.role) (length c.sendable == 0) c (record c { sendable = []; asked = 0; handed = c.handed ++ c.sendable ∷ [] }) c.role refl refl
 
 -- what is not looked at changes
 kept_as : (g h : Gate) → h.machine ≡ g.machine → h.seats ≡ g.seats → h.feeds ≡ g.feeds → h.clients ≡ g.clients → IsKept g → IsKept h
@@ -385,7 +387,7 @@ kept_as g h m s f c b = record {
 kept_landed : Sounds → (g : Gate) (e : Entry) (fs : List Fact) (o : Outcome) → stepped fs g.machine ≡ Some o → IsSoundGate g → IsKept g → IsKept (landed g e o)
 kept_landed sounds g e fs o h s b =
     let now = entered g (e ∷ []) in let behind = went_on now o (λ c. own_lines g.feeds o.lines c.subs ++ map granted (newly g.machine.frame o.state.frame c.role)) in
-    kept_settles (informs behind (e ∷ [])) (kept_informs behind (e ∷ []) (record { shared = shared_stepped sounds g (e ∷ []) fs o (λ c. own_lines g.feeds o.lines c.subs ++ map granted (newly g.machine.frame o.state.frame c.role)) h s.state b.shared; few = few_less _ g.feeds b.few }))
+    kept_settles (informs behind (e ∷ [])) (kept_informs behind (e ∷ []) (record { shared = IsShared-stepped sounds g (e ∷ []) fs o (λ c. own_lines g.feeds o.lines c.subs ++ map granted (newly g.machine.frame o.state.frame c.role)) h s.state b.shared; few = AreFew-filter _ g.feeds b.few }))
 
 kept_takes : Sounds → (g : Gate) (x : Step) → IsSoundGate g → IsKept g → IsKept (takes g x)
 kept_takes sounds g x s b = by (is_some (fault_of g x)) (is_behind g x)
@@ -407,16 +409,16 @@ kept_happens adds sounds g (presented m token) even s b = by (token_for g m toke
     by (Some t) e = kept_came g m token t e s b
 kept_happens adds sounds g (message m text) even s b = kept_said adds sounds g m text even s b
 kept_happens adds sounds g (gone m) even s b = kept_went adds sounds g m s b
-kept_happens adds sounds g (known tokens) even s b = kept_as (record g { clients = at_all (checked tokens) g.clients }) (happens g (known tokens)) refl refl refl refl (kept_all g (checked tokens) (checked_role tokens) b)
+kept_happens adds sounds g (known tokens) even s b = kept_as (record g { clients = at_all (checked tokens) g.clients }) (happens g (known tokens)) refl refl refl refl (kept_all g (checked tokens) (role-checked tokens) b)
 kept_happens adds sounds g ticked even s b = kept_all g (beating g.entries) (λ c. refl) b
-kept_happens adds sounds g synced even s b = kept_as (record g { clients = at_all released g.clients }) (happens g synced) refl refl refl refl (kept_all g released released_role b)
-kept_happens adds sounds g (handed m) even s b = kept_as (record g { clients = at_client m handing g.clients }) (happens g (handed m)) refl refl refl refl (kept_one g m handing handing_role b)
+kept_happens adds sounds g synced even s b = kept_as (record g { clients = at_all released g.clients }) (happens g synced) refl refl refl refl (kept_all g released role-released b)
+kept_happens adds sounds g (handed m) even s b = kept_as (record g { clients = at_client m handing g.clients }) (happens g (handed m)) refl refl refl refl (kept_one g m handing role-handing b)
 kept_happens adds sounds g (arrived st) even s b = kept_takes sounds g st s b
 kept_happens adds sounds g forgave even s b = kept_as g (happens g forgave) refl refl refl refl b
 kept_happens adds sounds g failed even s b = kept_as g (happens g failed) refl refl refl refl b
 
-pub kept_next : Adds → Sounds → (g : Gate) (e : Event) → AreEven g → IsSoundGate g → IsKept g → IsKept (next g e)
-kept_next adds sounds g e even s b = by g.dead
+pub IsKept-next : Adds → Sounds → (g : Gate) (e : Event) → AreEven g → IsSoundGate g → IsKept g → IsKept (next g e)
+IsKept-next adds sounds g e even s b = by g.dead
   where
     by : (t : Bool) → IsKept (cond t g (happens g e))
     by true = b
@@ -428,10 +430,10 @@ no_roles : (most : ℕ) (role : Name) → has_role role (replicate most None) �
 no_roles zero role = refl
 no_roles (suc n) role = no_roles n role
 
-pub kept_restored : Sounds → (cap : ℕ) → IsSoundState (start cap) → (tokens : List Token) (most : ℕ) (head : Head) (sent : List Shown) (journal : List Line) (g : Gate)
+pub IsKept-Restores : Sounds → (cap : ℕ) → IsSoundState (start cap) → (tokens : List Token) (most : ℕ) (head : Head) (sent : List Shown) (journal : List Line) (g : Gate)
     → Restores (gate_at_start cap tokens most head sent) journal g → IsKept g
-kept_restored sounds cap b tokens most head sent journal g r =
-    let x = led_from_start sounds cap b (map fact_of (requests_in g.entries)) r.leads.state r.leads.accepted in
+IsKept-Restores sounds cap b tokens most head sent journal g r =
+    let x = IsBegun-all_carried sounds cap b (map fact_of (requests_in g.entries)) r.leads.state r.leads.accepted in
     subst IsKept (sym r.leads.gate) (record {
       shared = record {
         sessions = ap numbers_in x.sessions;

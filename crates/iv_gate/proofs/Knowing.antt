@@ -16,7 +16,7 @@ use Rattle.iv_clients.specs.Journal.{Entry, Request, claim_said, is_shape, is_sh
 use Rattle.iv_clients.specs.Names.{Claim}
 use Rattle.iv_clients.specs.Tokens.{Token}
 use Rattle.iv_once.specs.Names.{Ask, Verdict, carry, again, another, late, foreign, ahead, verdict}
-use Rattle.iv_clients.proofs.Slots.{one_some, some_is_none}
+use Rattle.iv_clients.proofs.Slots.{same-Some, not_None-Some}
 use Rattle.iv_gate.specs.Arriving.{Step, entry_of, newly}
 use Rattle.iv_gate.specs.Events.{Event, presented, message, gone, known, ticked, synced, handed, arrived, forgave, failed, happens, next}
 use Rattle.iv_gate.specs.Gate.{Gate, answering, asked_by, at_text, entries_of, granted_by, has_shape_room, hears, in_session, is_accepted, may_have, most_shape, names_of, reply_in, reply_to, said, shape_text}
@@ -24,21 +24,21 @@ use Rattle.iv_gate.specs.Implied.{ShapeIsBounded}
 use Rattle.iv_gate.specs.Laws.{ShapeIsTold, is_made}
 use Rattle.iv_gate.specs.Replies.{added_by}
 use Rattle.iv_gate.specs.Runs.{Runs, begins, goes_on, begins_again}
-use Rattle.iv_gate.proofs.Answering.{was_there}
-use Rattle.iv_gate.proofs.Booking.{came_adds, went_adds}
-use Rattle.iv_gate.proofs.Entering.{same_card}
-use Rattle.iv_gate.proofs.Exact.{behind_same}
-use Rattle.iv_gate.proofs.Heeding.{all_both, all_flat}
-use Rattle.iv_gate.proofs.Lasting.{Starts, restored_empty, runs_sound}
+use Rattle.iv_gate.proofs.Answering.{dropped-IsClient}
+use Rattle.iv_gate.proofs.Booking.{entries-came, entries-went}
+use Rattle.iv_gate.proofs.Entering.{role-card_behind}
+use Rattle.iv_gate.proofs.Exact.{same-append_front}
+use Rattle.iv_gate.proofs.Heeding.{AllByRecursion-append, AllByRecursion-flat_map}
+use Rattle.iv_gate.proofs.Lasting.{Starts, not_client_at-Restores, IsSoundGate-Runs}
 use Rattle.iv_gate.proofs.News.{Hears, IsToldOutcome, grants_of, quietly, by_command, by_contents}
-use Rattle.iv_gate.proofs.Noticing.{HearsBy, IsToldStep, heard, untaken, taken, next_all}
-use Rattle.iv_gate.proofs.Replying.{act_added, adds_said, asked, carried_reply, decided_added, said_added, shared_added, verdict_added}
-use Rattle.iv_gate.proofs.Running.{all_true}
-use Rattle.iv_gate.proofs.Shaping.{all_made, filter_none, filter_whole, shape_both, shape_in, shape_more, shape_none, told_fresh}
+use Rattle.iv_gate.proofs.Noticing.{HearsBy, IsToldStep, heard, untaken, taken, HearsBy-next}
+use Rattle.iv_gate.proofs.Replying.{act_added, entries-done_for, asked, carried_reply, decided_added, said_added, shared_added, verdict_added}
+use Rattle.iv_gate.proofs.Running.{AllByRecursion-always}
+use Rattle.iv_gate.proofs.Shaping.{all_made, filter-all_false, filter-all_true, shape_of-append, shape_in, shape_for-append, shape_for-none, told-fresh}
 use Rattle.iv_gate.proofs.Sound.{Adds, IsSoundGate, Sounds}
 use Rattle.iv_gate.proofs.Signs.{Card}
 use Rattle.iv_gate.proofs.Stepping.{request_of}
-use Rattle.iv_gate.proofs.Touching.{is_gone, entered_by_event, rests, touched}
+use Rattle.iv_gate.proofs.Touching.{is_gone, entries-next, next-dead, AreTouched-next}
 
 -- ---- a command tells nothing of it
 
@@ -63,7 +63,7 @@ names_other [] = tt
 names_other (n ∷ names) = (refl, names_other names)
 
 lines_other : (feeds : List Feed) (ls : List Line) (xs : List Sub) → AllByRecursion IsOther (own_lines feeds ls xs)
-lines_other feeds ls xs = all_flat IsOther (λ l. flat_map (own_line feeds l) xs) ls (all_true (λ l. all_flat IsOther (own_line feeds l) xs (all_true (λ y. line_other feeds l y) xs)) ls)
+lines_other feeds ls xs = AllByRecursion-flat_map IsOther (λ l. flat_map (own_line feeds l) xs) ls (AllByRecursion-always (λ l. AllByRecursion-flat_map IsOther (own_line feeds l) xs (AllByRecursion-always (λ y. line_other feeds l y) xs)) ls)
 
 granted_other : (b : Bool) (names : List Name) → AllByRecursion IsOther (cond b (map granted names) [])
 granted_other true names = names_other names
@@ -83,20 +83,20 @@ module _ (g h : Gate) (c d : Client) (es : List Entry) (e : h.entries ≡ g.entr
   more_of more t s = ap (filter is_made) t ∙ (filter-append is_made (told c) more ∙ ap (λ z. filter is_made (told c) ++ z) s)
 
   none_asked : requests_in h.entries ≡ requests_in g.entries → requests_in es ≡ []
-  none_asked n = behind_same (requests_in g.entries) (requests_in es) [] (sym (requests_both g.entries es) ∙ (sym (ap requests_in e) ∙ (n ∙ sym (append-nil (requests_in g.entries)))))
+  none_asked n = same-append_front (requests_in g.entries) (requests_in es) [] (sym (requests_both g.entries es) ∙ (sym (ap requests_in e) ∙ (n ∙ sym (append-nil (requests_in g.entries)))))
 
   none_shown : requests_in h.entries ≡ requests_in g.entries → [] ≡ shape_for c.role es
-  none_shown n = sym (ap (shape_by c.role) (none_asked n) ∙ shape_none c.role)
+  none_shown n = sym (ap (shape_by c.role) (none_asked n) ∙ shape_for-none c.role)
 
   outcome_made : (o : Outcome) (grants : List Told) (added : List Entry) → AllByRecursion IsOther grants → IsToldOutcome g h o grants added c d
       → filter is_made (told d) ≡ filter is_made (told c) ++ shape_for c.role es
   outcome_made o grants added k a =
       let lines = own_lines g.feeds o.lines c.subs ++ grants in
-      let none : filter is_made lines ≡ [] = filter_none is_made lines (all_both IsOther (own_lines g.feeds o.lines c.subs) grants (lines_other g.feeds o.lines c.subs) k) in
+      let none : filter is_made lines ≡ [] = filter-all_false is_made lines (AllByRecursion-append IsOther (own_lines g.feeds o.lines c.subs) grants (lines_other g.feeds o.lines c.subs) k) in
       more_of (a.front ++ (lines ++ a.back)) a.told
       (filter-append is_made a.front (lines ++ a.back)
       ∙ ((λ i. a.unmade i ++ (filter-append is_made lines a.back ∙ (λ j. none j ++ a.shape j)) i)
-      ∙ ap (shape_for c.role) (sym (behind_same g.entries es added (sym e ∙ a.entries)))))
+      ∙ ap (shape_for c.role) (sym (same-append_front g.entries es added (sym e ∙ a.entries)))))
 
   pub made_more : Hears g h c d → filter is_made (told d) ≡ filter is_made (told c) ++ shape_for c.role es
   made_more (quietly a n) = more_of a.more a.told (a.unmade ∙ none_shown n)
@@ -117,48 +117,50 @@ module _ (g h : Gate) (c d : Client) (es : List Entry) (e : h.entries ≡ g.entr
 
 greeting_shape : (es : List Entry) (t : Token) (at : List ℕ) → filter is_made (told (fresh es t at)) ≡ shape_for t.role es
 greeting_shape es t at =
-    ap (filter is_made) (told_fresh es t at)
+    ap (filter is_made) (told-fresh es t at)
     ∙ (filter-append is_made (shape_for t.role es) (settled ∷ [])
-    ∙ (append-nil (filter is_made (shape_for t.role es)) ∙ filter_whole is_made (shape_for t.role es) (all_made (λ x. is_made x ≡ true) (λ r line. refl) t.role es)))
+    ∙ (append-nil (filter is_made (shape_for t.role es)) ∙ filter-all_true is_made (shape_for t.role es) (all_made (λ x. is_made x ≡ true) (λ r line. refl) t.role es)))
 
 next_shape : Sounds → (g : Gate) (e : Event) → IsSoundGate g → ShapeIsTold g → ShapeIsTold (next g e)
 next_shape sounds g e b a m d x = by g.dead refl
   where
     role_stays : g.dead ≡ false → (c : Client) → client_at g.clients m ≡ Some c → (t : Bool) → is_gone m e ≡ t → d.role ≡ c.role
-    role_stays live c h true t = absurd (some_is_none d (sym x.there ∙ (touched g e live).leaves m t))
+    role_stays live c h true t = absurd (not_None-Some d (sym x.there ∙ (AreTouched-next g e live).leaves m t))
     role_stays live c h false t =
-        let k = (touched g e live).stays m c h t in
-        ap (λ (y : Client). y.role) (one_some d k.now (sym x.there ∙ k.there)) ∙ (ap (λ (y : Card). y.role) k.card ∙ (same_card m c e).0)
+        let k = (AreTouched-next g e live).stays m c h t in
+        ap (λ (y : Client). y.role) (same-Some d k.now (sym x.there ∙ k.there)) ∙ (ap (λ (y : Card). y.role) k.card ∙ (role-card_behind m c e).0)
 
     more_by : g.dead ≡ false → (c : Client) → HearsBy g e c d → filter is_made (told d) ≡ filter is_made (told c) ++ shape_for c.role (added_by g e)
-    more_by live c (heard n h) = made_more g (next g e) c d (added_by g e) (entered_by_event g e live) h
-    more_by live c (untaken n k same) = same_made g (next g e) c d (added_by g e) (entered_by_event g e live) (ap requests_in k) same
-    more_by live c (taken s q h) = step_made g (next g e) c d (added_by g e) (entered_by_event g e live) s h
+    more_by live c (heard n h) = made_more g (next g e) c d (added_by g e) (entries-next g e live) h
+    more_by live c (untaken n k same) = same_made g (next g e) c d (added_by g e) (entries-next g e live) (ap requests_in k) same
+    more_by live c (taken s q h) = step_made g (next g e) c d (added_by g e) (entries-next g e live) s h
 
     there : g.dead ≡ false → (o : Option Client) → client_at g.clients m ≡ o → filter is_made (told d) ≡ shape_for d.role (next g e).entries
     there live None h =
-        let n = (touched g e live).comes m d h x.there in
+        let n = (AreTouched-next g e live).comes m d h x.there in
         let at = at_text (next g e) n.token in
         ap (λ (c : Client). filter is_made (told c)) n.is ∙ (greeting_shape (next g e).entries n.token at ∙ ap (λ (c : Client). shape_for c.role (next g e).entries) (sym n.is))
     there live (Some c) h =
-        let stays = was_there g e m c d live h x in let more = entered_by_event g e live in
-        more_by live c (next_all sounds g e b m c d h stays x.there x.stays)
+        let stays = dropped-IsClient g e m c d live h x in let more = entries-next g e live in
+        more_by live c (HearsBy-next sounds g e b m c d h stays x.there x.stays)
         ∙ (ap (λ z. z ++ shape_for c.role (added_by g e)) (a m c (record { there = h; stays = stays }))
-        ∙ (sym (shape_more c.role g.entries (added_by g e)) ∙ (λ i. shape_for (sym (role_stays live c h (is_gone m e) refl) i) (sym more i))))
+        ∙ (sym (shape_for-append c.role g.entries (added_by g e)) ∙ (λ i. shape_for (sym (role_stays live c h (is_gone m e) refl) i) (sym more i))))
 
     by : (q : Bool) → g.dead ≡ q → filter is_made (told d) ≡ shape_for d.role (next g e).entries
-    by true q = a m d (record { there = ap (λ (y : Gate). client_at y.clients m) (sym (rests g e q)) ∙ x.there; stays = x.stays }) ∙ ap (λ (y : Gate). shape_for d.role y.entries) (sym (rests g e q))
+    by true q = a m d (record { there = ap (λ (y : Gate). client_at y.clients m) (sym (next-dead g e q)) ∙ x.there; stays = x.stays }) ∙ ap (λ (y : Gate). shape_for d.role y.entries) (sym (next-dead g e q))
     by false q = there q (client_at g.clients m) refl
 
-pub runs_shape : Adds → Starts → Sounds → (cap : ℕ) (g : Gate) → Runs cap g → ShapeIsTold g
-runs_shape adds starts sounds cap _ (begins tokens most head journal g r) = λ m c x. absurd (restored_empty cap tokens most head [] journal g r m c x.there)
-runs_shape adds starts sounds cap _ (goes_on h e w r) = next_shape sounds h e (runs_sound adds starts sounds cap h r) (runs_shape adds starts sounds cap h r)
-runs_shape adds starts sounds cap _ (begins_again h disk tokens most i r l y) = λ m c x. absurd (restored_empty cap tokens most h.head h.sent disk i y m c x.there)
+pub ShapeIsTold-Runs : Adds → Starts → Sounds → (cap : ℕ) (g : Gate) → Runs cap g → ShapeIsTold g
+ShapeIsTold-Runs adds starts sounds cap _ (begins tokens most head journal g r) =
+    λ m c x. absurd (not_client_at-Restores cap tokens most head [] journal g r m c x.there)
+ShapeIsTold-Runs adds starts sounds cap _ (goes_on h e w r) =
+    next_shape sounds h e (IsSoundGate-Runs adds starts sounds cap h r) (ShapeIsTold-Runs adds starts sounds cap h r)
+ShapeIsTold-Runs adds starts sounds cap _ (begins_again h disk tokens most i r l y) = λ m c x. absurd (not_client_at-Restores cap tokens most h.head h.sent disk i y m c x.there)
 
 -- ---- the bound
 
 text_both : (es fs : List Entry) → shape_text (es ++ fs) ≡ shape_text es ++ shape_text fs
-text_both es fs = ap (flat_map told_text) (shape_both es fs) ∙ flat_map-append told_text (shape_of es) (shape_of fs)
+text_both es fs = ap (flat_map told_text) (shape_of-append es fs) ∙ flat_map-append told_text (shape_of es) (shape_of fs)
 
 -- what makes nothing of the shape adds no text
 unshaped : (q : Request) (name : Option Ask) (r : Reply) → is_shape q.act ≡ false → shape_text (entries_of q name r) ≡ []
@@ -244,7 +246,7 @@ said_bounded g m text full = by (client_at g.clients m)
     heard_by c false = refl
     heard_by c true =
         let i = asked g m text in
-        ap shape_text (adds_said i m c text (said_by text))
+        ap shape_text (entries-done_for i m c text (said_by text))
         ∙ (text_both g.entries (said_added i c text (said_by text)) ∙ (ap (λ z. shape_text g.entries ++ z) (said_text i full c text (said_by text)) ∙ append-nil (shape_text g.entries)))
 
     by : (o : Option Client) → shape_text (if_some o g (λ c. cond (may_say c) (hears g m c text) g)).entries ≡ shape_text g.entries
@@ -252,13 +254,13 @@ said_bounded g m text full = by (client_at g.clients m)
     by (Some c) = heard_by c (may_say c)
 
 -- no other event adds to the journal, but a step
-pub shape_bounded : (g : Gate) (e : Event) → ShapeIsBounded g e
-shape_bounded g e none full = by g.dead
+pub ShapeIsBounded-event : (g : Gate) (e : Event) → ShapeIsBounded g e
+ShapeIsBounded-event g e none full = by g.dead
   where
     other : (f : Event) → ((s : Step) → f ≡ arrived s → ⊥) → shape_text (happens g f).entries ≡ shape_text g.entries
     other (message m text) n = said_bounded g m text full
-    other (presented m token) n = ap shape_text (came_adds g m token)
-    other (gone m) n = ap shape_text (went_adds g m)
+    other (presented m token) n = ap shape_text (entries-came g m token)
+    other (gone m) n = ap shape_text (entries-went g m)
     other (known tokens) n = refl
     other ticked n = refl
     other synced n = refl

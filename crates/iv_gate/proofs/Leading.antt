@@ -22,13 +22,13 @@ use Rattle.iv_gate.specs.Laws.{CrashesAreSafe, LeadsBack}
 use Rattle.iv_gate.specs.Replies.{ActsAs}
 use Rattle.iv_gate.specs.Restoring.{LeadOn, Restores, gate_at_start}
 use Rattle.iv_gate.specs.Runs.{Runs, begins, goes_on, begins_again}
-use Rattle.iv_gate.proofs.Arrived.{led_from_start}
-use Rattle.iv_gate.proofs.Asking.{seat_of_acts}
+use Rattle.iv_gate.proofs.Arrived.{IsBegun-all_carried}
+use Rattle.iv_gate.proofs.Asking.{ActsAs-seat_of}
 use Rattle.iv_gate.proofs.Booking.{IsBooked, Texts}
-use Rattle.iv_gate.proofs.Damage.{carried_append, facts_append, facts_of, front_leads, led}
-use Rattle.iv_gate.proofs.Holding.{front_taken, runs_written, taken_more}
-use Rattle.iv_gate.proofs.Lasting.{Starts, runs_sound}
-use Rattle.iv_gate.proofs.Replaying.{plain_same, refused_state, request_leads, shared_same}
+use Rattle.iv_gate.proofs.Damage.{all_carried-append, facts_of-append, facts_of, Leads-LeadOn, led}
+use Rattle.iv_gate.proofs.Holding.{IsFront-take, IsWritten-Runs, IsFront-take_take}
+use Rattle.iv_gate.proofs.Lasting.{Starts, IsSoundGate-Runs}
+use Rattle.iv_gate.proofs.Replaying.{SameShared-step, state-refused, carried-fact_of, shared-SameShared}
 use Rattle.iv_gate.proofs.Sound.{Adds, IsSoundGate, Sounds}
 use Rattle.iv_gate.proofs.Stepping.{Keeps, Steps, came_keeps, request_of, said_keeps, went_keeps}
 
@@ -46,8 +46,8 @@ facts_one e = ap (map fact_of) (append-nil e.requests)
 
 entry_more : (cap : ℕ) (es : List Entry) (e : Entry) (s t : State) → all_carried (map fact_of e.requests) (shared s) ≡ Some (shared t) → LeadTo cap es s → LeadTo cap (es ++ e ∷ []) t
 entry_more cap es e s t h l =
-    ap (λ fs. all_carried fs (start cap)) (facts_append es (e ∷ []) ∙ ap (λ fs. facts_of es ++ fs) (facts_one e))
-    ∙ (carried_append (start cap) (facts_of es) (map fact_of e.requests) ∙ (ap (option_and_then (all_carried (map fact_of e.requests))) l ∙ h))
+    ap (λ fs. all_carried fs (start cap)) (facts_of-append es (e ∷ []) ∙ ap (λ fs. facts_of es ++ fs) (facts_one e))
+    ∙ (all_carried-append (start cap) (facts_of es) (map fact_of e.requests) ∙ (ap (option_and_then (all_carried (map fact_of e.requests))) l ∙ h))
 
 none_more : (cap : ℕ) (es : List Entry) (s t : State) → shared s ≡ shared t → LeadTo cap es s → LeadTo cap (es ++ []) t
 none_more cap es s t same l = ap (λ z. all_carried (facts_of z) (start cap)) (append-nil es) ∙ (l ∙ ap Some same)
@@ -67,13 +67,13 @@ requests_led cap g m id q name n acts x l = by (is_shared q.act) x (is_accepted 
     entry y o = record { requests = cond y (q ∷ []) []; names = answering o (reply_in behind.lines); position = None }
 
     stays : is_accepted (reply_in behind.lines) ≡ false → shared g.machine ≡ shared behind.state
-    stays y = ap shared (sym (refused_state g.machine (in_session n q.act) y))
+    stays y = ap shared (sym (state-refused g.machine (in_session n q.act) y))
 
     by : (s : Bool) → s ≡ true → (y : Bool) → is_accepted (reply_in behind.lines) ≡ y → (o : Option Ask) → LeadTo cap (g.entries ++ cond (s && (y || is_some o)) (entry y o ∷ []) []) behind.state
     by false h y e o = absurd (false≢true h)
     by true h true e o =
         entry_more cap g.entries (entry true o) g.machine behind.state
-        (one_carried (fact_of q) (shared g.machine) (shared behind.state) (request_leads g.machine n q acts x e)) l
+        (one_carried (fact_of q) (shared g.machine) (shared behind.state) (carried-fact_of g.machine n q acts x e)) l
     by true h false e None = none_more cap g.entries g.machine behind.state (stays e) l
     by true h false e (Some a) = entry_more cap g.entries (entry false (Some a)) g.machine behind.state (ap Some (stays e)) l
 
@@ -89,7 +89,7 @@ refused_led cap g m id q a r h l = by (is_shared q.act) (is_accepted r) h
 -- ---- each step
 
 ran_led : (cap : ℕ) (g : Gate) (k : Command) → is_shared k.act ≡ false → IsLed cap g → IsLed cap (ran g k)
-ran_led cap g k h l = l ∙ ap Some (sym (shared_same (step g.machine k).state g.machine (plain_same g.machine k h)))
+ran_led cap g k h l = l ∙ ap Some (sym (shared-SameShared (step g.machine k).state g.machine (SameShared-step g.machine k h)))
 
 led_kit : (cap m : ℕ) → Steps m (Keeps (IsLed cap))
 led_kit cap m = record {
@@ -123,7 +123,7 @@ happens_led sounds cap g (message m text) b l = said_keeps (IsLed cap) (led_kit 
   says = λ x. x;
   answers = λ h x. x;
   asks = λ id act name n t shared seat x. requests_led cap (record g { clients = at_client m (saying text) g.clients }) m id (request_of c text act) name n
-      (seat_of_acts g b c.role n seat) shared x;
+      (ActsAs-seat_of g b c.role n seat) shared x;
   refuses = λ id act a r t shared x. refused_led cap (record g { clients = at_client m (saying text) g.clients }) m id (request_of c text act) a (refused r) refl x;
 }) l
 happens_led sounds cap g (gone m) b l = went_keeps (IsLed cap) (led_kit cap) g m (λ x. x) l
@@ -147,17 +147,18 @@ next_led sounds cap g e b l = by g.dead
 restored_led : Starts → Sounds → (cap : ℕ) (tokens : List Token) (most : ℕ) (head : Head) (sent : List Shown) (journal : List Line) (h : Gate)
     → Restores (gate_at_start cap tokens most head sent) journal h → IsLed cap h
 restored_led starts sounds cap tokens most head sent journal h r =
-    let b = led_from_start sounds cap (starts cap) (facts_of h.entries) r.leads.state r.leads.accepted in
+    let b = IsBegun-all_carried sounds cap (starts cap) (facts_of h.entries) r.leads.state r.leads.accepted in
     let quiet : r.leads.state ≡ shared r.leads.state = (λ i. record r.leads.state { frame = record r.leads.state.frame { sessions = b.sessions i; subscriptions = b.subscriptions i; last = b.last i } }) in
     r.leads.accepted ∙ ap Some (quiet ∙ ap (λ (x : Gate). shared x.machine) (sym r.leads.gate))
 
-pub runs_led : Adds → Starts → Sounds → (cap : ℕ) (g : Gate) → Runs cap g → IsLed cap g
-runs_led adds starts sounds cap _ (begins tokens most head journal g r) = restored_led starts sounds cap tokens most head [] journal g r
-runs_led adds starts sounds cap _ (goes_on g e w r) = next_led sounds cap g e (runs_sound adds starts sounds cap g r) (runs_led adds starts sounds cap g r)
-runs_led adds starts sounds cap _ (begins_again g disk tokens most h r l x) = restored_led starts sounds cap tokens most g.head g.sent disk h x
+pub IsLed-Runs : Adds → Starts → Sounds → (cap : ℕ) (g : Gate) → Runs cap g → IsLed cap g
+IsLed-Runs adds starts sounds cap _ (begins tokens most head journal g r) = restored_led starts sounds cap tokens most head [] journal g r
+IsLed-Runs adds starts sounds cap _ (goes_on g e w r) =
+    next_led sounds cap g e (IsSoundGate-Runs adds starts sounds cap g r) (IsLed-Runs adds starts sounds cap g r)
+IsLed-Runs adds starts sounds cap _ (begins_again g disk tokens most h r l x) = restored_led starts sounds cap tokens most g.head g.sent disk h x
 
-pub leads_back : Adds → Starts → Sounds → (cap : ℕ) (g : Gate) → Runs cap g → LeadsBack cap g
-leads_back adds starts sounds cap g r = runs_led adds starts sounds cap g r
+pub LeadsBack-Runs : Adds → Starts → Sounds → (cap : ℕ) (g : Gate) → Runs cap g → LeadsBack cap g
+LeadsBack-Runs adds starts sounds cap g r = IsLed-Runs adds starts sounds cap g r
 
 -- ---- crashes
 
@@ -167,12 +168,12 @@ is_safe cap g b h disk tokens most l =
     let on : LeadOn begun (take l.0 g.entries ++ drop l.0 g.entries) (led begun (take l.0 g.entries ++ drop l.0 g.entries) (shared g.machine)) =
     subst (λ es. LeadOn begun es (led begun es (shared g.machine))) (sym (take-append-drop l.0 g.entries))
     (record { state = shared g.machine; well = b.well; accepted = h; names = b.names; steps = b.steps; gate = refl }) in
-    let x = front_leads begun (led begun (take l.0 g.entries ++ drop l.0 g.entries) (shared g.machine)) (take l.0 g.entries) (drop l.0 g.entries) on in (
+    let x = Leads-LeadOn begun (led begun (take l.0 g.entries ++ drop l.0 g.entries) (shared g.machine)) (take l.0 g.entries) (drop l.0 g.entries) on in (
       led begun (take l.0 g.entries) x.state,
       record { all = l.2; leads = x.on },
-      taken_more g.kept l.0 g.entries l.1,
-      front_taken l.0 g.entries,
+      IsFront-take_take g.kept l.0 g.entries l.1,
+      IsFront-take l.0 g.entries,
     )
 
-pub crashes_are_safe : ReadsBack → Texts → Adds → Starts → Sounds → (cap : ℕ) (g : Gate) → Runs cap g → CrashesAreSafe cap g
-crashes_are_safe reads texts adds starts sounds cap g r = is_safe cap g (runs_written reads texts cap g r).booked (runs_led adds starts sounds cap g r)
+pub CrashesAreSafe-Runs : ReadsBack → Texts → Adds → Starts → Sounds → (cap : ℕ) (g : Gate) → Runs cap g → CrashesAreSafe cap g
+CrashesAreSafe-Runs reads texts adds starts sounds cap g r = is_safe cap g (IsWritten-Runs reads texts cap g r).booked (IsLed-Runs adds starts sounds cap g r)

@@ -13,15 +13,15 @@ use Rattle.iv_machine.specs.Refusing.{refusal}
 use Rattle.iv_machine.specs.State.{State, start}
 use Rattle.iv_steps.specs.Steps.{Fact, all_carried, carried, passed, shared}
 use Rattle.iv_clients.specs.Journal.{Request, is_shape, is_shared, requests_in}
-use Rattle.iv_clients.proofs.Cuts.{found}
-use Rattle.iv_clients.proofs.Slots.{one_some}
+use Rattle.iv_clients.proofs.Cuts.{Found-option_and_then}
+use Rattle.iv_clients.proofs.Slots.{same-Some}
 use Rattle.iv_gate.specs.Arriving.{fact_of}
 use Rattle.iv_gate.specs.Gate.{Gate}
 use Rattle.iv_gate.specs.Laws.{MakesShape}
 use Rattle.iv_gate.specs.Runs.{Runs}
 use Rattle.iv_gate.proofs.Lasting.{Starts}
-use Rattle.iv_gate.proofs.Leading.{runs_led}
-use Rattle.iv_gate.proofs.Replaying.{alone, finishes, left, left_bare, passes, state_of, was_led}
+use Rattle.iv_gate.proofs.Leading.{IsLed-Runs}
+use Rattle.iv_gate.proofs.Replaying.{alone, refusal-finish, left, left-shared, passed-refusal, state_of, WasLed-carried}
 use Rattle.iv_gate.proofs.Sound.{Adds, Sounds}
 
 -- ---- states of one shape
@@ -98,27 +98,27 @@ record HasMade (t u : State) (q : Request) : Type 0 where
 one_makes : (s t u : State) (q : Request) → SameShape s t → is_shape q.act ≡ true → carried (fact_of q) (shared s) ≡ Some u → HasMade (shared t) u q
 one_makes s t u q m x h =
     let cap = s.frame.cap in let R = s.frame.rights in let C = s.frame.catalog in let role = role_number R q.role in
-    let w = was_led s u q h in
+    let w = WasLed-carried s u q h in
     let from = state_of cap R C [] [] 0 t.rows in
     let mid = alone cap R C role 0 t.rows in
     let acted = settled q.act (after mid 1 q.act) in
     let end = left cap R C role 0 t.rows q.act in
-    let one : passed (begin q.role) from ≡ Some mid = passes from (begin q.role) w.begun in
-    let two : passed q.act mid ≡ Some acted = passes mid q.act (still_made cap R C role 0 0 s.rows t.rows q.act x w.acted) in
-    let three : passed finish acted ≡ Some end = passes acted finish (finishes cap R C role 0 t.rows q.act w.shared) in
+    let one : passed (begin q.role) from ≡ Some mid = passed-refusal from (begin q.role) w.begun in
+    let two : passed q.act mid ≡ Some acted = passed-refusal mid q.act (still_made cap R C role 0 0 s.rows t.rows q.act x w.acted) in
+    let three : passed finish acted ≡ Some end = passed-refusal acted finish (refusal-finish cap R C role 0 t.rows q.act w.shared) in
     let made : HasMade from u q = record {
       end = end;
       carries = ap (λ b. cond b (option_and_then (passed finish) (option_and_then (passed q.act) (passed (begin q.role) from))) None) w.shared
           ∙ (ap (λ o. option_and_then (passed finish) (option_and_then (passed q.act) o)) one ∙ (ap (option_and_then (passed finish)) two ∙ three));
       same = subst (λ z. SameShape z end) (sym w.ended) (same_made cap R C role 0 0 s.rows t.rows q.act x);
-      bare = left_bare cap R C role t.rows q.act w.shared;
+      bare = left-shared cap R C role t.rows q.act w.shared;
     } in
     let there : from ≡ shared t = (λ i. state_of (m.cap i) (m.rights i) (m.catalog i) [] [] 0 t.rows) in
     subst (λ z. HasMade z u q) there made
 
 none_makes : (s t u : State) (q : Request) → SameShape s t → is_shape q.act ≡ false → carried (fact_of q) (shared s) ≡ Some u → SameShape u t
 none_makes s t u q m x h =
-    let w = was_led s u q h in
+    let w = WasLed-carried s u q h in
     let n : SameShape u (state_of s.frame.cap s.frame.rights s.frame.catalog [] [] 0 t.rows) =
     subst (λ z. SameShape z (state_of s.frame.cap s.frame.rights s.frame.catalog [] [] 0 t.rows)) (sym w.ended)
     (not_made s.frame.cap s.frame.rights s.frame.catalog (role_number s.frame.rights q.role) 0 0 s.rows t.rows q.act w.shared x) in
@@ -139,14 +139,14 @@ all_make : (s t u : State) (qs : List Request) → SameShape s t → all_carried
 all_make s t u [] m h = record {
   end = shared t;
   carries = refl;
-  same = subst (λ z. SameShape z (shared t)) (one_some (shared s) u h) (record { cap = m.cap; rights = m.rights; catalog = m.catalog });
+  same = subst (λ z. SameShape z (shared t)) (same-Some (shared s) u h) (record { cap = m.cap; rights = m.rights; catalog = m.catalog });
   bare = refl;
 }
 all_make s t u (q ∷ qs) m h =
-    let f = found (all_carried (map fact_of qs)) (carried (fact_of q) (shared s)) u h in
-    let w = was_led s f.of q f.there in
+    let f = Found-option_and_then (all_carried (map fact_of qs)) (carried (fact_of q) (shared s)) u h in
+    let w = WasLed-carried s f.of q f.there in
     let bare : f.of ≡ shared f.of =
-    w.ended ∙ (left_bare s.frame.cap s.frame.rights s.frame.catalog (role_number s.frame.rights q.role) s.rows q.act w.shared ∙ ap shared (sym w.ended)) in
+    w.ended ∙ (left-shared s.frame.cap s.frame.rights s.frame.catalog (role_number s.frame.rights q.role) s.rows q.act w.shared ∙ ap shared (sym w.ended)) in
     by f.of f.there (is_shape q.act) refl (λ v n. all_make f.of v u qs n (ap (all_carried (map fact_of qs)) (sym bare) ∙ f.is))
   where
     by : (mid : State) → carried (fact_of q) (shared s) ≡ Some mid → (b : Bool) → is_shape q.act ≡ b → ((v : State) → SameShape mid v → AllMake v u qs) → AllMake t u (q ∷ qs)
@@ -168,8 +168,8 @@ all_make s t u (q ∷ qs) m h =
           bare = r.bare;
         }
 
-pub runs_make : Adds → Starts → Sounds → (cap : ℕ) (g : Gate) → Runs cap g → MakesShape cap g
-runs_make adds starts sounds cap g r =
-    let m = all_make (start cap) (start cap) (shared g.machine) (requests_in g.entries) (record { cap = refl; rights = refl; catalog = refl }) (runs_led adds starts sounds cap g r) in
+pub MakesShape-Runs : Adds → Starts → Sounds → (cap : ℕ) (g : Gate) → Runs cap g → MakesShape cap g
+MakesShape-Runs adds starts sounds cap g r =
+    let m = all_make (start cap) (start cap) (shared g.machine) (requests_in g.entries) (record { cap = refl; rights = refl; catalog = refl }) (IsLed-Runs adds starts sounds cap g r) in
     let frame : m.end.frame ≡ (shared g.machine).frame = ap (λ (z : State). z.frame) m.bare ∙ (λ i. record { cap = sym m.same.cap i; rights = sym m.same.rights i; catalog = sym m.same.catalog i; sessions = []; subscriptions = []; last = 0 }) in
     ap (option_map (λ (s : State). s.frame)) m.carries ∙ ap Some frame

@@ -11,9 +11,9 @@ use Rattle.iv_gate.specs.Events.{Event, next}
 use Rattle.iv_gate.specs.Gate.{Gate, Head, place_at}
 use Rattle.iv_gate.specs.Implied.{IsPast, StaysPast}
 use Rattle.iv_gate.specs.Replies.{added_by, count_of}
-use Rattle.iv_gate.proofs.Positions.{head_stays}
+use Rattle.iv_gate.proofs.Positions.{head-marks_behind}
 use Rattle.iv_gate.proofs.Signs.{Marks}
-use Rattle.iv_gate.proofs.Touching.{entered_by_event, marked_by_event, rests}
+use Rattle.iv_gate.proofs.Touching.{entries-next, marks-next, next-dead}
 
 abbrev names_of : List ℕ → List Entry → List Named
 names_of holder es = filter (λ (e : Named). bytes_eq e.ask.holder holder) (names_in es)
@@ -33,21 +33,21 @@ counts_more g h more holder e f =
     no_less : (a b c d x : ℕ) → c ≡ a → d ≡ b + x → a + b ≤ c + d
     no_less a b c d x p n = omega (arith, p, n)
 
-pub stays_past : (g : Gate) (e : Event) → StaysPast g e
-stays_past g e a p = by g.dead refl
+pub StaysPast-event : (g : Gate) (e : Event) → StaysPast g e
+StaysPast-event g e a p = by g.dead refl
   where
     less : (x y z : ℕ) → x < y → y ≤ z → x < z
     less x y z l m = omega (arith, l, m)
 
     head : g.dead ≡ false → (next g e).head ≡ g.head
-    head d = ap (λ (x : Marks). x.head) (marked_by_event g e d) ∙ head_stays g e
+    head d = ap (λ (x : Marks). x.head) (marks-next g e d) ∙ head-marks_behind g e
 
     further : g.dead ≡ false → IsPast g a → IsPast (next g e) a
     further d (inl l) =
         inl (less (a.at.count + limits.names) (count_of g a.holder) (count_of (next g e) a.holder) l
-        (counts_more g (next g e) (added_by g e) a.holder (head d) (entered_by_event g e d)))
+        (counts_more g (next g e) (added_by g e) a.holder (head d) (entries-next g e d)))
     further d (inr n) = inr (λ s. n (s ∙ ap (λ (z : Head). (place_at z a.holder).epoch) (head d)))
 
     by : (b : Bool) → g.dead ≡ b → IsPast (next g e) a
-    by true d = subst (λ (x : Gate). IsPast x a) (sym (rests g e d)) p
+    by true d = subst (λ (x : Gate). IsPast x a) (sym (next-dead g e d)) p
     by false d = further d p

@@ -16,10 +16,10 @@ use Rattle.iv_gate.specs.Replies.{added_by}
 use Rattle.iv_gate.specs.Restoring.{are_rising}
 use Rattle.iv_gate.specs.Runs.{Runs, goes_on}
 use Rattle.iv_gate.proofs.Booking.{Texts}
-use Rattle.iv_gate.proofs.Damage.{both_so, front_rising}
-use Rattle.iv_gate.proofs.Holding.{all_taken, front_self, front_taken, runs_written, same_entries, taken_more}
+use Rattle.iv_gate.proofs.Damage.{both_so, are_rising-append_front}
+use Rattle.iv_gate.proofs.Holding.{AllByRecursion-take, IsFront-itself, IsFront-take, IsWritten-Runs, same-journal_of, IsFront-take_take}
 use Rattle.iv_gate.proofs.Signs.{Marks, marks}
-use Rattle.iv_gate.proofs.Touching.{entered_by_event, marked_by_event, marks_behind, rests}
+use Rattle.iv_gate.proofs.Touching.{entries-next, marks-next, marks_behind, next-dead}
 
 -- ---- positions of entries
 
@@ -66,21 +66,21 @@ kept_more g (handed m) k = omega arith
 kept_more g forgave k = omega arith
 kept_more g failed k = omega arith
 
-pub head_stays : (g : Gate) (e : Event) → (marks_behind g e).head ≡ g.head
-head_stays g (arrived s) = by (is_some (fault_of g s))
+pub head-marks_behind : (g : Gate) (e : Event) → (marks_behind g e).head ≡ g.head
+head-marks_behind g (arrived s) = by (is_some (fault_of g s))
   where
     by : (b : Bool) → (cond b (record (marks g) { dead = true }) (marks g)).head ≡ g.head
     by true = refl
     by false = refl
-head_stays g synced = refl
-head_stays g (presented m token) = refl
-head_stays g (message m text) = refl
-head_stays g (gone m) = refl
-head_stays g (known tokens) = refl
-head_stays g ticked = refl
-head_stays g (handed m) = refl
-head_stays g forgave = refl
-head_stays g failed = refl
+head-marks_behind g synced = refl
+head-marks_behind g (presented m token) = refl
+head-marks_behind g (message m text) = refl
+head-marks_behind g (gone m) = refl
+head-marks_behind g (known tokens) = refl
+head-marks_behind g ticked = refl
+head-marks_behind g (handed m) = refl
+head-marks_behind g forgave = refl
+head-marks_behind g failed = refl
 
 -- what is on disk is a front of what is on disk later
 record GoesFurther (g h : Gate) : Type 0 where
@@ -89,7 +89,7 @@ record GoesFurther (g h : Gate) : Type 0 where
   kept : IsFront (take g.kept g.entries) (take h.kept h.entries)
 
 taken_rising : (p n : ℕ) (es : List Entry) → are_rising p es ≡ true → are_rising p (take n es) ≡ true
-taken_rising p n es h = front_rising p (take n es) (drop n es) (ap (are_rising p) (take-append-drop n es) ∙ h)
+taken_rising p n es h = are_rising-append_front p (take n es) (drop n es) (ap (are_rising p) (take-append-drop n es) ∙ h)
 
 further : (g h : Gate) → GoesFurther g h → are_rising h.head.position h.entries ≡ true → (position g ≤ position h) × (settled_at g ≤ settled_at h)
 further g h f r = (
@@ -102,34 +102,35 @@ goes_further : (g : Gate) (e : Event) → g.kept ≤ length g.entries → GoesFu
 goes_further g e k = by g.dead refl
   where
     by : (b : Bool) → g.dead ≡ b → GoesFurther g (next g e)
-    by true d = subst (GoesFurther g) (sym (rests g e d)) (record { head = refl; entries = front_self g.entries; kept = front_self (take g.kept g.entries) })
+    by true d =
+      subst (GoesFurther g) (sym (next-dead g e d)) (record { head = refl; entries = IsFront-itself g.entries; kept = IsFront-itself (take g.kept g.entries) })
     by false d =
-        let m = marked_by_event g e d in let grown = entered_by_event g e d in
-        let more = taken_more g.kept (marks_behind g e).kept (g.entries ++ added_by g e) (kept_more g e k) in
+        let m = marks-next g e d in let grown = entries-next g e d in
+        let more = IsFront-take_take g.kept (marks_behind g e).kept (g.entries ++ added_by g e) (kept_more g e k) in
         record {
-          head = ap (λ (x : Marks). x.head) m ∙ head_stays g e;
+          head = ap (λ (x : Marks). x.head) m ∙ head-marks_behind g e;
           entries = (added_by g e, grown);
           kept = subst (λ z. IsFront z (take (next g e).kept (next g e).entries)) (take-append-le g.kept g.entries (added_by g e) k)
               (subst (IsFront (take g.kept (g.entries ++ added_by g e))) (λ i. take ((sym m i).kept) (sym grown i)) more);
         }
 
-pub positions_rise : ReadsBack → Texts → (cap : ℕ) (g : Gate) (e : Event) → Runs cap g → IsWell e → PositionsRise g e
-positions_rise reads texts cap g e r w =
-    let now = runs_written reads texts cap g r in let then = runs_written reads texts cap (next g e) (goes_on g e w r) in
+pub PositionsRise-Runs : ReadsBack → Texts → (cap : ℕ) (g : Gate) (e : Event) → Runs cap g → IsWell e → PositionsRise g e
+PositionsRise-Runs reads texts cap g e r w =
+    let now = IsWritten-Runs reads texts cap g r in let then = IsWritten-Runs reads texts cap (next g e) (goes_on g e w r) in
     let f = further g (next g e) (goes_further g e now.held.kept) then.booked.steps in
-    (f.0, f.1, front_position g.head.position (take g.kept g.entries) g.entries (front_taken g.kept g.entries) now.booked.steps)
+    (f.0, f.1, front_position g.head.position (take g.kept g.entries) g.entries (IsFront-take g.kept g.entries) now.booked.steps)
 
 -- ---- after a crash
 
-pub positions_last : ReadsBack → Texts → (cap : ℕ) (g : Gate) → Runs cap g → PositionsLast cap g
-positions_last reads texts cap g r disk tokens most h l x =
-    let w = runs_written reads texts cap g r in
-    let same : take l.0 g.entries ≡ h.entries = same_entries reads (take l.0 g.entries) h.entries (all_taken IsEntry l.0 g.entries w.booked.well) x.leads.well (sym l.2 ∙ x.all) in
+pub PositionsLast-Runs : ReadsBack → Texts → (cap : ℕ) (g : Gate) → Runs cap g → PositionsLast cap g
+PositionsLast-Runs reads texts cap g r disk tokens most h l x =
+    let w = IsWritten-Runs reads texts cap g r in
+    let same : take l.0 g.entries ≡ h.entries = same-journal_of reads (take l.0 g.entries) h.entries (AllByRecursion-take IsEntry l.0 g.entries w.booked.well) x.leads.well (sym l.2 ∙ x.all) in
     let head : h.head ≡ g.head = ap (λ (z : Gate). z.head) x.leads.gate in
     let kept : h.kept ≡ length h.entries = ap (λ (z : Gate). z.kept) x.leads.gate in
     let settled : settled_at h ≡ position_of g.head.position (take l.0 g.entries) =
     (λ i. position_of (head i).position (take (kept i) h.entries)) ∙ (ap (position_of g.head.position) (take-length h.entries) ∙ ap (position_of g.head.position) (sym same)) in (
       subst (λ n. settled_at g ≤ n) (sym settled)
-          (front_position g.head.position (take g.kept g.entries) (take l.0 g.entries) (taken_more g.kept l.0 g.entries l.1) (taken_rising g.head.position l.0 g.entries w.booked.steps)),
-      subst (λ n. n ≤ position g) (sym settled) (front_position g.head.position (take l.0 g.entries) g.entries (front_taken l.0 g.entries) w.booked.steps),
+          (front_position g.head.position (take g.kept g.entries) (take l.0 g.entries) (IsFront-take_take g.kept l.0 g.entries l.1) (taken_rising g.head.position l.0 g.entries w.booked.steps)),
+      subst (λ n. n ≤ position g) (sym settled) (front_position g.head.position (take l.0 g.entries) g.entries (IsFront-take l.0 g.entries) w.booked.steps),
     )

@@ -15,13 +15,13 @@ use Rattle.iv_machine.specs.Machine.{outcome, reply_to, settled, step}
 use Rattle.iv_machine.specs.Refusing.{entries_present, first, frame_refusal, or_else, refusal, rows_refusal, session_test, test, tests_by}
 use Rattle.iv_machine.specs.State.{State, Frame, Session, Subscription, actor, is_within}
 use Rattle.iv_clients.specs.Journal.{Request, is_shared}
-use Rattle.iv_clients.proofs.Cuts.{found}
-use Rattle.iv_clients.proofs.Slots.{one_some, some_is_none}
+use Rattle.iv_clients.proofs.Cuts.{Found-option_and_then}
+use Rattle.iv_clients.proofs.Slots.{same-Some, not_None-Some}
 use Rattle.iv_gate.specs.Gate.{in_session, is_accepted, reply_in}
 use Rattle.iv_gate.specs.Replies.{ActsAs}
 use Rattle.iv_gate.specs.Arriving.{fact_of}
-use Rattle.iv_gate.proofs.Asking.{accepted_by}
-use Rattle.iv_gate.proofs.Machine.{first_none, later_none}
+use Rattle.iv_gate.proofs.Asking.{None-is_accepted}
+use Rattle.iv_gate.proofs.Machine.{None-or_else_first, None-or_else_later}
 use Rattle.iv_steps.specs.Steps.{carried, passed, shared}
 
 -- ---- states
@@ -49,22 +49,22 @@ alone cap R C role last T = state_of cap R C (record { number = 1; role = role }
 
 -- ---- what is accepted
 
-pub replies_well : (f : Frame) (act : Act) → is_accepted (reply_to f act) ≡ true
-replies_well f (begin name) = refl
-replies_well f finish = refl
-replies_well f (create_role name) = refl
-replies_well f (create_table name owner columns) = refl
-replies_well f (create_view name owner query) = refl
-replies_well f (grant rel privileges to) = refl
-replies_well f (revoke rel privileges to) = refl
-replies_well f (grant_role group to) = refl
-replies_well f (revoke_role group to) = refl
-replies_well f (row_security rel enable force) = refl
-replies_well f (create_policy p) = refl
-replies_well f (drop_policy rel name) = refl
-replies_well f (subscribe rel) = refl
-replies_well f (unsubscribe k) = refl
-replies_well f (write entries) = refl
+pub is_accepted-reply_to : (f : Frame) (act : Act) → is_accepted (reply_to f act) ≡ true
+is_accepted-reply_to f (begin name) = refl
+is_accepted-reply_to f finish = refl
+is_accepted-reply_to f (create_role name) = refl
+is_accepted-reply_to f (create_table name owner columns) = refl
+is_accepted-reply_to f (create_view name owner query) = refl
+is_accepted-reply_to f (grant rel privileges to) = refl
+is_accepted-reply_to f (revoke rel privileges to) = refl
+is_accepted-reply_to f (grant_role group to) = refl
+is_accepted-reply_to f (revoke_role group to) = refl
+is_accepted-reply_to f (row_security rel enable force) = refl
+is_accepted-reply_to f (create_policy p) = refl
+is_accepted-reply_to f (drop_policy rel name) = refl
+is_accepted-reply_to f (subscribe rel) = refl
+is_accepted-reply_to f (unsubscribe k) = refl
+is_accepted-reply_to f (write entries) = refl
 
 -- what a command leads to that is accepted
 abbrev pub changed : State → Command → State
@@ -73,14 +73,14 @@ changed s k = settled k.act (after s k.session k.act)
 pub accepted_state : (s : State) (k : Command) → refusal s k.session k.act ≡ None → (step s k).state ≡ changed s k
 accepted_state s k h = ap (λ o. (outcome s k o).state) h
 
-pub passes : (s : State) (act : Act) → refusal s 1 act ≡ None → passed act s ≡ Some (changed s (in_session 1 act))
-passes s act h = ap (λ o. cond (is_some o) None (Some (step s (in_session 1 act)).state)) h ∙ ap Some (accepted_state s (in_session 1 act) h)
+pub passed-refusal : (s : State) (act : Act) → refusal s 1 act ≡ None → passed act s ≡ Some (changed s (in_session 1 act))
+passed-refusal s act h = ap (λ o. cond (is_some o) None (Some (step s (in_session 1 act)).state)) h ∙ ap Some (accepted_state s (in_session 1 act) h)
 
-pub refused_state : (s : State) (k : Command) → is_accepted (reply_in (step s k).lines) ≡ false → (step s k).state ≡ s
-refused_state s k h = by (refusal s k.session k.act) h
+pub state-refused : (s : State) (k : Command) → is_accepted (reply_in (step s k).lines) ≡ false → (step s k).state ≡ s
+state-refused s k h = by (refusal s k.session k.act) h
   where
     by : (o : Option Refusal) → is_accepted (reply_in (outcome s k o).lines) ≡ false → (outcome s k o).state ≡ s
-    by None e = absurd (false≢true (sym e ∙ replies_well s.frame k.act))
+    by None e = absurd (false≢true (sym e ∙ is_accepted-reply_to s.frame k.act))
     by (Some r) e = refl
 
 -- ---- what changes nothing that is shared
@@ -102,8 +102,8 @@ plain_changed s n (create_policy p) h = absurd (false≢true (sym h))
 plain_changed s n (drop_policy rel name) h = absurd (false≢true (sym h))
 plain_changed s n (write entries) h = absurd (false≢true (sym h))
 
-pub plain_same : (s : State) (k : Command) → is_shared k.act ≡ false → SameShared (step s k).state s
-plain_same s k h = by (refusal s k.session k.act)
+pub SameShared-step : (s : State) (k : Command) → is_shared k.act ≡ false → SameShared (step s k).state s
+SameShared-step s k h = by (refusal s k.session k.act)
   where
     by : (o : Option Refusal) → SameShared (outcome s k o).state s
     by None = plain_changed s k.session k.act h
@@ -161,10 +161,10 @@ still_accepted : (cap : ℕ) (R : Rights) (C : List CatalogEntry) (ss : List Ses
     → refusal (state_of cap R C ss es last T) n act ≡ None → refusal (alone cap R C role later T) 1 act ≡ None
 still_accepted cap R C ss es last later T n role act x acts h =
     let s = state_of cap R C ss es last T in let t = alone cap R C role later T in
-    let f : first (tests_by s.frame n (actor s.frame n) act) ≡ None = later_none (session_test s.frame n act) _ (first_none (frame_refusal s.frame n act) (rows_refusal s n act) h) in
+    let f : first (tests_by s.frame n (actor s.frame n) act) ≡ None = None-or_else_later (session_test s.frame n act) _ (None-or_else_first (frame_refusal s.frame n act) (rows_refusal s n act) h) in
     both_none (frame_refusal t.frame 1 act) (rows_refusal t 1 act)
     (frame_tests cap R C ss es last later T n role act x (subst (λ r. first (tests_by s.frame n r act) ≡ None) acts f))
-    (rows_tests cap R C ss es last later T n role act x (later_none (frame_refusal s.frame n act) (rows_refusal s n act) h))
+    (rows_tests cap R C ss es last later T n role act x (None-or_else_later (frame_refusal s.frame n act) (rows_refusal s n act) h))
 
 -- where a request leads that is carried out alone
 abbrev pub left : ℕ → Rights → List CatalogEntry → ℕ → ℕ → Lists → Act → State
@@ -190,27 +190,27 @@ left_is_shared cap R C ss es last T n role (drop_policy rel name) x = refl
 left_is_shared cap R C ss es last T n role (write entries) x = refl
 
 -- the session can be finished
-pub finishes : (cap : ℕ) (R : Rights) (C : List CatalogEntry) (role last : ℕ) (T : Lists) (act : Act) → is_shared act ≡ true
+pub refusal-finish : (cap : ℕ) (R : Rights) (C : List CatalogEntry) (role last : ℕ) (T : Lists) (act : Act) → is_shared act ≡ true
     → refusal (settled act (after (alone cap R C role last T) 1 act)) 1 finish ≡ None
-finishes cap R C role last T (begin name) x = absurd (false≢true x)
-finishes cap R C role last T finish x = absurd (false≢true x)
-finishes cap R C role last T (subscribe rel) x = absurd (false≢true x)
-finishes cap R C role last T (unsubscribe k) x = absurd (false≢true x)
-finishes cap R C role last T (create_role name) x = refl
-finishes cap R C role last T (create_table name owner columns) x = refl
-finishes cap R C role last T (create_view name owner query) x = refl
-finishes cap R C role last T (grant rel privileges to) x = refl
-finishes cap R C role last T (revoke rel privileges to) x = refl
-finishes cap R C role last T (grant_role group to) x = refl
-finishes cap R C role last T (revoke_role group to) x = refl
-finishes cap R C role last T (row_security rel enable force) x = refl
-finishes cap R C role last T (create_policy p) x = refl
-finishes cap R C role last T (drop_policy rel name) x = refl
-finishes cap R C role last T (write entries) x = refl
+refusal-finish cap R C role last T (begin name) x = absurd (false≢true x)
+refusal-finish cap R C role last T finish x = absurd (false≢true x)
+refusal-finish cap R C role last T (subscribe rel) x = absurd (false≢true x)
+refusal-finish cap R C role last T (unsubscribe k) x = absurd (false≢true x)
+refusal-finish cap R C role last T (create_role name) x = refl
+refusal-finish cap R C role last T (create_table name owner columns) x = refl
+refusal-finish cap R C role last T (create_view name owner query) x = refl
+refusal-finish cap R C role last T (grant rel privileges to) x = refl
+refusal-finish cap R C role last T (revoke rel privileges to) x = refl
+refusal-finish cap R C role last T (grant_role group to) x = refl
+refusal-finish cap R C role last T (revoke_role group to) x = refl
+refusal-finish cap R C role last T (row_security rel enable force) x = refl
+refusal-finish cap R C role last T (create_policy p) x = refl
+refusal-finish cap R C role last T (drop_policy rel name) x = refl
+refusal-finish cap R C role last T (write entries) x = refl
 
 -- and nobody is left
-pub left_bare : (cap : ℕ) (R : Rights) (C : List CatalogEntry) (role : ℕ) (T : Lists) (act : Act) → is_shared act ≡ true → left cap R C role 0 T act ≡ shared (left cap R C role 0 T act)
-left_bare cap R C role T act x = let e = left_is_shared cap R C [] [] 0 T 1 role act x in e ∙ ap shared (sym e)
+pub left-shared : (cap : ℕ) (R : Rights) (C : List CatalogEntry) (role : ℕ) (T : Lists) (act : Act) → is_shared act ≡ true → left cap R C role 0 T act ≡ shared (left cap R C role 0 T act)
+left-shared cap R C role T act x = let e = left_is_shared cap R C [] [] 0 T 1 role act x in e ∙ ap shared (sym e)
 
 -- ---- one request
 
@@ -226,18 +226,18 @@ carried_alone : (cap : ℕ) (R : Rights) (C : List CatalogEntry) (ss : List Sess
 carried_alone cap R C ss es last T n place q x known acts h =
     let role = role_number R q.role in
     let t = state_of cap R C [] [] 0 T in let u = alone cap R C role 0 T in let v = settled q.act (after u 1 q.act) in
-    let begun : passed (begin q.role) t ≡ Some u = passes t (begin q.role) (begins cap R C 0 T q.role place known) in
-    let acted : passed q.act u ≡ Some v = passes u q.act (still_accepted cap R C ss es last 0 T n role q.act x acts h) in
-    let ended : passed finish v ≡ Some (left cap R C role 0 T q.act) = passes v finish (finishes cap R C role 0 T q.act x) in
+    let begun : passed (begin q.role) t ≡ Some u = passed-refusal t (begin q.role) (begins cap R C 0 T q.role place known) in
+    let acted : passed q.act u ≡ Some v = passed-refusal u q.act (still_accepted cap R C ss es last 0 T n role q.act x acts h) in
+    let ended : passed finish v ≡ Some (left cap R C role 0 T q.act) = passed-refusal v finish (refusal-finish cap R C role 0 T q.act x) in
     ap (λ b. cond b (option_and_then (passed finish) (option_and_then (passed q.act) (passed (begin q.role) t))) None) x
     ∙ (ap (λ o. option_and_then (passed finish) (option_and_then (passed q.act) o)) begun ∙ (ap (option_and_then (passed finish)) acted ∙ ended))
 
 -- what is accepted in a session of the request's role leads, carried out where nobody is, to the same
-pub request_leads : (s : State) (n : ℕ) (q : Request) → ActsAs s n q.role → is_shared q.act ≡ true → is_accepted (reply_in (step s (in_session n q.act)).lines) ≡ true
+pub carried-fact_of : (s : State) (n : ℕ) (q : Request) → ActsAs s n q.role → is_shared q.act ≡ true → is_accepted (reply_in (step s (in_session n q.act)).lines) ≡ true
     → carried (fact_of q) (shared s) ≡ Some (shared (step s (in_session n q.act)).state)
-request_leads s n q a x y =
+carried-fact_of s n q a x y =
     let k = in_session n q.act in let R = s.frame.rights in
-    let here : refusal s n q.act ≡ None = accepted_by s k (refusal s n q.act) y in
+    let here : refusal s n q.act ≡ None = None-is_accepted s k (refusal s n q.act) y in
     let number : role_number R q.role ≡ a.place = ap (λ o. unwrap_or o (length R.roles)) a.known in
     let acting : actor s.frame n ≡ a.place = ap (λ (o : Option Session). unwrap_or (option_map (λ (z : Session). z.role) o) (length R.roles)) a.session in
     carried_alone s.frame.cap R s.frame.catalog s.frame.sessions s.frame.subscriptions s.frame.last s.rows n a.place q x a.known (acting ∙ sym number) here
@@ -245,8 +245,8 @@ request_leads s n q a x y =
     ∙ ap shared (sym (accepted_state s k here)))
 
 -- what is shared stays by what does not change it
-pub shared_same : (s t : State) → SameShared s t → shared s ≡ shared t
-shared_same s t a = λ i. record { frame = record { cap = a.cap i; rights = a.rights i; catalog = a.catalog i; sessions = []; subscriptions = []; last = 0 }; rows = a.rows i }
+pub shared-SameShared : (s t : State) → SameShared s t → shared s ≡ shared t
+shared-SameShared s t a = λ i. record { frame = record { cap = a.cap i; rights = a.rights i; catalog = a.catalog i; sessions = []; subscriptions = []; last = 0 }; rows = a.rows i }
 
 -- ---- what was carried out
 
@@ -258,8 +258,8 @@ was_passed : (act : Act) (s t : State) → passed act s ≡ Some t → WasPassed
 was_passed act s t h = by (refusal s 1 act) refl h
   where
     by : (o : Option Refusal) → refusal s 1 act ≡ o → cond (is_some o) None (Some (step s (in_session 1 act)).state) ≡ Some t → WasPassed act s t
-    by None e k = record { accepted = e; is = sym (one_some (step s (in_session 1 act)).state t k) ∙ accepted_state s (in_session 1 act) e }
-    by (Some r) e k = absurd (some_is_none t (sym k))
+    by None e k = record { accepted = e; is = sym (same-Some (step s (in_session 1 act)).state t k) ∙ accepted_state s (in_session 1 act) e }
+    by (Some r) e k = absurd (not_None-Some t (sym k))
 
 -- what a request that was carried out where nobody is had accepted, and where it led
 pub record WasLed (s t : State) (q : Request) : Type 0 where
@@ -268,16 +268,16 @@ pub record WasLed (s t : State) (q : Request) : Type 0 where
   pub acted : refusal (alone s.frame.cap s.frame.rights s.frame.catalog (role_number s.frame.rights q.role) 0 s.rows) 1 q.act ≡ None
   pub ended : t ≡ left s.frame.cap s.frame.rights s.frame.catalog (role_number s.frame.rights q.role) 0 s.rows q.act
 
-pub was_led : (s t : State) (q : Request) → carried (fact_of q) (shared s) ≡ Some t → WasLed s t q
-was_led s t q h = by (is_shared q.act) refl h
+pub WasLed-carried : (s t : State) (q : Request) → carried (fact_of q) (shared s) ≡ Some t → WasLed s t q
+WasLed-carried s t q h = by (is_shared q.act) refl h
   where
     by : (b : Bool) → is_shared q.act ≡ b → cond b (option_and_then (passed finish) (option_and_then (passed q.act) (passed (begin q.role) (shared s)))) None ≡ Some t → WasLed s t q
-    by false e k = absurd (some_is_none t (sym k))
+    by false e k = absurd (not_None-Some t (sym k))
     by true e k =
         let R = s.frame.rights in let role = role_number R q.role in
         let u = alone s.frame.cap R s.frame.catalog role 0 s.rows in
-        let last = found (passed finish) (option_and_then (passed q.act) (passed (begin q.role) (shared s))) t k in
-        let mid = found (passed q.act) (passed (begin q.role) (shared s)) last.of last.there in
+        let last = Found-option_and_then (passed finish) (option_and_then (passed q.act) (passed (begin q.role) (shared s))) t k in
+        let mid = Found-option_and_then (passed q.act) (passed (begin q.role) (shared s)) last.of last.there in
         let one = was_passed (begin q.role) (shared s) mid.of mid.there in
         let begun : mid.of ≡ u = one.is in
         let two = was_passed q.act u last.of (ap (passed q.act) (sym begun) ∙ mid.is) in

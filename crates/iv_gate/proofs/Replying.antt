@@ -15,16 +15,16 @@ use Rattle.iv_clients.specs.Bounds.{most_subs}
 use Rattle.iv_clients.specs.Clients.{Client, Slots, Sub, answered, at_all, at_client, client_at, closing, followed_by, following, is_followed, moved, saying, settling, staying, telling, told, told_one}
 use Rattle.iv_clients.specs.Feeds.{Feed, feed_for, feed_of, is_reading, room_for, seat_of, without_feed}
 use Rattle.iv_clients.specs.Journal.{Entry, said_by, shape_for, Request, claim_said}
-use Rattle.iv_clients.proofs.Slots.{at_every, at_same, one_some}
+use Rattle.iv_clients.proofs.Slots.{client_at-at_all, client_at-at_client, same-Some}
 use Rattle.iv_gate.specs.Gate.{Gate, acts, begun_for, closes, columns_in, done_for, entered, feed_begun, hears, in_session, joined, joined_by, joins, next_own, ran, reads, reads_first, reply_to, done_in, seated, settles, shut, subscribes, swept, tells, told_of, informs, entries_of, has_shape_room, asked_by, by_verdict, decided_elsewhere, decides, may_have, names_of, place_of, replies_to, reply_told, shares}
 use Rattle.iv_gate.specs.Replies.{is_opened, reading_told, replies, is_reply}
 use Rattle.iv_gate.specs.Seen.{is_end_of}
-use Rattle.iv_gate.proofs.Growing.{Grown, assoc, grows}
-use Rattle.iv_gate.proofs.Hearing.{Began, BeginsQuietly, Hears, began_same, ends_for, hears_move, hears_ran, hears_rest, hears_same, hears_then, is_own, seated_began, hears_all}
-use Rattle.iv_gate.proofs.Places.{any_before, any_behind, any_of_both, none_replied}
-use Rattle.iv_gate.proofs.Serving.{told_answered}
-use Rattle.iv_gate.proofs.Sound.{Seer, any_left, seer_one}
-use Rattle.iv_gate.proofs.Summing.{neither, same_self}
+use Rattle.iv_gate.proofs.Growing.{Grown, append-associative, Kit-Grown}
+use Rattle.iv_gate.proofs.Hearing.{Began, BeginsQuietly, Hears, Began-itself, ends_for, Hears-moved, Hears-staying, Hears-settling, Hears-itself, Hears-trans, is_own, Later-seated, Hears-telling}
+use Rattle.iv_gate.proofs.Places.{list_any-append_front, list_any-append_back, any_of_both, replies-none}
+use Rattle.iv_gate.proofs.Serving.{told-answered}
+use Rattle.iv_gate.proofs.Sound.{Seer, list_any-filter, seer-told_one}
+use Rattle.iv_gate.proofs.Summing.{or-both_false, eq-itself}
 use Rattle.iv_gate.proofs.Walking.{Later, to_done, to_settles, to_then}
 use Rattle.iv_gate.proofs.Shaping.{all_made}
 use Rattle.iv_once.specs.Names.{Ask, verdict, Verdict, carry, again, another, late, foreign, ahead, over}
@@ -57,22 +57,22 @@ pub record Answer (g : Gate) (s : Message) (t : Told) (c d : Client) : Type 0 wh
   pub comes : (own : ℕ) → is_own own d.subs ≡ true → (is_own own c.subs ≡ true) ⊎ ((is_opened t ≡ true) × (own ≡ c.given + 1))
 
 -- a number that it has behind a step in which none comes it had
-pub had_before : (b c : Client) (own : ℕ) → (is_own own b.subs ≡ false → is_own own c.subs ≡ false) → is_own own c.subs ≡ true → is_own own b.subs ≡ true
-had_before b c own none h = by (is_own own b.subs) refl
+pub is_own-before : (b c : Client) (own : ℕ) → (is_own own b.subs ≡ false → is_own own c.subs ≡ false) → is_own own c.subs ≡ true → is_own own b.subs ≡ true
+is_own-before b c own none h = by (is_own own b.subs) refl
   where
     by : (t : Bool) → is_own own b.subs ≡ t → is_own own b.subs ≡ true
     by true e = e
     by false e = absurd (false≢true (sym (none e) ∙ h))
 
 text_told : (ts us : List Told) (b c d : Client) (t : Told) → told b ≡ told c ++ ts → told d ≡ told b ++ t ∷ us → told d ≡ told c ++ (ts ++ t ∷ us)
-text_told ts us b c d t x y = y ∙ (ap (λ z. z ++ t ∷ us) x ∙ assoc (told c) ts (t ∷ us))
+text_told ts us b c d t x y = y ∙ (ap (λ z. z ++ t ∷ us) x ∙ append-associative (told c) ts (t ∷ us))
 
 -- it is told the reply, which opens nothing
 answer_plain : (g : Gate) (s : Message) (es : List Entry) (t : Told) (c b : Client) → Began g c b → is_opened t ≡ false → Answer g s t c (told_one es t b)
 answer_plain g s es t c b x h = record {
   before = x.hears.more;
   others = [];
-  text = text_told x.hears.more [] b c (told_one es t b) t x.hears.text (ap (λ (v : Seer). v.told) (seer_one es t b));
+  text = text_told x.hears.more [] b c (told_one es t b) t x.hears.text (ap (λ (v : Seer). v.told) (seer-told_one es t b));
   first = x.first;
   started = x.hears.quiet;
   alone = refl;
@@ -81,11 +81,11 @@ answer_plain g s es t c b x h = record {
   given = x.hears.given ∙ ap (λ z. cond z (c.given + 1) c.given) (sym h);
   number = λ id own columns e. absurd (false≢true (sym h ∙ ap is_opened e));
   lost = lost;
-  comes = λ own k. inl (had_before c b own (x.hears.none own) k);
+  comes = λ own k. inl (is_own-before c b own (x.hears.none own) k);
 }
   where
     lost : (own : ℕ) → (is_own own c.subs ≡ true) ⊎ ((is_opened t ≡ true) × (own ≡ c.given + 1)) → is_own own b.subs ≡ false → (ends_for own (x.hears.more ++ t ∷ []) ≡ true) ⊎ IsClosing own s t
-    lost own (inl i) k = inl (any_before (is_end_of own) x.hears.more (t ∷ []) (x.hears.lost own i k))
+    lost own (inl i) k = inl (list_any-append_front (is_end_of own) x.hears.more (t ∷ []) (x.hears.lost own i k))
     lost own (inr i) k = absurd (false≢true (sym h ∙ i.0))
 
 same_number : (id i : Option Data) (n own : ℕ) (columns cs : List Column) → opened id n columns ≡ opened i own cs → own ≡ n
@@ -97,7 +97,7 @@ answer_opened : (g : Gate) (s : Message) (es : List Entry) (id : Option Data) (c
 answer_opened g s es id columns k c b x = record {
   before = x.hears.more;
   others = [];
-  text = text_told x.hears.more [] b c d t x.hears.text (ap (λ (v : Seer). v.told) (seer_one es (opened id (b.given + 1) columns) b) ∙ ap (λ i. told b ++ opened id (i + 1) columns ∷ []) x.hears.given);
+  text = text_told x.hears.more [] b c d t x.hears.text (ap (λ (v : Seer). v.told) (seer-told_one es (opened id (b.given + 1) columns) b) ∙ ap (λ i. told b ++ opened id (i + 1) columns ∷ []) x.hears.given);
   first = x.first;
   started = x.hears.quiet;
   alone = refl;
@@ -119,7 +119,7 @@ answer_opened g s es id columns k c b x = record {
     x_new = record { own = b.given + 1; feed = k }
 
     by : (own : ℕ) (a : Bool) → is_own own b.subs ≡ a → is_own own (b.subs ++ x_new ∷ []) ≡ true → (is_own own c.subs ≡ true) ⊎ ((true ≡ true) × (own ≡ c.given + 1))
-    by own true f e = inl (had_before c b own (x.hears.none own) f)
+    by own true f e = inl (is_own-before c b own (x.hears.none own) f)
     by own false f e = inr (refl, last (own == (b.given + 1)) refl (sym (any_of_both (λ (y : Sub). own == y.own) b.subs (x_new ∷ []) ∙ ap (λ z. z || is_own own (x_new ∷ [])) f) ∙ e))
       where
         last : (d : Bool) → (own == (b.given + 1)) ≡ d → ((own == (b.given + 1)) || false) ≡ true → own ≡ c.given + 1
@@ -128,9 +128,9 @@ answer_opened g s es id columns k c b x = record {
 
     lost : (own : ℕ) → (is_own own c.subs ≡ true) ⊎ ((true ≡ true) × (own ≡ c.given + 1)) → is_own own (b.subs ++ record { own = b.given + 1; feed = k } ∷ []) ≡ false
         → (ends_for own (x.hears.more ++ t ∷ []) ≡ true) ⊎ IsClosing own s t
-    lost own (inl i) e = inl (any_before (is_end_of own) x.hears.more (t ∷ []) (x.hears.lost own i (neither (is_own own b.subs) (is_own own (x_new ∷ [])) (sym (any_of_both (λ (y : Sub). own == y.own) b.subs (x_new ∷ [])) ∙ e)).0))
-    lost own (inr i) e = absurd (false≢true (sym e ∙ any_behind (λ (y : Sub). own == y.own) b.subs (x_new ∷ [])
-        (ap (λ z. (z == (b.given + 1)) || false) (i.1 ∙ ap (λ z. z + 1) (sym x.hears.given)) ∙ ap (λ z. z || false) (same_self (b.given + 1)))))
+    lost own (inl i) e = inl (list_any-append_front (is_end_of own) x.hears.more (t ∷ []) (x.hears.lost own i (or-both_false (is_own own b.subs) (is_own own (x_new ∷ [])) (sym (any_of_both (λ (y : Sub). own == y.own) b.subs (x_new ∷ [])) ∙ e)).0))
+    lost own (inr i) e = absurd (false≢true (sym e ∙ list_any-append_back (λ (y : Sub). own == y.own) b.subs (x_new ∷ [])
+        (ap (λ z. (z == (b.given + 1)) || false) (i.1 ∙ ap (λ z. z + 1) (sym x.hears.given)) ∙ ap (λ z. z || false) (eq-itself (b.given + 1)))))
 
 pub kept_other : (a own : ℕ) (xs : List Sub) → (a == own) ≡ false → is_own own (filter (λ x. not (a == x.own)) xs) ≡ is_own own xs
 kept_other a own [] h = refl
@@ -142,9 +142,9 @@ kept_other a own (x ∷ xs) h = by (a == x.own) (own == x.own) refl refl (kept_o
     by true false e f more = more
     by false d e f more = (λ i. f i || more i)
 
-pub closed_own : (own : ℕ) (xs : List Sub) → is_own own (filter (λ x. not (own == x.own)) xs) ≡ false
-closed_own own [] = refl
-closed_own own (x ∷ xs) = by (own == x.own) refl (closed_own own xs)
+pub is_own-filter : (own : ℕ) (xs : List Sub) → is_own own (filter (λ x. not (own == x.own)) xs) ≡ false
+is_own-filter own [] = refl
+is_own-filter own (x ∷ xs) = by (own == x.own) refl (is_own-filter own xs)
   where
     by : (b : Bool) → (own == x.own) ≡ b → is_own own (filter (λ y. not (own == y.own)) xs) ≡ false → is_own own (cond (not b) (x ∷ filter (λ y. not (own == y.own)) xs) (filter (λ y. not (own == y.own)) xs)) ≡ false
     by true e more = more
@@ -155,7 +155,7 @@ answer_closed : (g : Gate) (es : List Entry) (id : Option Data) (own : ℕ) (c :
 answer_closed g es id own c = record {
   before = [];
   others = [];
-  text = ap (λ (v : Seer). v.told) (seer_one es (replied id done) (closing own c));
+  text = ap (λ (v : Seer). v.told) (seer-told_one es (replied id done) (closing own c));
   first = λ q. refl;
   started = refl;
   alone = refl;
@@ -164,7 +164,7 @@ answer_closed g es id own c = record {
   given = refl;
   number = λ i n cs e. absurd (false≢true (ap is_opened e));
   lost = lost;
-  comes = λ i k. inl (had_before c (closing own c) i (λ h. any_left i (λ x. not (own == x.own)) c.subs h) k);
+  comes = λ i k. inl (is_own-before c (closing own c) i (λ h. list_any-filter i (λ x. not (own == x.own)) c.subs h) k);
 }
   where
     lost : (i : ℕ) → (is_own i c.subs ≡ true) ⊎ ((false ≡ true) × (i ≡ c.given + 1)) → is_own i (filter (λ x. not (own == x.own)) c.subs) ≡ false
@@ -180,28 +180,28 @@ pub answer_more : (g : Gate) (s : Message) (t : Told) (c d e : Client) → Answe
 answer_more g s t c d e a x = record {
   before = a.before;
   others = a.others ++ x.more;
-  text = x.text ∙ (ap (λ z. z ++ x.more) a.text ∙ (assoc (told c) (a.before ++ t ∷ a.others) x.more ∙ ap (λ z. told c ++ z) (assoc a.before (t ∷ a.others) x.more)));
+  text = x.text ∙ (ap (λ z. z ++ x.more) a.text ∙ (append-associative (told c) (a.before ++ t ∷ a.others) x.more ∙ ap (λ z. told c ++ z) (append-associative a.before (t ∷ a.others) x.more)));
   first = a.first;
   started = a.started;
-  alone = none_replied a.others x.more a.alone x.quiet;
+  alone = replies-none a.others x.more a.alone x.quiet;
   role = x.role ∙ a.role;
   messages = x.messages ∙ a.messages;
   given = x.given ∙ a.given;
   number = a.number;
   lost = λ own h k. by own h k (is_own own d.subs) refl;
-  comes = λ own k. a.comes own (had_before d e own (x.none own) k);
+  comes = λ own k. a.comes own (is_own-before d e own (x.none own) k);
 }
   where
     whole : (own : ℕ) → ends_for own ((a.before ++ t ∷ a.others) ++ x.more) ≡ true → ends_for own (a.before ++ t ∷ (a.others ++ x.more)) ≡ true
-    whole own h = ap (λ z. ends_for own z) (sym (assoc a.before (t ∷ a.others) x.more)) ∙ h
+    whole own h = ap (λ z. ends_for own z) (sym (append-associative a.before (t ∷ a.others) x.more)) ∙ h
 
     first : (own : ℕ) → (ends_for own (a.before ++ t ∷ a.others) ≡ true) ⊎ IsClosing own s t → (ends_for own (a.before ++ t ∷ (a.others ++ x.more)) ≡ true) ⊎ IsClosing own s t
-    first own (inl h) = inl (whole own (any_before (is_end_of own) (a.before ++ t ∷ a.others) x.more h))
+    first own (inl h) = inl (whole own (list_any-append_front (is_end_of own) (a.before ++ t ∷ a.others) x.more h))
     first own (inr h) = inr h
 
     by : (own : ℕ) → (is_own own c.subs ≡ true) ⊎ ((is_opened t ≡ true) × (own ≡ c.given + 1)) → is_own own e.subs ≡ false → (b : Bool) → is_own own d.subs ≡ b
         → (ends_for own (a.before ++ t ∷ (a.others ++ x.more)) ≡ true) ⊎ IsClosing own s t
-    by own h k true f = inl (whole own (any_behind (is_end_of own) (a.before ++ t ∷ a.others) x.more (x.lost own f k)))
+    by own h k true f = inl (whole own (list_any-append_back (is_end_of own) (a.before ++ t ∷ a.others) x.more (x.lost own f k)))
     by own h k false f = first own (a.lost own h f)
 
 -- ---- the steps behind a reply
@@ -211,16 +211,16 @@ Behind m old new = (c : Client) → client_at old m ≡ Some c → Later (λ j x
 
 module _ (m : ℕ) where
   behind_same : (slots : Slots) → Behind m slots slots
-  behind_same slots c h = record { now = c; there = h; so = hears_same c }
+  behind_same slots c h = record { now = c; there = h; so = Hears-itself c }
 
   pub behind_then : (a b c : Slots) → Behind m a b → Behind m b c → Behind m a c
-  behind_then a b c f g x h = let p = f x h in let q = g p.now p.there in record { now = q.now; there = q.there; so = hears_then x p.now q.now p.so q.so }
+  behind_then a b c f g x h = let p = f x h in let q = g p.now p.there in record { now = q.now; there = q.there; so = Hears-trans x p.now q.now p.so q.so }
 
   behind_all : (f : Client → Client) → ((c : Client) → Hears c (f c)) → (slots : Slots) → Behind m slots (at_all f slots)
-  behind_all f k slots c h = record { now = f c; there = at_every f slots m ∙ ap (option_map f) h; so = k c }
+  behind_all f k slots c h = record { now = f c; there = client_at-at_all f slots m ∙ ap (option_map f) h; so = k c }
 
   behind_one : (f : Client → Client) → ((c : Client) → Hears c (f c)) → (slots : Slots) → Behind m slots (at_client m f slots)
-  behind_one f k slots c h = record { now = f c; there = at_same m f slots ∙ ap (option_map f) h; so = k c }
+  behind_one f k slots c h = record { now = f c; there = client_at-at_client m f slots ∙ ap (option_map f) h; so = k c }
 
   behind_some : {X : Type 0} (o : Option X) (a : Slots) (h : Gate) (f : X → Gate) → Behind m a h.clients → ((x : X) → Behind m a (f x).clients) → Behind m a (if_some o h f).clients
   behind_some None a h f x y = x
@@ -231,14 +231,14 @@ module _ (m : ℕ) where
   behind_test false a h i x y = y
 
   pub behind_ran : (g : Gate) (k : Command) → Behind m g.clients (ran g k).clients
-  behind_ran g k = behind_all (λ c. staying (step g.machine k).lines (telling g.entries (told_of g k.act (step g.machine k) c) c)) (λ c. hears_ran c g k) g.clients
+  behind_ran g k = behind_all (λ c. staying (step g.machine k).lines (telling g.entries (told_of g k.act (step g.machine k) c) c)) (λ c. Hears-staying c g k) g.clients
 
   pub behind_settles : (g : Gate) → Behind m g.clients (settles g).clients
-  behind_settles g = behind_all (settling g.entries) (λ c. hears_rest g.entries c) g.clients
+  behind_settles g = behind_all (settling g.entries) (λ c. Hears-settling g.entries c) g.clients
 
   pub behind_informs : (g : Gate) (es : List Entry) → Behind m g.clients (informs g es).clients
   behind_informs g es = behind_all (λ c. telling g.entries (shape_for c.role es) c)
-      (λ c. hears_all g.entries (shape_for c.role es) c (all_made (λ t. is_reply t ≡ false) (λ role line. refl) c.role es)) g.clients
+      (λ c. Hears-telling g.entries (shape_for c.role es) c (all_made (λ t. is_reply t ≡ false) (λ role line. refl) c.role es)) g.clients
 
   behind_shut : (g : Gate) (f : Feed) → Behind m g.clients (shut g f).clients
   behind_shut g f = behind_ran (record g { feeds = without_feed f.number g.feeds }) (in_session f.session (unsubscribe f.number))
@@ -252,7 +252,7 @@ module _ (m : ℕ) where
   behind_joined g (Some t) (Some k) =
       let h = record g { clients = at_client m (moved t.number k.number) g.clients } in
       behind_test (is_reading t.role t.rel k && not (t.number == k.number)) g.clients (shut h t) g
-      (behind_then g.clients h.clients (shut h t).clients (behind_one (moved t.number k.number) (λ c. hears_move c t.number k.number) g.clients) (behind_shut h t)) (behind_same g.clients)
+      (behind_then g.clients h.clients (shut h t).clients (behind_one (moved t.number k.number) (λ c. Hears-moved c t.number k.number) g.clients) (behind_shut h t)) (behind_same g.clients)
   behind_joined g (Some t) None = behind_same g.clients
   behind_joined g None k = behind_same g.clients
 
@@ -396,12 +396,12 @@ module _ (g : Gate) (m : ℕ) (c : Client) (id : Option Data) where
   adds_act text (drop_policy rel name) = adds_shared (request_of c text (drop_policy rel name)) (claim_said text)
   adds_act text (write entries) = adds_shared (request_of c text (write entries)) (claim_said text)
 
-pub adds_said : (g : Gate) (m : ℕ) (c : Client) (text : List ℕ) (s : Message) → (done_for g m c text s).entries ≡ g.entries ++ said_added g c text s
-adds_said g m c text no_json = sym (append-nil g.entries)
-adds_said g m c text too_long = sym (append-nil g.entries)
-adds_said g m c text no_object = sym (append-nil g.entries)
-adds_said g m c text (no_request id why) = sym (append-nil g.entries)
-adds_said g m c text (request id act) = by (may_have (claim_said text) act)
+pub entries-done_for : (g : Gate) (m : ℕ) (c : Client) (text : List ℕ) (s : Message) → (done_for g m c text s).entries ≡ g.entries ++ said_added g c text s
+entries-done_for g m c text no_json = sym (append-nil g.entries)
+entries-done_for g m c text too_long = sym (append-nil g.entries)
+entries-done_for g m c text no_object = sym (append-nil g.entries)
+entries-done_for g m c text (no_request id why) = sym (append-nil g.entries)
+entries-done_for g m c text (request id act) = by (may_have (claim_said text) act)
   where
     by : (b : Bool) → (cond b (acts g m c id text act) (tells g m (unasked id (unknown (codes "once"))))).entries ≡ g.entries ++ cond b (act_added g c text act) []
     by true = adds_act g m c id text act
@@ -419,12 +419,12 @@ answers_then g s t m c a b p f = let q = f p.now p.there in record { now = q.now
 answers_tells : (g h : Gate) (s : Message) (t : Told) (m : ℕ) (c b : Client) → Began g c b → is_opened t ≡ false → client_at h.clients m ≡ Some b → Answers g s t m c (tells h m t).clients
 answers_tells g h s t m c b x o e = record {
   now = told_one h.entries t b;
-  there = at_same m (told_one h.entries t) h.clients ∙ ap (option_map (told_one h.entries t)) e;
+  there = client_at-at_client m (told_one h.entries t) h.clients ∙ ap (option_map (told_one h.entries t)) e;
   so = answer_plain g s h.entries t c b x o;
 }
 
 answers_plain : (g : Gate) (s : Message) (t : Told) (m : ℕ) (c : Client) → is_opened t ≡ false → client_at g.clients m ≡ Some c → Answers g s t m c (tells g m t).clients
-answers_plain g s t m c o e = answers_tells g g s t m c c (began_same g c) o e
+answers_plain g s t m c o e = answers_tells g g s t m c c (Began-itself g c) o e
 
 answers_begun : (g h : Gate) (s : Message) (id : Option Data) (n : ℕ) (role rel : Name) (m : ℕ) (c b : Client) (r : Reply) → Began g c b → client_at h.clients m ≡ Some b
     → Answers g s (reading_told h.machine c id rel r) m c (feed_begun h m id n role rel r).clients
@@ -433,7 +433,8 @@ answers_begun g h s id n role rel m c b (subscribed t) x e =
     let f = told_one h.entries (opened id (next_own h m) (columns_in h.machine rel)) in
     record {
       now = following t (f b);
-      there = at_same m (following t) (at_client m f h.clients) ∙ ap (option_map (following t)) (at_same m f h.clients ∙ ap (option_map f) e);
+      there =
+        client_at-at_client m (following t) (at_client m f h.clients) ∙ ap (option_map (following t)) (client_at-at_client m f h.clients ∙ ap (option_map f) e);
       so = subst (λ i. Answer g s (opened id (c.given + 1) (columns_in h.machine rel)) c (following t (told_one h.entries (opened id i (columns_in h.machine rel)) b))) (sym o)
           (answer_opened g s h.entries id (columns_in h.machine rel) t c b x);
     }
@@ -452,18 +453,18 @@ answers_first g s id role rel m c e = by (room_for g.seats g.feeds role)
     further : (o : Option ℕ) → Answers g s (if_some o (replied id (refused too_many)) (λ n. begun_reply (seated g n role) c id n rel)) m c
         (if_some o (tells g m (replied id (refused too_many))) (λ n. subscribes (seated g n role) m id n role rel)).clients
     further None = answers_plain g s (replied id (refused too_many)) m c refl e
-    further (Some n) = let p = seated_began g n role m c e in answers_subscribes g (seated g n role) s id n role rel m c p.now p.so p.there
+    further (Some n) = let p = Later-seated g n role m c e in answers_subscribes g (seated g n role) s id n role rel m c p.now p.so p.there
 
     by : (o : Option ℕ) → Answers g s (if_some o (if_some (begun_for g role) (replied id (refused too_many)) (λ n. begun_reply (seated g n role) c id n rel)) (λ n. begun_reply g c id n rel)) m c
         (if_some o (if_some (begun_for g role) (tells g m (replied id (refused too_many))) (λ n. subscribes (seated g n role) m id n role rel)) (λ n. subscribes g m id n role rel)).clients
     by None = further (begun_for g role)
-    by (Some n) = answers_subscribes g g s id n role rel m c c (began_same g c) e
+    by (Some n) = answers_subscribes g g s id n role rel m c c (Began-itself g c) e
 
 answers_joins : (g : Gate) (s : Message) (id : Option Data) (f : Feed) (m : ℕ) (c : Client) → client_at g.clients m ≡ Some c → Answers g s (begun_reply g c id f.session f.rel) m c (joins g m id f).clients
 answers_joins g s id f m c e =
     let h = subscribes g m id f.session f.role f.rel in let r = reply_to g (in_session f.session (subscribe f.rel)) in
     answers_then g s (begun_reply g c id f.session f.rel) m c h.clients (joined_by h m f.number r).clients
-    (answers_subscribes g g s id f.session f.role f.rel m c c (began_same g c) e) (behind_joined_by m h f.number r)
+    (answers_subscribes g g s id f.session f.role f.rel m c c (Began-itself g c) e) (behind_joined_by m h f.number r)
 
 -- `c` is the client as it was heard, and its message is counted since
 module _ (g : Gate) (m : ℕ) (c : Client) (text : List ℕ) where
@@ -492,7 +493,7 @@ module _ (g : Gate) (m : ℕ) (c : Client) (text : List ℕ) where
       by (Some k) = answers_then g (request id (unsubscribe own)) (replied id done) m (saying text c) (tells h m (replied id done)).clients (swept (tells h m (replied id done)) k).clients
           (record {
             now = told_one g.entries (replied id done) (closing own (saying text c));
-            there = at_same m (told_one g.entries (replied id done)) h.clients ∙ ap (option_map (told_one g.entries (replied id done))) (at_same m (closing own) g.clients ∙ ap (option_map (closing own)) e);
+            there = client_at-at_client m (told_one g.entries (replied id done)) h.clients ∙ ap (option_map (told_one g.entries (replied id done))) (client_at-at_client m (closing own) g.clients ∙ ap (option_map (closing own)) e);
             so = answer_closed g g.entries id own (saying text c);
           }) (behind_swept m (tells h m (replied id done)) k)
 
@@ -500,7 +501,7 @@ module _ (g : Gate) (m : ℕ) (c : Client) (text : List ℕ) where
   answers_replied : (s : Message) (id : Option Data) (q : Request) (name : Option Ask) (r : Reply) → client_at g.clients m ≡ Some (saying text c)
       → Answers g s (done_reply g id q name r) m (saying text c) (replies_to g m id q name r).clients
   answers_replied s id q name r e =
-      let h = entered g (entries_of q name r) in answers_tells g h s (reply_told h id name r) m (saying text c) (saying text c) (began_same g (saying text c)) (opens_none h name) e
+      let h = entered g (entries_of q name r) in answers_tells g h s (reply_told h id name r) m (saying text c) (saying text c) (Began-itself g (saying text c)) (opens_none h name) e
     where
       opens_none : (h : Gate) (o : Option Ask) → is_opened (reply_told h id o r) ≡ false
       opens_none h None = refl
@@ -578,12 +579,12 @@ module _ (g : Gate) (m : ℕ) (c : Client) (text : List ℕ) where
 abbrev pub asked : Gate → ℕ → List ℕ → Gate
 asked g m text = record g { clients = at_client m (saying text) g.clients }
 
-pub grown_by : (g : Gate) (m : ℕ) (c : Client) (text : List ℕ) (d : Client) → client_at (asked g m text).clients m ≡ Some (saying text c)
+pub Grown-done_for : (g : Gate) (m : ℕ) (c : Client) (text : List ℕ) (d : Client) → client_at (asked g m text).clients m ≡ Some (saying text c)
     → client_at (settles (done_for (asked g m text) m c text (said_by text))).clients m ≡ Some d → Grown c d
-grown_by g m c text d there e =
+Grown-done_for g m c text d there e =
     let h = asked g m text in let did = done_for h m c text (said_by text) in
-    let p = to_then m (λ i x y. Grown x y) (grows m) h.clients did.clients (settles did).clients (to_done m (λ i x y. Grown x y) (grows m) h c text (said_by text)) (to_settles m (λ i x y. Grown x y) (grows m) did) m (saying text c) there in
-    let x : Grown (saying text c) d = subst (Grown (saying text c)) (one_some p.now d (sym p.there ∙ e)) p.so in
+    let p = to_then m (λ i x y. Grown x y) (Kit-Grown m) h.clients did.clients (settles did).clients (to_done m (λ i x y. Grown x y) (Kit-Grown m) h c text (said_by text)) (to_settles m (λ i x y. Grown x y) (Kit-Grown m) did) m (saying text c) there in
+    let x : Grown (saying text c) d = subst (Grown (saying text c)) (same-Some p.now d (sym p.there ∙ e)) p.so in
     record { more = x.more; handed = x.handed; sendable = x.sendable; unsynced = x.unsynced }
 
 -- what comes of it is told as it was
@@ -591,7 +592,7 @@ answer_marked : (g : Gate) (s : Message) (t : Told) (b c d : Client) → Grown b
 answer_marked g s t b c d x a = record {
   before = a.before;
   others = a.others;
-  text = told_answered b d x ∙ a.text;
+  text = told-answered b d x ∙ a.text;
   first = a.first;
   started = a.started;
   alone = a.alone;
@@ -603,14 +604,14 @@ answer_marked g s t b c d x a = record {
   comes = a.comes;
 }
 
-pub heard_answers : (g : Gate) (m : ℕ) (c : Client) (text : List ℕ) → client_at g.clients m ≡ Some c
+pub Answers-hears : (g : Gate) (m : ℕ) (c : Client) (text : List ℕ) → client_at g.clients m ≡ Some c
     → Answers (asked g m text) (said_by text) (said_reply (asked g m text) c text (said_by text)) m (saying text c) (hears g m c text).clients
-heard_answers g m c text e =
+Answers-hears g m c text e =
     let h = asked g m text in let s = said_by text in let t = said_reply h c text s in let did = done_for h m c text s in
-    let there : client_at h.clients m ≡ Some (saying text c) = at_same m (saying text) g.clients ∙ ap (option_map (saying text)) e in
+    let there : client_at h.clients m ≡ Some (saying text c) = client_at-at_client m (saying text) g.clients ∙ ap (option_map (saying text)) e in
     let p = answers_then h s t m (saying text c) did.clients (settles did).clients (answers_done h m c text s there) (behind_settles m did) in
     record {
       now = answered c p.now;
-      there = at_same m (answered c) (settles did).clients ∙ ap (option_map (answered c)) p.there;
-      so = answer_marked h s t c (saying text c) p.now (grown_by g m c text p.now there p.there) p.so;
+      there = client_at-at_client m (answered c) (settles did).clients ∙ ap (option_map (answered c)) p.there;
+      so = answer_marked h s t c (saying text c) p.now (Grown-done_for g m c text p.now there p.there) p.so;
     }

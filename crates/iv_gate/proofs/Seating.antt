@@ -11,14 +11,14 @@ use Rattle.iv_clients.specs.Bounds.{most_feeds, most_subs}
 use Rattle.iv_clients.specs.Clients.{Client, at_client, client_at, closing, followed_by, is_followed, may_say, moved, saying}
 use Rattle.iv_clients.specs.Feeds.{Feed, Seat, feed_for, feed_of, has_room, is_of_role, is_reading, load, room_for, seat_of, without_seat}
 use Rattle.iv_clients.specs.Journal.{said_by, Request, claim_said}
-use Rattle.iv_clients.proofs.Slots.{some_is_none}
+use Rattle.iv_clients.proofs.Slots.{not_None-Some}
 use Rattle.iv_gate.specs.Events.{Event, presented, message, gone, known, ticked, synced, handed, failed, happens, next, arrived, forgave}
 use Rattle.iv_gate.specs.Gate.{Gate, acts, all_rested, all_swept, begun_for, closes, done_for, feed_begun, hears, in_session, is_needed, joined, joined_by, joins, ran, reads, reads_first, reply_to, rested, token_for, said, seated, settles, shut, subscribes, swept, tells, went, with_session, shares, may_have}
 use Rattle.iv_gate.specs.Needed.{AreSeatsBehind, left, begun}
 use Rattle.iv_gate.specs.Replies.{AreFull}
-use Rattle.iv_gate.proofs.Few.{none_full}
+use Rattle.iv_gate.proofs.Few.{AreFull-no_room}
 use Rattle.iv_gate.proofs.Touching.{came_as}
-use Rattle.iv_gate.proofs.Shaping.{test_of}
+use Rattle.iv_gate.proofs.Shaping.{cond-either}
 use Rattle.iv_clients.specs.Tokens.{Token}
 use Rattle.iv_gate.specs.Arriving.{Step, fault_of, is_behind, landed, entry_of, fact_of, takes}
 use Rattle.iv_steps.specs.Steps.{stepped}
@@ -77,9 +77,9 @@ joins_same g m id f =
 swept_same : (g : Gate) (k : ℕ) → (swept g k).seats ≡ g.seats
 swept_same g k = test_same (is_followed k g.clients) g g (if_some (feed_of g.feeds k) g (shut g)) refl (some_same (feed_of g.feeds k) g g (shut g) refl (λ f. refl))
 
-pub all_swept_same : (g : Gate) (ks : List ℕ) → (all_swept g ks).seats ≡ g.seats
-all_swept_same g [] = refl
-all_swept_same g (k ∷ ks) = all_swept_same (swept g k) ks ∙ swept_same g k
+pub seats-all_swept : (g : Gate) (ks : List ℕ) → (all_swept g ks).seats ≡ g.seats
+seats-all_swept g [] = refl
+seats-all_swept g (k ∷ ks) = seats-all_swept (swept g k) ks ∙ swept_same g k
 
 closes_same : (g : Gate) (m : ℕ) (c : Client) (id : Option Data) (own : ℕ) → (closes g m c id own).seats ≡ g.seats
 closes_same g m c id own =
@@ -97,7 +97,7 @@ none_with_room fs role (x ∷ xs) h = by (is_of_role role x) refl h (none_with_r
   where
     by : (b : Bool) → is_of_role role x ≡ b → option_map (λ (s : Seat). s.session) (cond b (Some x) (find (is_of_role role) xs)) ≡ None → (seat_of xs role ≡ None → room_for xs fs role ≡ None)
         → option_map (λ (s : Seat). s.session) (cond (is_of_role role x && nat_lt (load fs x.session) most_feeds) (Some x) (find (has_room fs role) xs)) ≡ None
-    by true q w more = absurd (some_is_none x.session w)
+    by true q w more = absurd (not_None-Some x.session w)
     by false q w more = ap (λ b. option_map (λ (s : Seat). s.session) (cond (b && nat_lt (load fs x.session) most_feeds) (Some x) (find (has_room fs role) xs))) q ∙ more w
 
 filter_twice : {X : Type 0} (p q : X → Bool) (xs : List X) → filter p (filter q xs) ≡ filter (λ x. q x && p x) xs
@@ -134,7 +134,7 @@ module _ (R : Name → Type 0) where
   by_same g xs e = subst (IsBehind R g) (sym e) (same g)
 
   by_one : (g h : Gate) (n : ℕ) (role : Name) → R role → room_for g.seats g.feeds role ≡ None → h.seats ≡ g.seats ++ record { session = n; role = role } ∷ [] → IsBehind R g h.seats
-  by_one g h n role w r e = subst (IsBehind R g) (sym e) (further (record { session = n; role = role }) (none_full g.seats g.feeds role r) w)
+  by_one g h n role w r e = subst (IsBehind R g) (sym e) (further (record { session = n; role = role }) (AreFull-no_room g.seats g.feeds role r) w)
 
   first_behind : (g : Gate) (m : ℕ) (id : Option Data) (role rel : Name) → R role → IsBehind R g (reads_first g m id role rel).seats
   first_behind g m id role rel w = by (room_for g.seats g.feeds role) refl
@@ -182,7 +182,7 @@ module _ (R : Name → Type 0) where
   done_behind g m c text no_object w = same g
   done_behind g m c text (no_request id why) w = same g
   done_behind g m c text (request id act) w =
-      test_of (λ (h : Gate). IsBehind R g h.seats) (may_have (claim_said text) act) (acts g m c id text act) (tells g m (unasked id (unknown (codes "once")))) (acts_behind g m c id text act w) (same g)
+      cond-either (λ (h : Gate). IsBehind R g h.seats) (may_have (claim_said text) act) (acts g m c id text act) (tells g m (unasked id (unknown (codes "once")))) (acts_behind g m c id text act w) (same g)
 
   -- of two gateways with the same sessions and feeds
   like : (g h : Gate) (xs : List Seat) → h.seats ≡ g.seats → h.feeds ≡ g.feeds → IsBehind R h xs → IsBehind R g xs
@@ -207,7 +207,7 @@ module _ (R : Name → Type 0) where
     where
       one_more : seat_of g.seats role ≡ None → (o : Option ℕ) → IsBehind R g (if_some o g (λ n. seated g n role)).seats
       one_more e None = same g
-      one_more e (Some n) = further (record { session = n; role = role }) (none_full g.seats g.feeds role (none_with_room g.feeds role g.seats e)) w
+      one_more e (Some n) = further (record { session = n; role = role }) (AreFull-no_room g.seats g.feeds role (none_with_room g.feeds role g.seats e)) w
 
       by : (o : Option ℕ) → seat_of g.seats role ≡ o → IsBehind R g (if_some o (if_some (begun_for g role) g (λ n. seated g n role)) (λ n. g)).seats
       by None e = one_more e (begun_for g role)
@@ -224,7 +224,7 @@ module _ (R : Name → Type 0) where
       by None = same g
       by (Some c) =
           let h = all_swept (record g { clients = set g.clients m None }) (map (λ s. s.feed) c.subs) in let a = all_rested_left h (filter (is_of_role c.role) h.seats) in
-          subst (IsBehind R g) (sym (a.1 ∙ ap (filter a.0) (all_swept_same (record g { clients = set g.clients m None }) (map (λ s. s.feed) c.subs)))) (stayed a.0)
+          subst (IsBehind R g) (sym (a.1 ∙ ap (filter a.0) (seats-all_swept (record g { clients = set g.clients m None }) (map (λ s. s.feed) c.subs)))) (stayed a.0)
 
   takes_behind : (g : Gate) (s : Step) → IsBehind R g (takes g s).seats
   takes_behind g s = by (is_some (fault_of g s)) (is_behind g s) (stepped (map fact_of s.requests) g.machine)
@@ -272,5 +272,5 @@ for_any g (arrived s) = tt
 for_any g forgave = tt
 for_any g failed = tt
 
-pub begins_as_needed : (g : Gate) (e : Event) → AreSeatsBehind g (next g e).seats
-begins_as_needed g e = as_told g (next g e).seats (next_behind (λ role. Unit {0}) g e (for_any g e))
+pub AreSeatsBehind-next : (g : Gate) (e : Event) → AreSeatsBehind g (next g e).seats
+AreSeatsBehind-next g e = as_told g (next g e).seats (next_behind (λ role. Unit {0}) g e (for_any g e))

@@ -15,13 +15,13 @@ use Rattle.iv_machine.specs.declared.Cause.{Cause}
 use Rattle.iv_machine.specs.State.{Session, State, Subscription, is_within_for, missing_for, rel_of, shown, subscription_of, view_for}
 use Rattle.iv_clients.specs.Clients.{Client, Sub, followed_by, told}
 use Rattle.iv_clients.specs.Feeds.{Feed, feed_of, rel_read}
-use Rattle.iv_clients.proofs.Slots.{one_some, some_is_none}
+use Rattle.iv_clients.proofs.Slots.{same-Some, not_None-Some}
 use Rattle.iv_gate.specs.Gate.{Gate}
 use Rattle.iv_gate.specs.Replies.{IsAskedBy, IsClient}
 use Rattle.iv_gate.specs.Seen.{all_rows, has_ended, hindrance, seen}
-use Rattle.iv_gate.proofs.Joining.{shows_view}
-use Rattle.iv_gate.proofs.Machine.{find_passes}
-use Rattle.iv_gate.proofs.Running.{found_all}
+use Rattle.iv_gate.proofs.Joining.{shown-IsFeed}
+use Rattle.iv_gate.proofs.Machine.{true-find}
+use Rattle.iv_gate.proofs.Running.{AllByRecursion-feed_of}
 use Rattle.iv_gate.proofs.Sound.{IsAskedIn, IsFeed, IsFollowing, IsSoundGate, seer}
 
 -- it was told no end, and what it was told adds up to what its role sees of the relation of its feed
@@ -33,16 +33,17 @@ pub record AddsToView (g : Gate) (c : Client) (own k : ℕ) : Type 0 where
 asked_by : (c : Client) (own : ℕ) (rel : Name) → IsAskedIn c.messages (told c) own rel → IsAskedBy c own rel
 asked_by c own rel a = (a.place, a.id, a.columns, (a.text, a.there, a.asks, a.reply))
 
-pub adds_to_view : (g : Gate) → IsSoundGate g → (m : ℕ) (c : Client) (own k : ℕ) → IsClient g m c → followed_by c.subs own ≡ Some k → AddsToView g c own k
-adds_to_view g b m c own k x h = look c.subs (b.clients m c x.there x.stays).follows h
+pub AddsToView-IsSoundGate : (g : Gate) → IsSoundGate g → (m : ℕ) (c : Client) (own k : ℕ) → IsClient g m c → followed_by c.subs own ≡ Some k
+    → AddsToView g c own k
+AddsToView-IsSoundGate g b m c own k x h = look c.subs (b.clients m c x.there x.stays).follows h
   where
     of_sub : (s : Sub) → (own == s.own) ≡ true → s.feed ≡ k → IsFollowing g.machine g.feeds (seer c) s → AddsToView g c own k
     of_sub s e f y =
         let same : own ≡ s.own = eqb-true own s.own e in
         let there : feed_of g.feeds k ≡ Some y.feed = ap (feed_of g.feeds) (sym f) ∙ y.found in
-        let number : k ≡ y.feed.number = eqb-true k y.feed.number (find_passes (λ (z : Feed). k == z.number) g.feeds y.feed there) in
+        let number : k ≡ y.feed.number = eqb-true k y.feed.number (true-find (λ (z : Feed). k == z.number) g.feeds y.feed there) in
         let rel : rel_read g.feeds k ≡ y.feed.rel = ap (λ o. if_some o [] (λ (z : Feed). z.rel)) there in
-        let shows = shows_view g.machine y.feed (found_all (IsFeed g.machine) g.feeds k y.feed b.feeds there) in
+        let shows = shown-IsFeed g.machine y.feed (AllByRecursion-feed_of (IsFeed g.machine) g.feeds k y.feed b.feeds there) in
         record {
           asked = subst (λ i. IsAskedBy c i (rel_read g.feeds k)) (sym same) (subst (IsAskedBy c s.own) (sym rel) (asked_by c s.own y.feed.rel y.asked));
           follows = ap (has_ended c) same ∙ y.goes_on;
@@ -51,21 +52,21 @@ adds_to_view g b m c own k x h = look c.subs (b.clients m c x.there x.stays).fol
         }
 
     look : (xs : List Sub) → AllByRecursion (IsFollowing g.machine g.feeds (seer c)) xs → followed_by xs own ≡ Some k → AddsToView g c own k
-    look [] a e = absurd (some_is_none k (sym e))
+    look [] a e = absurd (not_None-Some k (sym e))
     look (s ∷ ss) a e = by (own == s.own) refl e (λ z. look ss a.1 z)
       where
         by : (t : Bool) → (own == s.own) ≡ t → option_map (λ (z : Sub). z.feed) (cond t (Some s) (find (λ (z : Sub). own == z.own) ss)) ≡ Some k → (followed_by ss own ≡ Some k → AddsToView g c own k) → AddsToView g c own k
-        by true t z more = of_sub s t (one_some s.feed k z) a.0
+        by true t z more = of_sub s t (same-Some s.feed k z) a.0
         by false t z more = more z
 
 -- ---- what is read may be read
 
 sub_served : (s : State) (es : List Subscription) (j : ℕ) (x : Subscription) → AllByRecursion (λ e. ending s e ≡ None) es → subscription_of es j ≡ Some x → ending s x ≡ None
-sub_served s [] j x a h = absurd (some_is_none x (sym h))
+sub_served s [] j x a h = absurd (not_None-Some x (sym h))
 sub_served s (e ∷ es) j x a h = by (j == e.number) h (λ k. sub_served s es j x a.1 k)
   where
     by : (b : Bool) → cond b (Some e) (subscription_of es j) ≡ Some x → (subscription_of es j ≡ Some x → ending s x ≡ None) → ending s x ≡ None
-    by true k more = subst (λ z. ending s z ≡ None) (one_some e x k) a.0
+    by true k more = subst (λ z. ending s z ≡ None) (same-Some e x k) a.0
     by false k more = more k
 
 may_read : (s : State) (f : Feed) → IsSoundState s → IsFeed s f → hindrance s f.role f.rel ≡ None
@@ -75,20 +76,21 @@ may_read s f b x =
     ∙ (sym (λ i. P (unwrap_or (option_map (λ (e : Session). e.role) (x.acts.session i)) (length s.frame.rights.roles)) (x.there i))
     ∙ sub_served s s.frame.subscriptions f.number (record { session = f.session; number = f.number; rel = x.rel }) b.served x.found)
 
-pub may_be_read : (g : Gate) → IsSoundGate g → (m : ℕ) (c : Client) (own k : ℕ) → IsClient g m c → followed_by c.subs own ≡ Some k → hindrance g.machine c.role (rel_read g.feeds k) ≡ None
-may_be_read g b m c own k x h = look c.subs (b.clients m c x.there x.stays).follows h
+pub hindrance-IsSoundGate : (g : Gate) → IsSoundGate g → (m : ℕ) (c : Client) (own k : ℕ) → IsClient g m c → followed_by c.subs own ≡ Some k → hindrance g.machine c.role (rel_read g.feeds k) ≡ None
+hindrance-IsSoundGate g b m c own k x h = look c.subs (b.clients m c x.there x.stays).follows h
   where
     of_sub : (s : Sub) → s.feed ≡ k → IsFollowing g.machine g.feeds (seer c) s → hindrance g.machine c.role (rel_read g.feeds k) ≡ None
     of_sub s f y =
         let there : feed_of g.feeds k ≡ Some y.feed = ap (feed_of g.feeds) (sym f) ∙ y.found in
         let rel : rel_read g.feeds k ≡ y.feed.rel = ap (λ o. if_some o [] (λ (z : Feed). z.rel)) there in
-        (λ i. hindrance g.machine (sym y.role i) (rel i)) ∙ may_read g.machine y.feed b.state (found_all (IsFeed g.machine) g.feeds k y.feed b.feeds there)
+        (λ i. hindrance g.machine (sym y.role i) (rel i)) ∙ may_read g.machine y.feed b.state
+          (AllByRecursion-feed_of (IsFeed g.machine) g.feeds k y.feed b.feeds there)
 
     look : (xs : List Sub) → AllByRecursion (IsFollowing g.machine g.feeds (seer c)) xs → followed_by xs own ≡ Some k → hindrance g.machine c.role (rel_read g.feeds k) ≡ None
-    look [] a e = absurd (some_is_none k (sym e))
+    look [] a e = absurd (not_None-Some k (sym e))
     look (s ∷ ss) a e = by (own == s.own) e (λ z. look ss a.1 z)
       where
         by : (t : Bool) → option_map (λ (z : Sub). z.feed) (cond t (Some s) (find (λ (z : Sub). own == z.own) ss)) ≡ Some k → (followed_by ss own ≡ Some k → hindrance g.machine c.role (rel_read g.feeds k) ≡ None)
             → hindrance g.machine c.role (rel_read g.feeds k) ≡ None
-        by true z more = of_sub s (one_some s.feed k z) a.0
+        by true z more = of_sub s (same-Some s.feed k z) a.0
         by false z more = more z

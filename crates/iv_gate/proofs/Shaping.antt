@@ -33,21 +33,21 @@ module _ (P : Told → Type 0) (k : (role line : List ℕ) → P (made role line
       by true = all_of (requests_in es)
       by false = tt
 
-pub shape_both : (es fs : List Entry) → shape_of (es ++ fs) ≡ shape_of es ++ shape_of fs
-shape_both es fs =
+pub shape_of-append : (es fs : List Entry) → shape_of (es ++ fs) ≡ shape_of es ++ shape_of fs
+shape_of-append es fs =
     ap shape_in (flat_map-append (λ (e : Entry). e.requests) es fs)
     ∙ (ap (map (λ (x : Request). made x.role x.line)) (filter-append (λ (x : Request). is_shape x.act) (requests_in es) (requests_in fs))
     ∙ map-append (λ (x : Request). made x.role x.line) (filter (λ (x : Request). is_shape x.act) (requests_in es)) (filter (λ (x : Request). is_shape x.act) (requests_in fs)))
 
-pub shape_more : (role : Name) (es fs : List Entry) → shape_for role (es ++ fs) ≡ shape_for role es ++ shape_for role fs
-shape_more role es fs = by (bytes_eq role (codes "admin"))
+pub shape_for-append : (role : Name) (es fs : List Entry) → shape_for role (es ++ fs) ≡ shape_for role es ++ shape_for role fs
+shape_for-append role es fs = by (bytes_eq role (codes "admin"))
   where
     by : (b : Bool) → cond b (shape_of (es ++ fs)) [] ≡ cond b (shape_of es) [] ++ cond b (shape_of fs) []
-    by true = shape_both es fs
+    by true = shape_of-append es fs
     by false = refl
 
-pub shape_none : (role : Name) → shape_for role [] ≡ []
-shape_none role = by (bytes_eq role (codes "admin"))
+pub shape_for-none : (role : Name) → shape_for role [] ≡ []
+shape_for-none role = by (bytes_eq role (codes "admin"))
   where
     by : (b : Bool) → cond b (shape_of []) [] ≡ []
     by true = refl
@@ -55,23 +55,23 @@ shape_none role = by (bytes_eq role (codes "admin"))
 
 -- ---- tests of what is told
 
-pub filter_none : (p : Told → Bool) (ts : List Told) → AllByRecursion (λ t. p t ≡ false) ts → filter p ts ≡ []
-filter_none p [] a = refl
-filter_none p (t ∷ ts) a = (λ i. cond (a.0 i) (t ∷ filter p ts) (filter p ts)) ∙ filter_none p ts a.1
+pub filter-all_false : (p : Told → Bool) (ts : List Told) → AllByRecursion (λ t. p t ≡ false) ts → filter p ts ≡ []
+filter-all_false p [] a = refl
+filter-all_false p (t ∷ ts) a = (λ i. cond (a.0 i) (t ∷ filter p ts) (filter p ts)) ∙ filter-all_false p ts a.1
 
-pub filter_whole : (p : Told → Bool) (ts : List Told) → AllByRecursion (λ t. p t ≡ true) ts → filter p ts ≡ ts
-filter_whole p [] a = refl
-filter_whole p (t ∷ ts) a = (λ i. cond (a.0 i) (t ∷ filter p ts) (filter p ts)) ∙ ap (λ z. t ∷ z) (filter_whole p ts a.1)
+pub filter-all_true : (p : Told → Bool) (ts : List Told) → AllByRecursion (λ t. p t ≡ true) ts → filter p ts ≡ ts
+filter-all_true p [] a = refl
+filter-all_true p (t ∷ ts) a = (λ i. cond (a.0 i) (t ∷ filter p ts) (filter p ts)) ∙ ap (λ z. t ∷ z) (filter-all_true p ts a.1)
 
-pub any_none : (p : Told → Bool) (ts : List Told) → AllByRecursion (λ t. p t ≡ false) ts → list_any p ts ≡ false
-any_none p [] a = refl
-any_none p (t ∷ ts) a = (λ i. a.0 i || list_any p ts) ∙ any_none p ts a.1
+pub list_any-all_false : (p : Told → Bool) (ts : List Told) → AllByRecursion (λ t. p t ≡ false) ts → list_any p ts ≡ false
+list_any-all_false p [] a = refl
+list_any-all_false p (t ∷ ts) a = (λ i. a.0 i || list_any p ts) ∙ list_any-all_false p ts a.1
 
 -- ---- who comes in
 
-pub all_greeting : (P : Told → Type 0) → ((role : Name) → P (welcome role)) → ((at : List ℕ) → P (placed at)) → ((role line : List ℕ) → P (made role line)) → P settled
+pub AllByRecursion-greeting : (P : Told → Type 0) → ((role : Name) → P (welcome role)) → ((at : List ℕ) → P (placed at)) → ((role line : List ℕ) → P (made role line)) → P settled
     → (es : List Entry) (role : Name) (at : List ℕ) → AllByRecursion P (greeting es role at)
-all_greeting P w l k s es role at = (w role, (l at, with_last (shape_for role es) (all_made P k role es)))
+AllByRecursion-greeting P w l k s es role at = (w role, (l at, with_last (shape_for role es) (all_made P k role es)))
   where
     with_last : (ts : List Told) → AllByRecursion P ts → AllByRecursion P (ts ++ settled ∷ [])
     with_last [] a = (s, tt)
@@ -85,11 +85,11 @@ told_all_itself : (es : List Entry) (ts : List Told) → map (λ (s : Shown). s.
 told_all_itself es [] = refl
 told_all_itself es (t ∷ ts) = ap (λ z. t ∷ z) (told_all_itself es ts)
 
-pub told_fresh : (es : List Entry) (t : Token) (at : List ℕ) → told (fresh es t at) ≡ greeting es t.role at
-told_fresh es t at = told_all_itself es (greeting es t.role at)
+pub told-fresh : (es : List Entry) (t : Token) (at : List ℕ) → told (fresh es t at) ≡ greeting es t.role at
+told-fresh es t at = told_all_itself es (greeting es t.role at)
 
 -- ---- where a test leads
 
-pub test_of : {X : Type 0} (P : X → Type 0) (b : Bool) (x y : X) → P x → P y → P (cond b x y)
-test_of P true x y p q = p
-test_of P false x y p q = q
+pub cond-either : {X : Type 0} (P : X → Type 0) (b : Bool) (x y : X) → P x → P y → P (cond b x y)
+cond-either P true x y p q = p
+cond-either P false x y p q = q

@@ -19,18 +19,18 @@ use Rattle.iv_machine.proofs.Readers.{subscription_of-each}
 use Rattle.iv_message.specs.Told.{Told, replied, opened}
 use Rattle.iv_clients.specs.Clients.{Client, Slots, at_all, at_client, client_at, following, has_role, staying, telling, told_one}
 use Rattle.iv_clients.specs.Feeds.{Feed, Seat, ends_in, feed_of, feeds_left, is_of_role, seat_of, without_feed, without_seat}
-use Rattle.iv_clients.proofs.Slots.{one_some, some_is_none}
+use Rattle.iv_clients.proofs.Slots.{same-Some, not_None-Some}
 use Rattle.iv_gate.specs.Gate.{Gate, begun_for, columns_in, feed_begun, in_session, next_own, ran, seated, shut, subscribes, tells, told_of, entered, went_on}
 use Rattle.iv_gate.specs.Replies.{ActsAs}
-use Rattle.iv_gate.proofs.Asking.{begun_accepted}
-use Rattle.iv_gate.proofs.Ending.{find_ended}
-use Rattle.iv_gate.proofs.Growing.{map_front}
-use Rattle.iv_gate.proofs.Joining.{bytes_self, same_name}
-use Rattle.iv_gate.proofs.Machine.{find_left, find_passes, if_some_there}
-use Rattle.iv_gate.proofs.Opening.{above_given, reply_of_none, reply_of_some}
-use Rattle.iv_gate.proofs.Running.{all_so, filter_plain}
-use Rattle.iv_gate.proofs.Sound.{IsFeed, Seer, filter_all, left_of, seer_telling, Sounds}
-use Rattle.iv_gate.proofs.Summing.{both, same_self}
+use Rattle.iv_gate.proofs.Asking.{refusal-begun_for}
+use Rattle.iv_gate.proofs.Ending.{IsEnded-ends_in}
+use Rattle.iv_gate.proofs.Growing.{map-append_front}
+use Rattle.iv_gate.proofs.Joining.{bytes_eq-itself, same-bytes_eq}
+use Rattle.iv_gate.proofs.Machine.{find-filter_left, true-find, true-cond_Some}
+use Rattle.iv_gate.proofs.Opening.{eq-le_next, reply_in-None, reply_in-Some}
+use Rattle.iv_gate.proofs.Running.{AllByRecursion-map, AllByRecursion-filter}
+use Rattle.iv_gate.proofs.Sound.{IsFeed, Seer, AllByRecursion-filter_not, feed_of-filter, seer-telling, Sounds}
+use Rattle.iv_gate.proofs.Summing.{AllByRecursion-zip, eq-itself}
 use Rattle.iv_clients.specs.Journal.{Entry}
 use Rattle.iv_steps.specs.Steps.{Fact, all_carried, among, looked_at, shared, stepped}
 use Rattle.iv_machine.specs.Sound.{IsSoundState}
@@ -59,7 +59,7 @@ fed_left : (old new : State) (ends : Subscription → Option Cause) (feeds : Lis
     → IsFed feeds e → is_some (ends e) ≡ false → IsFed (feeds_left (flat_map (line_for old new ends) es) feeds) e
 fed_left old new ends feeds es e u h b n = record {
   feed = b.feed;
-  found = left_of (ends_in ls) e.number b.feed feeds b.found (by (ends_in ls e.number) refl);
+  found = feed_of-filter (ends_in ls) e.number b.feed feeds b.found (by (ends_in ls e.number) refl);
   session = b.session;
 }
   where
@@ -69,8 +69,8 @@ fed_left old new ends feeds es e u h b n = record {
     by : (t : Bool) → ends_in ls e.number ≡ t → ends_in ls e.number ≡ false
     by false t = t
     by true t =
-        let x = find_ended e.number old new ends es u t in
-        absurd (false≢true (sym n ∙ (ap (λ z. is_some (ends z)) (one_some e x.subscription (sym h ∙ x.found)) ∙ x.ended)))
+        let x = IsEnded-ends_in e.number old new ends es u t in
+        absurd (false≢true (sym n ∙ (ap (λ z. is_some (ends z)) (same-Some e x.subscription (sym h ∙ x.found)) ∙ x.ended)))
 
 fed_settled : (s : State) (n : ℕ) (act : Act) (feeds : List Feed) → AreNumbersUnique s.frame → AllByRecursion (IsFed feeds) (after_subscriptions s.frame n act)
     → AllByRecursion (IsFed (feeds_left (flat_map (line_for s (settled act (after s n act)) (ending_by act (after s n act))) (after_subscriptions s.frame n act)) feeds))
@@ -78,14 +78,15 @@ fed_settled : (s : State) (n : ℕ) (act : Act) (feeds : List Feed) → AreNumbe
 fed_settled s n act feeds u a =
     let es = after_subscriptions s.frame n act in let v = (AreNumbersUnique-after_frame s.frame n act u).unique in let ends = ending_by act (after s n act) in
     let ls = flat_map (line_for s (settled act (after s n act)) ends) es in
-    filter_all (IsFed (feeds_left ls feeds)) (λ e. is_some (ends e)) es
-    (both {P = λ e. subscription_of es e.number ≡ Some e} {Q = IsFed feeds} {R = λ e. is_some (ends e) ≡ false → IsFed (feeds_left ls feeds) e}
+    AllByRecursion-filter_not (IsFed (feeds_left ls feeds)) (λ e. is_some (ends e)) es
+    (AllByRecursion-zip {P = λ e. subscription_of es e.number ≡ Some e} {Q = IsFed feeds} {R = λ e. is_some (ends e) ≡ false → IsFed (feeds_left ls feeds) e}
     (λ e h b stays. fed_left s (settled act (after s n act)) ends feeds es e v h b stays) es (subscription_of-each es v) a)
 
 fed_by : (s : State) (k : Command) (feeds : List Feed) (o : Option Refusal) → AreNumbersUnique s.frame → (o ≡ None → AllByRecursion (IsFed feeds) (after_subscriptions s.frame k.session k.act))
     → ((r : Refusal) → o ≡ Some r → AllByRecursion (IsFed feeds) s.frame.subscriptions) → AllByRecursion (IsFed (feeds_left (outcome s k o).lines feeds)) (outcome s k o).state.frame.subscriptions
-fed_by s k feeds (Some r) u a b = all_so {P = IsFed feeds} {Q = IsFed (feeds_left (outcome s k (Some r)).lines feeds)}
-    (λ e x. record { feed = x.feed; found = left_of (λ j. false) e.number x.feed feeds x.found refl; session = x.session }) s.frame.subscriptions (b r refl)
+fed_by s k feeds (Some r) u a b = AllByRecursion-map {P = IsFed feeds} {Q = IsFed (feeds_left (outcome s k (Some r)).lines feeds)}
+    (λ e x. record { feed = x.feed; found = feed_of-filter (λ j. false) e.number x.feed feeds x.found refl; session = x.session }) s.frame.subscriptions
+      (b r refl)
 fed_by s k feeds None u a b = fed_settled s k.session k.act feeds u (a refl)
 
 fed_step : (s : State) (k : Command) (feeds : List Feed) → AreNumbersUnique s.frame → (refusal s k.session k.act ≡ None → AllByRecursion (IsFed feeds) (after_subscriptions s.frame k.session k.act))
@@ -171,14 +172,14 @@ role_kept : (f : Client → Client) → ((c : Client) → (f c).role ≡ c.role)
 role_kept f k role None = refl
 role_kept f k role (Some c) = ap (λ r. bytes_eq r role) (k c)
 
-pub role_there : (slots : Slots) (m : ℕ) (c : Client) → client_at slots m ≡ Some c → has_role c.role slots ≡ true
-role_there [] m c h = absurd (some_is_none c (sym h))
-role_there (o ∷ os) zero c h = ap (λ (x : Option Client). if_some x false (λ (d : Client). bytes_eq d.role c.role) || has_role c.role os) h ∙ ap (λ b. b || has_role c.role os) (bytes_self c.role)
-role_there (o ∷ os) (suc m) c h = or_right (if_some o false (λ (d : Client). bytes_eq d.role c.role)) (has_role c.role os) (role_there os m c h)
+pub has_role-client_at : (slots : Slots) (m : ℕ) (c : Client) → client_at slots m ≡ Some c → has_role c.role slots ≡ true
+has_role-client_at [] m c h = absurd (not_None-Some c (sym h))
+has_role-client_at (o ∷ os) zero c h = ap (λ (x : Option Client). if_some x false (λ (d : Client). bytes_eq d.role c.role) || has_role c.role os) h ∙ ap (λ b. b || has_role c.role os) (bytes_eq-itself c.role)
+has_role-client_at (o ∷ os) (suc m) c h = or_right (if_some o false (λ (d : Client). bytes_eq d.role c.role)) (has_role c.role os) (has_role-client_at os m c h)
 
-pub roles_all : (f : Client → Client) → ((c : Client) → (f c).role ≡ c.role) → (role : Name) (slots : Slots) → has_role role (at_all f slots) ≡ has_role role slots
-roles_all f k role [] = refl
-roles_all f k role (o ∷ os) = (λ i. role_kept f k role o i || roles_all f k role os i)
+pub has_role-at_all : (f : Client → Client) → ((c : Client) → (f c).role ≡ c.role) → (role : Name) (slots : Slots) → has_role role (at_all f slots) ≡ has_role role slots
+has_role-at_all f k role [] = refl
+has_role-at_all f k role (o ∷ os) = (λ i. role_kept f k role o i || has_role-at_all f k role os i)
 
 pub roles_one : (m : ℕ) (f : Client → Client) → ((c : Client) → (f c).role ≡ c.role) → (role : Name) (slots : Slots) → has_role role (at_client m f slots) ≡ has_role role slots
 roles_one m f k role [] = refl
@@ -186,29 +187,30 @@ roles_one zero f k role (o ∷ os) = (λ i. role_kept f k role o i || has_role r
 roles_one (suc m) f k role (o ∷ os) = (λ i. if_some o false (λ (c : Client). bytes_eq c.role role) || roles_one m f k role os i)
 
 ran_role : (g : Gate) (k : Command) (c : Client) → (staying (step g.machine k).lines (telling g.entries (told_of g k.act (step g.machine k) c) c)).role ≡ c.role
-ran_role g k c = ap (λ (v : Seer). v.role) (seer_telling g.entries (told_of g k.act (step g.machine k) c) c)
+ran_role g k c = ap (λ (v : Seer). v.role) (seer-telling g.entries (told_of g k.act (step g.machine k) c) c)
 
 pub ran_roles : (g : Gate) (k : Command) (role : Name) → has_role role (ran g k).clients ≡ has_role role g.clients
-ran_roles g k role = roles_all (λ c. staying (step g.machine k).lines (telling g.entries (told_of g k.act (step g.machine k) c) c)) (λ c. ran_role g k c) role g.clients
+ran_roles g k role = has_role-at_all (λ c. staying (step g.machine k).lines (telling g.entries (told_of g k.act (step g.machine k) c) c)) (λ c. ran_role g k c) role g.clients
 
-pub shared_one : (g : Gate) (m : ℕ) (f : Client → Client) → ((c : Client) → (f c).role ≡ c.role) → IsShared g → IsShared (record g { clients = at_client m f g.clients })
-shared_one g m f k b = record { sessions = b.sessions; seated = λ role h. b.seated role (sym (roles_one m f k role g.clients) ∙ h); fed = b.fed }
+pub IsShared-at_client : (g : Gate) (m : ℕ) (f : Client → Client) → ((c : Client) → (f c).role ≡ c.role) → IsShared g → IsShared (record g { clients = at_client m f g.clients })
+IsShared-at_client g m f k b = record { sessions = b.sessions; seated = λ role h. b.seated role (sym (roles_one m f k role g.clients) ∙ h); fed = b.fed }
 
-pub shared_all : (g : Gate) (f : Client → Client) → ((c : Client) → (f c).role ≡ c.role) → IsShared g → IsShared (record g { clients = at_all f g.clients })
-shared_all g f k b = record { sessions = b.sessions; seated = λ role h. b.seated role (sym (roles_all f k role g.clients) ∙ h); fed = b.fed }
+pub IsShared-at_all : (g : Gate) (f : Client → Client) → ((c : Client) → (f c).role ≡ c.role) → IsShared g
+    → IsShared (record g { clients = at_all f g.clients })
+IsShared-at_all g f k b = record { sessions = b.sessions; seated = λ role h. b.seated role (sym (has_role-at_all f k role g.clients) ∙ h); fed = b.fed }
 
 -- ---- commands of the gateway
 
-pub shared_plain : (g : Gate) (k : Command) → is_plain k.act ≡ true → AreNumbersUnique g.machine.frame → IsShared g → IsShared (ran g k)
-shared_plain g k p u b = record {
+pub IsShared-ran : (g : Gate) (k : Command) → is_plain k.act ≡ true → AreNumbersUnique g.machine.frame → IsShared g → IsShared (ran g k)
+IsShared-ran g k p u b = record {
   sessions = ap numbers_in (sessions_step g.machine k (plain_keeps k.act p)) ∙ b.sessions;
   seated = λ role h. b.seated role (sym (ran_roles g k role) ∙ h);
   fed = fed_step g.machine k g.feeds u (λ h. subst (AllByRecursion (IsFed g.feeds)) (sym (subscriptions_same g.machine.frame k.session k.act p)) b.fed) (λ r h. b.fed);
 }
 
 pub begun_sessions : (s : State) (n : ℕ) (role : Name) (o : Option Refusal) → o ≡ None → numbers_in (outcome s (in_session n (begin role)) o).state.frame.sessions ≡ numbers_in s.frame.sessions ++ n ∷ []
-begun_sessions s n role (Some r) h = absurd (some_is_none r h)
-begun_sessions s n role None h = map_front (λ (e : Session). e.number) s.frame.sessions _
+begun_sessions s n role (Some r) h = absurd (not_None-Some r h)
+begun_sessions s n role None h = map-append_front (λ (e : Session). e.number) s.frame.sessions _
 
 mapped_some : {X Y : Type 0} (f : X → Y) (o : Option X) → is_some (option_map f o) ≡ is_some o
 mapped_some f None = refl
@@ -219,11 +221,11 @@ seat_more seats more role h =
     mapped_some (λ (s : Seat). s.session) (find (is_of_role role) (seats ++ more))
     ∙ find_more (is_of_role role) seats more (sym (mapped_some (λ (s : Seat). s.session) (find (is_of_role role) seats)) ∙ h)
 
-pub shared_seated : (g : Gate) (n : ℕ) (role : Name) → begun_for g role ≡ Some n → AreNumbersUnique g.machine.frame → IsShared g → IsShared (seated g n role)
-shared_seated g n role e u b =
+pub IsShared-seated : (g : Gate) (n : ℕ) (role : Name) → begun_for g role ≡ Some n → AreNumbersUnique g.machine.frame → IsShared g → IsShared (seated g n role)
+IsShared-seated g n role e u b =
     let k = in_session n (begin role) in let h = record g { seats = g.seats ++ record { session = n; role = role } ∷ [] } in
     record {
-      sessions = begun_sessions g.machine n role (refusal g.machine n (begin role)) (begun_accepted g role n e) ∙ (ap (λ z. z ++ n ∷ []) b.sessions ∙ sym (map_front (λ (s : Seat). s.session) g.seats _));
+      sessions = begun_sessions g.machine n role (refusal g.machine n (begin role)) (refusal-begun_for g role n e) ∙ (ap (λ z. z ++ n ∷ []) b.sessions ∙ sym (map-append_front (λ (s : Seat). s.session) g.seats _));
       seated = λ r i. seat_more g.seats _ r (b.seated r (sym (ran_roles h k r) ∙ i));
       fed = fed_step g.machine k g.feeds u (λ i. b.fed) (λ r i. b.fed);
     }
@@ -233,21 +235,22 @@ fed_looked : (s t : State) (feeds : List Feed) → AreUnique s.frame.subscriptio
     → AllByRecursion (IsFed (feeds_left (looked_at s (among s t)).lines feeds)) (looked_at s (among s t)).state.frame.subscriptions
 fed_looked s t feeds u a =
     let now = among s t in let new = (looked_at s now).state in let es = s.frame.subscriptions in let ls = flat_map (line_for s new (ending now)) es in
-    filter_all (IsFed (feeds_left ls feeds)) (λ e. is_some (ending now e)) es
-    (both {P = λ e. subscription_of es e.number ≡ Some e} {Q = IsFed feeds} {R = λ e. is_some (ending now e) ≡ false → IsFed (feeds_left ls feeds) e}
+    AllByRecursion-filter_not (IsFed (feeds_left ls feeds)) (λ e. is_some (ending now e)) es
+    (AllByRecursion-zip {P = λ e. subscription_of es e.number ≡ Some e} {Q = IsFed feeds} {R = λ e. is_some (ending now e) ≡ false → IsFed
+      (feeds_left ls feeds) e}
     (λ e h b stays. fed_left s new (ending now) feeds es e u h b stays) es (subscription_of-each es u) a)
 
-pub shared_stepped : Sounds → (g : Gate) (es : List Entry) (fs : List Fact) (o : Outcome) (ts : Client → List Told) → stepped fs g.machine ≡ Some o → IsSoundState g.machine → IsShared g
+pub IsShared-stepped : Sounds → (g : Gate) (es : List Entry) (fs : List Fact) (o : Outcome) (ts : Client → List Told) → stepped fs g.machine ≡ Some o → IsSoundState g.machine → IsShared g
     → IsShared (went_on (entered g es) o ts)
-shared_stepped sounds g es fs o ts h s b = record {
+IsShared-stepped sounds g es fs o ts h s b = record {
   sessions = ap numbers_in (sounds.told fs g.machine o s h).sessions ∙ b.sessions;
-  seated = λ role j. b.seated role (sym (roles_all (λ c. staying o.lines (telling (g.entries ++ es) (ts c) c)) (λ c. ap (λ (v : Seer). v.role) (seer_telling (g.entries ++ es) (ts c) c)) role g.clients) ∙ j);
+  seated = λ role j. b.seated role (sym (has_role-at_all (λ c. staying o.lines (telling (g.entries ++ es) (ts c) c)) (λ c. ap (λ (v : Seer). v.role) (seer-telling (g.entries ++ es) (ts c) c)) role g.clients) ∙ j);
   fed = by (all_carried fs (shared g.machine)) h;
 }
   where
     by : (t : Option State) → option_map (λ u. looked_at g.machine (among g.machine u)) t ≡ Some o → AllByRecursion (IsFed (feeds_left o.lines g.feeds)) o.state.frame.subscriptions
-    by None e = absurd (some_is_none o (sym e))
-    by (Some t) e = subst (λ (z : Outcome). AllByRecursion (IsFed (feeds_left z.lines g.feeds)) z.state.frame.subscriptions) (one_some (looked_at g.machine (among g.machine t)) o e)
+    by None e = absurd (not_None-Some o (sym e))
+    by (Some t) e = subst (λ (z : Outcome). AllByRecursion (IsFed (feeds_left z.lines g.feeds)) z.state.frame.subscriptions) (same-Some (looked_at g.machine (among g.machine t)) o e)
         (fed_looked g.machine t g.feeds s.numbers.unique b.fed)
 
 -- ---- a subscription is opened
@@ -257,7 +260,7 @@ older_fed last new feeds [] h v a = tt
 older_fed last new feeds (e ∷ es) h v a = (
   record {
     feed = a.0.feed;
-    found = ap (λ i. cond (e.number == i) (Some new) (feed_of feeds e.number)) h ∙ (ap (λ z. cond z (Some new) (feed_of feeds e.number)) (above_given e.number last v.0) ∙ a.0.found);
+    found = ap (λ i. cond (e.number == i) (Some new) (feed_of feeds e.number)) h ∙ (ap (λ z. cond z (Some new) (feed_of feeds e.number)) (eq-le_next e.number last v.0) ∙ a.0.found);
     session = a.0.session;
   },
   older_fed last new feeds es h v.1 a.1,
@@ -268,11 +271,11 @@ opened_fed : (g : Gate) (n : ℕ) (role rel : Name) → AreNumbersUnique g.machi
 opened_fed g n role rel u b =
     let new : Feed = record { number = g.machine.frame.last + 1; session = n; role = role; rel = rel } in
     all_inserted (IsFed (new ∷ g.feeds)) (opened_by g.machine.frame n rel) g.machine.frame.subscriptions
-    (record { feed = new; found = ap (λ z. cond z (Some new) (feed_of g.feeds (g.machine.frame.last + 1))) (same_self (g.machine.frame.last + 1)); session = refl })
+    (record { feed = new; found = ap (λ z. cond z (Some new) (feed_of g.feeds (g.machine.frame.last + 1))) (eq-itself (g.machine.frame.last + 1)); session = refl })
     (older_fed g.machine.frame.last new g.feeds g.machine.frame.subscriptions refl u.given b.fed)
 
-pub shared_subscribes : (g : Gate) (m : ℕ) (id : Option Data) (n : ℕ) (role rel : Name) → AreNumbersUnique g.machine.frame → IsShared g → IsShared (subscribes g m id n role rel)
-shared_subscribes g m id n role rel u b = by (refusal g.machine n (subscribe rel)) refl
+pub IsShared-subscribes : (g : Gate) (m : ℕ) (id : Option Data) (n : ℕ) (role rel : Name) → AreNumbersUnique g.machine.frame → IsShared g → IsShared (subscribes g m id n role rel)
+IsShared-subscribes g m id n role rel u b = by (refusal g.machine n (subscribe rel)) refl
   where
     k : Command
     k = in_session n (subscribe rel)
@@ -287,29 +290,29 @@ shared_subscribes g m id n role rel u b = by (refusal g.machine n (subscribe rel
     by None h =
         let new : Feed = record { number = g.machine.frame.last + 1; session = n; role = role; rel = rel } in
         let i = feed_begun g m id n role rel (subscribed (g.machine.frame.last + 1)) in
-        subst (λ r. IsShared (ran (feed_begun g m id n role rel r) (in_session n (subscribe rel)))) (sym (reply_of_none g.machine n rel (refusal g.machine n (subscribe rel)) h))
+        subst (λ r. IsShared (ran (feed_begun g m id n role rel r) (in_session n (subscribe rel)))) (sym (reply_in-None g.machine n rel (refusal g.machine n (subscribe rel)) h))
         (record {
           sessions = ap numbers_in (sessions_step g.machine k refl) ∙ b.sessions;
           seated = λ name j. b.seated name (sym (ran_roles i k name ∙ (roles_one m (following (g.machine.frame.last + 1)) (λ c. refl) name (told_by t) ∙ roles_one m (told_one g.entries t) (λ c. refl) name g.clients)) ∙ j);
-          fed = fed_step g.machine k (new ∷ g.feeds) u (λ j. opened_fed g n role rel u b) (λ r j. absurd (some_is_none r (sym j ∙ h)));
+          fed = fed_step g.machine k (new ∷ g.feeds) u (λ j. opened_fed g n role rel u b) (λ r j. absurd (not_None-Some r (sym j ∙ h)));
         })
     by (Some r) h =
         let i = tells g m (replied id (refused r)) in
-        subst (λ x. IsShared (ran (feed_begun g m id n role rel x) (in_session n (subscribe rel)))) (sym (reply_of_some g.machine n rel (refusal g.machine n (subscribe rel)) r h))
+        subst (λ x. IsShared (ran (feed_begun g m id n role rel x) (in_session n (subscribe rel)))) (sym (reply_in-Some g.machine n rel (refusal g.machine n (subscribe rel)) r h))
         (record {
           sessions = ap numbers_in (sessions_step g.machine k refl) ∙ b.sessions;
           seated = λ name j. b.seated name (sym (ran_roles i k name ∙ roles_one m (told_one g.entries (replied id (refused r))) (λ c. refl) name g.clients) ∙ j);
-          fed = fed_step g.machine k g.feeds u (λ j. absurd (some_is_none r (sym h ∙ j))) (λ x j. b.fed);
+          fed = fed_step g.machine k g.feeds u (λ j. absurd (not_None-Some r (sym h ∙ j))) (λ x j. b.fed);
         })
 
 -- ---- a feed is closed
 
 has_sub : (n k : ℕ) (es : List Subscription) (x : Subscription) → subscription_of es k ≡ Some x → x.session ≡ n → list_any (λ e. (n == e.session) && (k == e.number)) es ≡ true
-has_sub n k [] x h s = absurd (some_is_none x (sym h))
+has_sub n k [] x h s = absurd (not_None-Some x (sym h))
 has_sub n k (e ∷ es) x h s = by (k == e.number) refl h (λ i. has_sub n k es x i s)
   where
     here : e ≡ x → (n == e.session) ≡ true
-    here i = ap (λ (y : Subscription). n == y.session) i ∙ (ap (λ j. n == j) s ∙ same_self n)
+    here i = ap (λ (y : Subscription). n == y.session) i ∙ (ap (λ j. n == j) s ∙ eq-itself n)
 
     right : (a b : Bool) → b ≡ true → (a || b) ≡ true
     right true b i = refl
@@ -317,7 +320,7 @@ has_sub n k (e ∷ es) x h s = by (k == e.number) refl h (λ i. has_sub n k es x
 
     by : (b : Bool) → (k == e.number) ≡ b → cond b (Some e) (subscription_of es k) ≡ Some x → (subscription_of es k ≡ Some x → list_any (λ y. (n == y.session) && (k == y.number)) es ≡ true)
         → (((n == e.session) && (k == e.number)) || list_any (λ y. (n == y.session) && (k == y.number)) es) ≡ true
-    by true f i more = (λ j. (here (one_some e x i) j && f j) || list_any (λ y. (n == y.session) && (k == y.number)) es)
+    by true f i more = (λ j. (here (same-Some e x i) j && f j) || list_any (λ y. (n == y.session) && (k == y.number)) es)
     by false f i more = right ((n == e.session) && (k == e.number)) _ (more i)
 
 closes_by : (a b : Bool) → a ≡ true → b ≡ true → or_else (or_else (test (not a) no_session) (or_else (test (not b) unknown_subscription) None)) None ≡ None
@@ -327,17 +330,17 @@ closes_by a b h k = (λ i. or_else (or_else (test (not (h i)) no_session) (or_el
 unsubscribes : (s : State) (f : Feed) → IsFeed s f → refusal s f.session (unsubscribe f.number) ≡ None
 unsubscribes s f b = closes_by (is_open s.frame f.session) (has_subscription s.frame f.session f.number) (ap is_some b.acts.session) (has_sub f.session f.number s.frame.subscriptions _ b.found refl)
 
-pub shared_shut : (g : Gate) (f : Feed) → IsFeed g.machine f → AreNumbersUnique g.machine.frame → IsShared g → IsShared (shut g f)
-shared_shut g f x u b =
+pub IsShared-shut : (g : Gate) (f : Feed) → IsFeed g.machine f → AreNumbersUnique g.machine.frame → IsShared g → IsShared (shut g f)
+IsShared-shut g f x u b =
     let k = in_session f.session (unsubscribe f.number) in let h = record g { feeds = without_feed f.number g.feeds } in
     record {
       sessions = ap numbers_in (sessions_step g.machine k refl) ∙ b.sessions;
       seated = λ name j. b.seated name (sym (ran_roles h k name) ∙ j);
       fed = fed_step g.machine k (without_feed f.number g.feeds) u
-          (λ i. filter_all (IsFed (without_feed f.number g.feeds)) (λ e. f.number == e.number) g.machine.frame.subscriptions
-          (all_so {P = IsFed g.feeds} {Q = λ e. (f.number == e.number) ≡ false → IsFed (without_feed f.number g.feeds) e}
-          (λ e y n. record { feed = y.feed; found = left_of (λ j. f.number == j) e.number y.feed g.feeds y.found n; session = y.session }) g.machine.frame.subscriptions b.fed))
-          (λ r i. absurd (some_is_none r (sym i ∙ unsubscribes g.machine f x)));
+          (λ i. AllByRecursion-filter_not (IsFed (without_feed f.number g.feeds)) (λ e. f.number == e.number) g.machine.frame.subscriptions
+          (AllByRecursion-map {P = IsFed g.feeds} {Q = λ e. (f.number == e.number) ≡ false → IsFed (without_feed f.number g.feeds) e}
+          (λ e y n. record { feed = y.feed; found = feed_of-filter (λ j. f.number == j) e.number y.feed g.feeds y.found n; session = y.session }) g.machine.frame.subscriptions b.fed))
+          (λ r i. absurd (not_None-Some r (sym i ∙ unsubscribes g.machine f x)));
     }
 
 -- ---- a session is finished
@@ -365,7 +368,7 @@ none_there n (e ∷ es) h = by (n == e.number) h (none_there n es)
     by false k more = ap (λ z. e.number ∷ z) (more k)
 
 not_open : (a : Bool) (r : Refusal) → or_else (or_else (test (not a) no_session) None) None ≡ Some r → a ≡ false
-not_open true r h = absurd (some_is_none r (sym h))
+not_open true r h = absurd (not_None-Some r (sym h))
 not_open false r h = refl
 
 pub finished_sessions : (s : State) (n : ℕ) (o : Option Refusal) → refusal s n finish ≡ o → numbers_in (outcome s (in_session n finish) o).state.frame.sessions ≡ filter (λ i. not (n == i)) (numbers_in s.frame.sessions)
@@ -377,34 +380,34 @@ of_some None h P k = absurd (false≢true h)
 of_some (Some x) h P k = k x refl
 
 seat_in : (P : Seat → Type 0) (q : Seat → Bool) (xs : List Seat) (x : Seat) → AllByRecursion P xs → find q xs ≡ Some x → P x
-seat_in P q [] x a h = absurd (some_is_none x (sym h))
+seat_in P q [] x a h = absurd (not_None-Some x (sym h))
 seat_in P q (y ∷ ys) x a h = by (q y) h (seat_in P q ys x a.1)
   where
     by : (b : Bool) → cond b (Some y) (find q ys) ≡ Some x → (find q ys ≡ Some x → P x) → P x
-    by true k more = subst P (one_some y x k) a.0
+    by true k more = subst P (same-Some y x k) a.0
     by false k more = more k
 
 seat_stays : (g : Gate) (s : Seat) (role : Name) → IsAlone s g.seats → has_role s.role g.clients ≡ false → has_role role g.clients ≡ true → is_some (seat_of g.seats role) ≡ true
     → is_some (seat_of (without_seat s.session g.seats) role) ≡ true
 seat_stays g s role a none some h =
     of_some (find (is_of_role role) g.seats) (sym (mapped_some (λ (x : Seat). x.session) (find (is_of_role role) g.seats)) ∙ h) (is_some (seat_of (without_seat s.session g.seats) role) ≡ true)
-    (λ x e. ap (λ o. is_some (option_map (λ (y : Seat). y.session) o)) (find_left (is_of_role role) (λ (y : Seat). not (s.session == y.session)) g.seats x e (by x e (s.session == x.session) refl)))
+    (λ x e. ap (λ o. is_some (option_map (λ (y : Seat). y.session) o)) (find-filter_left (is_of_role role) (λ (y : Seat). not (s.session == y.session)) g.seats x e (by x e (s.session == x.session) refl)))
   where
     by : (x : Seat) → find (is_of_role role) g.seats ≡ Some x → (b : Bool) → (s.session == x.session) ≡ b → not (s.session == x.session) ≡ true
     by x e false f = ap not f
     by x e true f =
-        let same : role ≡ s.role = sym (same_name x.role role (find_passes (is_of_role role) g.seats x e)) ∙ seat_in (λ (y : Seat). (s.session == y.session) ≡ true → y.role ≡ s.role) (is_of_role role) g.seats x a e f in
+        let same : role ≡ s.role = sym (same-bytes_eq x.role role (true-find (is_of_role role) g.seats x e)) ∙ seat_in (λ (y : Seat). (s.session == y.session) ≡ true → y.role ≡ s.role) (is_of_role role) g.seats x a e f in
         absurd (false≢true (sym none ∙ (ap (λ r. has_role r g.clients) (sym same) ∙ some)))
 
-pub shared_finished : (g : Gate) (s : Seat) → IsAlone s g.seats → has_role s.role g.clients ≡ false → AreNumbersUnique g.machine.frame → IsShared g
+pub IsShared-finish : (g : Gate) (s : Seat) → IsAlone s g.seats → has_role s.role g.clients ≡ false → AreNumbersUnique g.machine.frame → IsShared g
     → IsShared (ran (record g { seats = without_seat s.session g.seats }) (in_session s.session finish))
-shared_finished g s a none u b =
+IsShared-finish g s a none u b =
     let k = in_session s.session finish in let h = record g { seats = without_seat s.session g.seats } in
     record {
       sessions = finished_sessions g.machine s.session (refusal g.machine s.session finish) refl
           ∙ (ap (filter (λ i. not (s.session == i))) b.sessions ∙ sym (filter_mapped (λ (x : Seat). x.session) s.session g.seats));
       seated = λ role j. let some = sym (ran_roles h k role) ∙ j in seat_stays g s role a none some (b.seated role some);
-      fed = fed_step g.machine k g.feeds u (λ i. filter_plain (IsFed g.feeds) (λ e. not (s.session == e.session)) g.machine.frame.subscriptions b.fed) (λ r i. b.fed);
+      fed = fed_step g.machine k g.feeds u (λ i. AllByRecursion-filter (IsFed g.feeds) (λ e. not (s.session == e.session)) g.machine.frame.subscriptions b.fed) (λ r i. b.fed);
     }
 
 -- ---- two roles do not act in one session
@@ -416,25 +419,26 @@ same_place r q (x ∷ xs) h l = by (bytes_eq r x) (bytes_eq q x) refl refl h l (
     by : (a b : Bool) → bytes_eq r x ≡ a → bytes_eq q x ≡ b → cond (not a) (1 + position_or_len (bytes_eq r) xs) 0 ≡ cond (not b) (1 + position_or_len (bytes_eq q) xs) 0
         → cond (not a) (1 + position_or_len (bytes_eq r) xs) 0 < suc (length xs)
         → (position_or_len (bytes_eq r) xs ≡ position_or_len (bytes_eq q) xs → position_or_len (bytes_eq r) xs < length xs → r ≡ q) → r ≡ q
-    by true true e f i j more = same_name r x e ∙ sym (same_name q x f)
+    by true true e f i j more = same-bytes_eq r x e ∙ sym (same-bytes_eq q x f)
     by true false e f i j more = absurd (let no : ⊥ = omega (arith, i) in no)
     by false true e f i j more = absurd (let no : ⊥ = omega (arith, i) in no)
     by false false e f i j more = more (omega (arith, i)) (omega (arith, j))
 
-pub same_position : (r q : Name) (xs : List Name) (i : ℕ) → position (bytes_eq r) xs ≡ Some i → position (bytes_eq q) xs ≡ Some i → r ≡ q
-same_position r q xs i h k =
-    let a = if_some_there (nat_lt (position_or_len (bytes_eq r) xs) (length xs)) (position_or_len (bytes_eq r) xs) i h in
-    let b = if_some_there (nat_lt (position_or_len (bytes_eq q) xs) (length xs)) (position_or_len (bytes_eq q) xs) i k in
-    same_place r q xs (one_some _ _ (a.1 ∙ sym b.1)) (ltb-true (position_or_len (bytes_eq r) xs) (length xs) a.0)
+pub same-position : (r q : Name) (xs : List Name) (i : ℕ) → position (bytes_eq r) xs ≡ Some i → position (bytes_eq q) xs ≡ Some i → r ≡ q
+same-position r q xs i h k =
+    let a = true-cond_Some (nat_lt (position_or_len (bytes_eq r) xs) (length xs)) (position_or_len (bytes_eq r) xs) i h in
+    let b = true-cond_Some (nat_lt (position_or_len (bytes_eq q) xs) (length xs)) (position_or_len (bytes_eq q) xs) i k in
+    same_place r q xs (same-Some _ _ (a.1 ∙ sym b.1)) (ltb-true (position_or_len (bytes_eq r) xs) (length xs) a.0)
 
 place_of : (o : Option Session) (n p q : ℕ) → o ≡ Some (record { number = n; role = p }) → o ≡ Some (record { number = n; role = q }) → p ≡ q
-place_of o n p q h k = ap (λ (e : Session). e.role) (one_some (record { number = n; role = p }) (record { number = n; role = q }) (sym h ∙ k))
+place_of o n p q h k = ap (λ (e : Session). e.role) (same-Some (record { number = n; role = p }) (record { number = n; role = q }) (sym h ∙ k))
 
-pub one_role : (s : State) (n : ℕ) (r q : Name) → ActsAs s n r → ActsAs s n q → r ≡ q
-one_role s n r q a b =
+pub same-ActsAs : (s : State) (n : ℕ) (r q : Name) → ActsAs s n r → ActsAs s n q → r ≡ q
+same-ActsAs s n r q a b =
     let same = place_of (session_of s.frame.sessions n) n a.place b.place a.session b.session in
-    same_position r q s.frame.rights.roles b.place (a.known ∙ ap Some same) b.known
+    same-position r q s.frame.rights.roles b.place (a.known ∙ ap Some same) b.known
 
-pub alone_of : (s : State) (x : Seat) (seats : List Seat) → ActsAs s x.session x.role → AllByRecursion (λ (y : Seat). ActsAs s y.session y.role) seats → IsAlone x seats
-alone_of s x seats a b = all_so {P = λ (y : Seat). ActsAs s y.session y.role} {Q = λ (y : Seat). (x.session == y.session) ≡ true → y.role ≡ x.role}
-    (λ y h e. one_role s y.session y.role x.role h (subst (λ n. ActsAs s n x.role) (eqb-true x.session y.session e) a)) seats b
+pub IsAlone-ActsAs : (s : State) (x : Seat) (seats : List Seat) → ActsAs s x.session x.role → AllByRecursion (λ (y : Seat). ActsAs s y.session y.role) seats → IsAlone x seats
+IsAlone-ActsAs s x seats a b =
+    AllByRecursion-map {P = λ (y : Seat). ActsAs s y.session y.role} {Q = λ (y : Seat). (x.session == y.session) ≡ true → y.role ≡ x.role}
+    (λ y h e. same-ActsAs s y.session y.role x.role h (subst (λ n. ActsAs s n x.role) (eqb-true x.session y.session e) a)) seats b

@@ -13,18 +13,18 @@ use Rattle.iv_message.specs.Told.{Told, alive, settled}
 use Rattle.iv_clients.specs.Clients.{Client, Shown, Slots, all_shown, answered, at_all, at_client, beating, checked, client_at, closing, dropping, following, fresh, handing, is_slow, may_say, moved, opens, released, saying, settling, staying, telling, told_one}
 use Rattle.iv_clients.specs.Journal.{Entry, said_by, shape_for, Request}
 use Rattle.iv_clients.specs.Tokens.{Token}
-use Rattle.iv_clients.proofs.Slots.{at_every, at_other, at_same, not_free, one_some, set_gone, set_other, some_is_none}
+use Rattle.iv_clients.proofs.Slots.{client_at-at_all, client_at-at_other_client, client_at-at_client, is_free-client_at, same-Some, client_at-set_None, client_at-set_other, not_None-Some}
 use Rattle.iv_gate.specs.Events.{Event, presented, message, gone, known, ticked, synced, handed, failed, happens, next, arrived, forgave}
 use Rattle.iv_gate.specs.Gate.{Gate, came, done_for, entered, hears, in_session, ran, reply_to, done_in, token_for, said, settles, told_of, went, entries_of, informs, at_text, replies_to, reply_told}
 use Rattle.iv_gate.specs.Replies.{ByClient, heard_by}
-use Rattle.iv_gate.proofs.Growing.{Grown, assoc, shown_more}
+use Rattle.iv_gate.proofs.Growing.{Grown, append-associative, all_shown-Grown}
 use Rattle.iv_gate.proofs.Holding.{all_more}
-use Rattle.iv_gate.proofs.Running.{all_so}
+use Rattle.iv_gate.proofs.Running.{AllByRecursion-map}
 use Rattle.iv_gate.proofs.Stepping.{Keeps, Steps, came_keeps, step_done, went_keeps, request_of}
-use Rattle.iv_gate.proofs.Touching.{alive as is_alive, leaves_at, opens_token, rests}
+use Rattle.iv_gate.proofs.Touching.{next-alive as is_alive, client_at-is_gone, Opens-token_for, next-dead}
 use Rattle.iv_once.specs.Names.{Ask}
 use Rattle.iv_gate.specs.Arriving.{Step, entry_of, fact_of, fault_of, is_behind, landed, takes}
-use Rattle.iv_gate.proofs.Walking.{landed_at, landed_client, step_told}
+use Rattle.iv_gate.proofs.Walking.{client_at-landed, landed_client, step_told}
 use Rattle.iv_steps.specs.Steps.{stepped}
 
 -- ---- one client
@@ -48,7 +48,7 @@ told_then es b c d x y = record {
     more = x.grown.more ++ y.grown.more;
     handed = y.grown.handed ∙ x.grown.handed;
     sendable = y.grown.sendable ∙ x.grown.sendable;
-    unsynced = y.grown.unsynced ∙ (ap (λ z. z ++ y.grown.more) x.grown.unsynced ∙ assoc b.unsynced x.grown.more y.grown.more);
+    unsynced = y.grown.unsynced ∙ (ap (λ z. z ++ y.grown.more) x.grown.unsynced ∙ append-associative b.unsynced x.grown.more y.grown.more);
   };
   shows = all_more (Shows es false) x.grown.more y.grown.more x.shows y.shows;
 }
@@ -90,7 +90,7 @@ follow_start es slots j c h = record { now = c; there = h; so = told_same es c c
 follow_all : (es : List Entry) (f : Client → Client) → ((c : Client) → HearsMore es c (f c)) → (old slots : Slots) → AllFollow es old slots → AllFollow es old (at_all f slots)
 follow_all es f k old slots a j c h =
     let p = a j c h in
-    record { now = f p.now; there = at_every f slots j ∙ ap (option_map f) p.there; so = told_then es c p.now (f p.now) p.so (k p.now) }
+    record { now = f p.now; there = client_at-at_all f slots j ∙ ap (option_map f) p.there; so = told_then es c p.now (f p.now) p.so (k p.now) }
 
 follow_one : (es : List Entry) (m : ℕ) (f : Client → Client) → ((c : Client) → HearsMore es c (f c)) → (old slots : Slots) → AllFollow es old slots → AllFollow es old (at_client m f slots)
 follow_one es m f k old slots a j c h = by (m == j) refl
@@ -100,10 +100,10 @@ follow_one es m f k old slots a j c h = by (m == j) refl
         let p = a j c h in let same = eqb-true m j e in
         record {
           now = f p.now;
-          there = ap (λ i. client_at (at_client i f slots) j) same ∙ (at_same j f slots ∙ ap (option_map f) p.there);
+          there = ap (λ i. client_at (at_client i f slots) j) same ∙ (client_at-at_client j f slots ∙ ap (option_map f) p.there);
           so = told_then es c p.now (f p.now) p.so (k p.now);
         }
-    by false e = let p = a j c h in record { now = p.now; there = at_other m j f slots (eqb-false m j e) ∙ p.there; so = p.so }
+    by false e = let p = a j c h in record { now = p.now; there = client_at-at_other_client m j f slots (eqb-false m j e) ∙ p.there; so = p.so }
 
 -- ---- gateways: the entries are these, and whoever was there was told more that shows them
 
@@ -157,13 +157,13 @@ nothing_more : (es : List Entry) (answers : Bool) (c d : Client) → all_shown d
 nothing_more es answers c d e = record { more = []; shown = e ∙ sym (append-nil (all_shown c)); shows = tt }
 
 same_client : (es : List Entry) (answers : Bool) (slots : Slots) (j : ℕ) (c d : Client) → client_at slots j ≡ Some c → client_at slots j ≡ Some d → IsShowing es answers c d
-same_client es answers slots j c d h k = nothing_more es answers c d (ap all_shown (one_some d c (sym k ∙ h)))
+same_client es answers slots j c d h k = nothing_more es answers c d (ap all_shown (same-Some d c (sym k ∙ h)))
 
 showing : (es : List Entry) (c d : Client) → HearsMore es c d → IsShowing es false c d
-showing es c d x = record { more = x.grown.more; shown = shown_more c d x.grown; shows = x.shows }
+showing es c d x = record { more = x.grown.more; shown = all_shown-Grown c d x.grown; shows = x.shows }
 
 followed_by : (es : List Entry) (slots : Slots) (j : ℕ) (c d : Client) → Follows es slots j c → client_at slots j ≡ Some d → IsShowing es false c d
-followed_by es slots j c d p k = subst (IsShowing es false c) (one_some p.now d (sym p.there ∙ k)) (showing es c p.now p.so)
+followed_by es slots j c d p k = subst (IsShowing es false c) (same-Some p.now d (sym p.there ∙ k)) (showing es c p.now p.so)
 
 -- a token is presented
 came_shows : (g : Gate) (m : ℕ) (token : List ℕ) (j : ℕ) (c d : Client) → client_at g.clients j ≡ Some c → client_at (came g m token).clients j ≡ Some d
@@ -174,7 +174,7 @@ came_shows g m token j c d h k =
       entries = x.entries;
       clients = λ n a t. let p = x.clients n a t in record {
         now = p.now;
-        there = set_other m n (Some (fresh i.entries who (at_text i who))) i.clients (free who e n a t) ∙ p.there;
+        there = client_at-set_other m n (Some (fresh i.entries who (at_text i who))) i.clients (free who e n a t) ∙ p.there;
         so = p.so;
       };
     })
@@ -182,7 +182,7 @@ came_shows g m token j c d h k =
     subst (λ z. IsShowing z false c d) (sym b.entries) (followed_by g.entries (came g m token).clients j c d (b.clients j c h) k)
   where
     free : (who : Token) → token_for g m token ≡ Some who → (n : ℕ) (a : Client) → client_at g.clients n ≡ Some a → m ≡ n → ⊥
-    free who e n a t same = false≢true (sym (not_free m a g.clients (ap (client_at g.clients) same ∙ t)) ∙ (opens_token g m token who e).free)
+    free who e n a t same = false≢true (sym (is_free-client_at m a g.clients (ap (client_at g.clients) same ∙ t)) ∙ (Opens-token_for g m token who e).free)
 
 -- a client goes
 went_shows : (g : Gate) (m j : ℕ) (c d : Client) → (m ≡ j → ⊥) → client_at g.clients j ≡ Some c → client_at (went g m).clients j ≡ Some d → IsShowing (went g m).entries false c d
@@ -191,11 +191,13 @@ went_shows g m j c d ne h k =
     let b = went_keeps (IsTelling g.entries left) (telling_kit g.entries left) g m
     (λ x. record { entries = x.entries; clients = follow_start g.entries left })
     (record { entries = refl; clients = λ n a t. was n a t (m == n) refl }) in
-    subst (λ z. IsShowing z false c d) (sym b.entries) (followed_by g.entries (went g m).clients j c d (b.clients j c (set_other m j None g.clients ne ∙ h)) k)
+    subst (λ z. IsShowing z false c d) (sym b.entries)
+      (followed_by g.entries (went g m).clients j c d (b.clients j c (client_at-set_other m j None g.clients ne ∙ h)) k)
   where
     was : (n : ℕ) (a : Client) → client_at (set g.clients m None) n ≡ Some a → (t : Bool) → (m == n) ≡ t → Follows g.entries g.clients n a
-    was n a t true e = absurd (some_is_none a (sym t ∙ (ap (λ i. client_at (set g.clients i None) n) (eqb-true m n e) ∙ set_gone n g.clients)))
-    was n a t false e = record { now = a; there = sym (set_other m n None g.clients (eqb-false m n e)) ∙ t; so = told_same g.entries a a refl refl refl }
+    was n a t true e = absurd (not_None-Some a (sym t ∙ (ap (λ i. client_at (set g.clients i None) n) (eqb-true m n e) ∙ client_at-set_None n g.clients)))
+    was n a t false e =
+      record { now = a; there = sym (client_at-set_other m n None g.clients (eqb-false m n e)) ∙ t; so = told_same g.entries a a refl refl refl }
 
 -- a message
 
@@ -229,7 +231,7 @@ answered_shows es c d x =
     let more = map (λ (s : Shown). record s { answers = true }) (drop (length c.unsynced) d.unsynced) in
     record {
       more = more;
-      shown = shown_more c (answered c d) (record { more = more; handed = x.grown.handed; sendable = x.grown.sendable; unsynced = refl });
+      shown = all_shown-Grown c (answered c d) (record { more = more; handed = x.grown.handed; sendable = x.grown.sendable; unsynced = refl });
       shows = subst (λ z. AllByRecursion (Shows es true) (map (λ (s : Shown). record s { answers = true }) z))
           (sym (ap (drop (length c.unsynced)) x.grown.unsynced ∙ drop-append_seam c.unsynced x.grown.more)) (answering es x.grown.more x.shows);
     }
@@ -250,20 +252,22 @@ heard_shows g m text j b c d t say h k = by (m == j) refl
     by : (e : Bool) → (m == j) ≡ e → IsShowing did.entries (is_some (heard_by j c (message m text))) c d
     by true e =
         let same = eqb-true m j e in
-        let one : b ≡ c = one_some b c (sym t ∙ (ap (client_at g.clients) same ∙ h)) in
-        let p = reaches j (saying text c) (ap (λ i. client_at (at_client i (saying text) g.clients) j) same ∙ (at_same j (saying text) g.clients ∙ ap (option_map (saying text)) h)) in
+        let one : b ≡ c = same-Some b c (sym t ∙ (ap (client_at g.clients) same ∙ h)) in
+        let p = reaches j (saying text c) (ap (λ i. client_at (at_client i (saying text) g.clients) j) same ∙ (client_at-at_client j (saying text) g.clients ∙ ap (option_map (saying text)) h)) in
         let there : client_at (at_client m (answered b) did.clients) j ≡ Some (answered b p.now) =
-        ap (λ i. client_at (at_client i (answered b) did.clients) j) same ∙ (at_same j (answered b) did.clients ∙ ap (option_map (answered b)) p.there) in
-        let it : answered c p.now ≡ d = ap (λ z. answered z p.now) (sym one) ∙ one_some (answered b p.now) d (sym there ∙ k) in
+        ap (λ i. client_at (at_client i (answered b) did.clients) j) same ∙
+          (client_at-at_client j (answered b) did.clients ∙ ap (option_map (answered b)) p.there) in
+        let it : answered c p.now ≡ d = ap (λ z. answered z p.now) (sym one) ∙ same-Some (answered b p.now) d (sym there ∙ k) in
         let is : true ≡ is_some (heard_by j c (message m text)) =
         sym ((λ i. is_some (cond (e i && ap may_say (sym one) i) (Some text) None)) ∙ ap (λ z. is_some (cond (true && z) (Some text) None)) say) in
         subst (λ z. IsShowing did.entries z c d) is (subst (IsShowing did.entries true c) it (answered_shows did.entries c p.now
         (told_then did.entries c (saying text c) p.now (told_same did.entries c (saying text c) refl refl refl) p.so)))
     by false e =
         let ne = eqb-false m j e in
-        let p = reaches j c (at_other m j (saying text) g.clients ne ∙ h) in
+        let p = reaches j c (client_at-at_other_client m j (saying text) g.clients ne ∙ h) in
         let is : false ≡ is_some (heard_by j c (message m text)) = sym (ap (λ z. is_some (cond (z && may_say c) (Some text) None)) e) in
-        subst (λ z. IsShowing did.entries z c d) is (followed_by did.entries did.clients j c d p (sym (at_other m j (answered b) did.clients ne) ∙ k))
+        subst (λ z. IsShowing did.entries z c d) is
+          (followed_by did.entries did.clients j c d p (sym (client_at-at_other_client m j (answered b) did.clients ne) ∙ k))
 
 said_shows : (g : Gate) (m : ℕ) (text : List ℕ) (j : ℕ) (c d : Client) → client_at g.clients j ≡ Some c → client_at (said g m text).clients j ≡ Some d
     → IsShowing (said g m text).entries (is_some (heard_by j c (message m text))) c d
@@ -285,7 +289,7 @@ is_dropped : (es : List Entry) (answers : Bool) (c d : Client) → dropping c �
 is_dropped es answers c d e s = absurd (false≢true (sym s ∙ sym (ap (λ (x : Client). x.dropped) e)))
 
 every_at : (f : Client → Client) (slots : Slots) (j : ℕ) (c d : Client) → client_at slots j ≡ Some c → client_at (at_all f slots) j ≡ Some d → f c ≡ d
-every_at f slots j c d h k = one_some (f c) d (ap (option_map f) (sym h) ∙ (sym (at_every f slots j) ∙ k))
+every_at f slots j c d h k = same-Some (f c) d (ap (option_map f) (sym h) ∙ (sym (client_at-at_all f slots j) ∙ k))
 
 checked_shows : (es : List Entry) (answers : Bool) (tokens : List Token) (c d : Client) → checked tokens c ≡ d → d.dropped ≡ false → IsShowing es answers c d
 checked_shows es answers tokens c d e s = by (opens tokens c) e
@@ -308,15 +312,15 @@ handing_shows es answers c d e = by (length c.sendable == 0) e
     by true x = nothing_more es answers c d (ap all_shown (sym x))
     by false x = nothing_more es answers c d (ap all_shown (sym x)
         ∙ (ap (λ z. z ++ c.unsynced) (flat_map-append (λ ss. ss) c.handed (c.sendable ∷ []) ∙ ap (λ z. flat_map (λ ss. ss) c.handed ++ z) (append-nil c.sendable))
-        ∙ assoc (flat_map (λ ss. ss) c.handed) c.sendable c.unsynced))
+        ∙ append-associative (flat_map (λ ss. ss) c.handed) c.sendable c.unsynced))
 
 handed_shows : (es : List Entry) (answers : Bool) (g : Gate) (m j : ℕ) (c d : Client) → client_at g.clients j ≡ Some c → client_at (at_client m handing g.clients) j ≡ Some d → IsShowing es answers c d
 handed_shows es answers g m j c d h k = by (m == j) refl
   where
     by : (b : Bool) → (m == j) ≡ b → IsShowing es answers c d
     by true e = handing_shows es answers c d
-        (one_some (handing c) d (ap (option_map handing) (sym h) ∙ (sym (at_same j handing g.clients) ∙ (ap (λ i. client_at (at_client i handing g.clients) j) (sym (eqb-true m j e)) ∙ k))))
-    by false e = same_client es answers g.clients j c d h (sym (at_other m j handing g.clients (eqb-false m j e)) ∙ k)
+        (same-Some (handing c) d (ap (option_map handing) (sym h) ∙ (sym (client_at-at_client j handing g.clients) ∙ (ap (λ i. client_at (at_client i handing g.clients) j) (sym (eqb-true m j e)) ∙ k))))
+    by false e = same_client es answers g.clients j c d h (sym (client_at-at_other_client m j handing g.clients (eqb-false m j e)) ∙ k)
 
 -- a step
 landed_shows : (g : Gate) (e : Entry) (o : Outcome) (c : Client) → HearsMore (g.entries ++ e ∷ []) c (landed_client g e o c)
@@ -334,7 +338,7 @@ takes_shows g s j c d t k = by (is_some (fault_of g s)) (is_behind g s) (stepped
     by false false None i = same_client g.entries false g.clients j c d t i
     by false false (Some o) i =
         let e = entry_of s in
-        subst (IsShowing (g.entries ++ e ∷ []) false c) (one_some (landed_client g e o c) d (sym (landed_at g e o j c t) ∙ i)) (showing (g.entries ++ e ∷ []) c (landed_client g e o c) (landed_shows g e o c))
+        subst (IsShowing (g.entries ++ e ∷ []) false c) (same-Some (landed_client g e o c) d (sym (client_at-landed g e o j c t) ∙ i)) (showing (g.entries ++ e ∷ []) c (landed_client g e o c) (landed_shows g e o c))
 
 happens_shows : (g : Gate) (e : Event) (j : ℕ) (c d : Client) → client_at g.clients j ≡ Some c → client_at (happens g e).clients j ≡ Some d → d.dropped ≡ false
     → IsShowing (happens g e).entries (is_some (heard_by j c e)) c d
@@ -343,7 +347,7 @@ happens_shows g (message m text) j c d h k s = said_shows g m text j c d h k
 happens_shows g (gone m) j c d h k s = by (m == j) refl
   where
     by : (b : Bool) → (m == j) ≡ b → IsShowing (went g m).entries false c d
-    by true e = absurd (some_is_none d (sym k ∙ leaves_at g (gone m) j e))
+    by true e = absurd (not_None-Some d (sym k ∙ client_at-is_gone g (gone m) j e))
     by false e = went_shows g m j c d (eqb-false m j e) h k
 happens_shows g (known tokens) j c d h k s = checked_shows g.entries false tokens c d (every_at (checked tokens) g.clients j c d h k) s
 happens_shows g ticked j c d h k s =
@@ -360,7 +364,8 @@ next_shows : (g : Gate) (e : Event) (j : ℕ) (c d : Client) → client_at g.cli
 next_shows g e j c d h k s = by g.dead refl
   where
     by : (b : Bool) → g.dead ≡ b → IsShowing (next g e).entries (is_some (heard_by j c e)) c d
-    by true q = same_client (next g e).entries (is_some (heard_by j c e)) g.clients j c d h (ap (λ (x : Gate). client_at x.clients j) (sym (rests g e q)) ∙ k)
+    by true q =
+      same_client (next g e).entries (is_some (heard_by j c e)) g.clients j c d h (ap (λ (x : Gate). client_at x.clients j) (sym (next-dead g e q)) ∙ k)
     by false q =
         subst (λ (x : Gate). IsShowing x.entries (is_some (heard_by j c e)) c d) (sym (is_alive g e q))
         (happens_shows g e j c d h (ap (λ (x : Gate). client_at x.clients j) (sym (is_alive g e q)) ∙ k) s)
@@ -375,11 +380,11 @@ pub record IsToldMore (g : Gate) (e : Event) (m : ℕ) (c d : Client) : Type 0 w
   pub keeps : all_shown d ≡ all_shown c ++ more
   pub shows : AllByRecursion (IsShownBy g e m c) more
 
-pub are_shown : (g : Gate) (e : Event) → ByClient g e (IsToldMore g e)
-are_shown g e m c d a b =
+pub ByClient-IsToldMore : (g : Gate) (e : Event) → ByClient g e (IsToldMore g e)
+ByClient-IsToldMore g e m c d a b =
     let x = next_shows g e m c d a.there b.there b.stays in
     record {
       more = x.more;
       keeps = x.shown;
-      shows = all_so {P = Shows (next g e).entries (is_some (heard_by m c e))} {Q = IsShownBy g e m c} (λ s y. record { entries = y.entries; answers = y.answers }) x.more x.shows;
+      shows = AllByRecursion-map {P = Shows (next g e).entries (is_some (heard_by m c e))} {Q = IsShownBy g e m c} (λ s y. record { entries = y.entries; answers = y.answers }) x.more x.shows;
     }

@@ -107,8 +107,8 @@ sign_tells g m t = sign_at g m (told_one g.entries t) (λ c. refl)
 sign_informs : (g : Gate) (es : List Entry) → sign (informs g es) ≡ sign g
 sign_informs g es = ap (λ z. record (sign g) { slots = z }) (all_marks (λ c. telling g.entries (shape_for c.role es) c) (λ c. telling_mark g.entries (shape_for c.role es) c) g.clients)
 
-pub sign_settles : (g : Gate) → sign (settles g) ≡ sign g
-sign_settles g = ap (λ z. record (sign g) { slots = z }) (all_marks (settling g.entries) (settling_mark g.entries) g.clients)
+pub sign-settles : (g : Gate) → sign (settles g) ≡ sign g
+sign-settles g = ap (λ z. record (sign g) { slots = z }) (all_marks (settling g.entries) (settling_mark g.entries) g.clients)
 
 abbrev SameSign : Gate → Gate → Type 0
 SameSign g h = sign h ≡ sign g
@@ -118,7 +118,7 @@ sign_steps m = record {
   same = λ g. refl;
   chain = λ g h i x y. y ∙ x;
   run = λ g k e. sign_ran g k;
-  settle = sign_settles;
+  settle = sign-settles;
   tell = λ g t _. sign_tells g m t;
   seat = λ g seats. refl;
   feed = λ g feeds. refl;
@@ -127,23 +127,23 @@ sign_steps m = record {
   close = λ g own. sign_at g m (closing own) (λ c. refl);
 }
 
-pub sign_with : (g : Gate) (role : Name) → sign (with_session g role) ≡ sign g
-sign_with g role = step_with 0 SameSign (sign_steps 0) g role
+pub sign-with_session : (g : Gate) (role : Name) → sign (with_session g role) ≡ sign g
+sign-with_session g role = step_with 0 SameSign (sign_steps 0) g role
 
 pub sign_rested : (g : Gate) (s : Seat) → sign (rested g s) ≡ sign g
 sign_rested g s = step_rested 0 SameSign (sign_steps 0) g s
 
-pub sign_all_rested : (g : Gate) (ss : List Seat) → sign (all_rested g ss) ≡ sign g
-sign_all_rested g ss = step_all_rested 0 SameSign (sign_steps 0) g ss
+pub sign-all_rested : (g : Gate) (ss : List Seat) → sign (all_rested g ss) ≡ sign g
+sign-all_rested g ss = step_all_rested 0 SameSign (sign_steps 0) g ss
 
-pub sign_all_swept : (g : Gate) (ks : List ℕ) → sign (all_swept g ks) ≡ sign g
-sign_all_swept g ks = step_all_swept 0 SameSign (sign_steps 0) g ks
+pub sign-all_swept : (g : Gate) (ks : List ℕ) → sign (all_swept g ks) ≡ sign g
+sign-all_swept g ks = step_all_swept 0 SameSign (sign_steps 0) g ks
 
 -- a step
-pub sign_landed : (g : Gate) (e : Entry) (o : Outcome) → sign (landed g e o) ≡ record (sign g) { entries = g.entries ++ e ∷ [] }
-sign_landed g e o =
+pub sign-landed : (g : Gate) (e : Entry) (o : Outcome) → sign (landed g e o) ≡ record (sign g) { entries = g.entries ++ e ∷ [] }
+sign-landed g e o =
     let h = entered g (e ∷ []) in let ts = λ (c : Client). own_lines g.feeds o.lines c.subs ++ map granted (newly g.machine.frame o.state.frame c.role) in let i = went_on h o ts in
-    sign_settles (informs i (e ∷ [])) ∙ (sign_informs i (e ∷ []) ∙ sign_went h o ts)
+    sign-settles (informs i (e ∷ [])) ∙ (sign_informs i (e ∷ []) ∙ sign_went h o ts)
 
 -- ---- messages
 
@@ -179,9 +179,9 @@ pub record IsHeardSign (g : Gate) (m : ℕ) (c : Client) (text : List ℕ) : Typ
   pub entries : (hears g m c text).entries ≡ g.entries ++ more
   pub sign : sign (hears g m c text) ≡ record (sign g) { entries = (hears g m c text).entries; slots = marks_in (at_client m (saying text) g.clients) }
 
-pub sign_hears : (g : Gate) (m : ℕ) (c : Client) (text : List ℕ) → IsHeardSign g m c text
-sign_hears g m c text =
+pub IsHeardSign-hears : (g : Gate) (m : ℕ) (c : Client) (text : List ℕ) → IsHeardSign g m c text
+IsHeardSign-hears g m c text =
     let asked = record g { clients = at_client m (saying text) g.clients } in let h = done_for asked m c text (said_by text) in
     let x = sign_done asked m c text (said_by text) in
-    let same = sign_at (settles h) m (clients.answered c) (λ d. refl) ∙ sign_settles h in
+    let same = sign_at (settles h) m (clients.answered c) (λ d. refl) ∙ sign-settles h in
     record { more = x.more; entries = x.entries; sign = same ∙ x.sign }

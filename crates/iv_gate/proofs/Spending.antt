@@ -14,19 +14,19 @@ use Rattle.iv_clients.specs.Names.{Claim, limits}
 use Rattle.iv_clients.specs.Tokens.{Token}
 use Rattle.iv_journal.specs.Journal.{Line}
 use Rattle.iv_once.specs.Names.{Ask, Named, Verdict, is_over, spent_by, verdict}
-use Rattle.iv_once.proofs.Lists.{le_false, same_bytes}
+use Rattle.iv_once.proofs.Lists.{lt-nat_le_false, same-bytes_eq}
 use Rattle.iv_gate.specs.Arriving.{Step, fault_of, takes}
 use Rattle.iv_gate.specs.Events.{Event, presented, message, gone, known, ticked, synced, handed, arrived, forgave, failed, happens, next}
 use Rattle.iv_gate.specs.Gate.{Gate, Head, Log, answering, asked_by, entries_of, hears, is_accepted, may_have, names_of, said, spent_in, token_for}
 use Rattle.iv_gate.specs.Replies.{refused_by}
 use Rattle.iv_gate.specs.Restoring.{Restores, gate_at_start}
 use Rattle.iv_gate.specs.Runs.{Runs, begins, goes_on, begins_again}
-use Rattle.iv_gate.proofs.Answered.{Reason, has_to_wait, is_again, is_ahead, is_another, is_carried, is_foreign, is_late, reason_of, spent_is}
-use Rattle.iv_gate.proofs.Replying.{act_added, adds_said, asked, carried_reply, decided_added, said_added, shared_added, verdict_added}
-use Rattle.iv_gate.proofs.Signs.{Sign, marks, sign, sign_hears}
+use Rattle.iv_gate.proofs.Answered.{Reason, has_to_wait, is_again, is_ahead, is_another, is_carried, is_foreign, is_late, Reason-verdict, spent_by-count_by}
+use Rattle.iv_gate.proofs.Replying.{act_added, entries-done_for, asked, carried_reply, decided_added, said_added, shared_added, verdict_added}
+use Rattle.iv_gate.proofs.Signs.{Sign, marks, sign, IsHeardSign-hears}
 use Rattle.iv_gate.proofs.Stepping.{request_of}
-use Rattle.iv_gate.proofs.Summing.{neither}
-use Rattle.iv_gate.proofs.Touching.{came_as, came_sign, takes_sign, taken_by, went_sign}
+use Rattle.iv_gate.proofs.Summing.{or-both_false}
+use Rattle.iv_gate.proofs.Touching.{came_as, sign-came_as, sign-takes, taken_by, sign-went}
 
 -- ---- counts
 
@@ -89,12 +89,12 @@ one_name g q a r true w s n holder = by (bytes_eq a.holder holder) refl (not (is
     before h = refused_in h (names_in (drop g.forgiven g.entries))
 
     less : before a.holder < 64
-    less = subst (λ k. k < 64) (spent_is (names_in (drop g.forgiven g.entries)) a.holder)
-        (le_false 64 (spent_by (spent_in (names_in (drop g.forgiven g.entries))) a.holder) (neither (nat_le 64 (spent_by (spent_in (names_in (drop g.forgiven g.entries))) a.holder)) _ w).0)
+    less = subst (λ k. k < 64) (spent_by-count_by (names_in (drop g.forgiven g.entries)) a.holder)
+        (lt-nat_le_false 64 (spent_by (spent_in (names_in (drop g.forgiven g.entries))) a.holder) (or-both_false (nat_le 64 (spent_by (spent_in (names_in (drop g.forgiven g.entries))) a.holder)) _ w).0)
 
     by : (d : Bool) → bytes_eq a.holder holder ≡ d → (x : Bool) → before holder + (0 + cond (x && bytes_eq a.holder holder) 1 0) ≤ 64
     by true e true =
-        let here : before holder < 64 = subst (λ h. before h < 64) (same_bytes a.holder holder e) less in
+        let here : before holder < 64 = subst (λ h. before h < 64) (same-bytes_eq a.holder holder e) less in
         subst (λ t. before holder + (0 + cond (true && t) 1 0) ≤ 64) (sym e) (omega (arith, here))
     by false e true = let l = s.spent n holder in subst (λ t. before holder + (0 + cond (true && t) 1 0) ≤ 64) (sym e) (omega (arith, l))
     by d e false = let l = s.spent n holder in omega (arith, l)
@@ -128,7 +128,7 @@ module _ (g : Gate) (s : IsSpent (view g)) where
     where
       never : (a : Ask) → None ≡ Some a → is_over (names_of g) a.holder ≡ false
       never a e = cc
-  shared_room c q (Some k) = let a = asked_by c q.line k in verdict_room q a (verdict (names_of g) a) (reason_of (names_of g) a)
+  shared_room c q (Some k) = let a = asked_by c q.line k in verdict_room q a (verdict (names_of g) a) (Reason-verdict (names_of g) a)
 
   act_room : (c : Client) (text : List ℕ) (act : Act) → HasRoom (view g) (act_added g c text act)
   act_room c text (begin role) = none_more (view g) s
@@ -160,9 +160,9 @@ module _ (g : Gate) (s : IsSpent (view g)) where
 
 hears_spent : (g : Gate) (m : ℕ) (c : Client) (text : List ℕ) → IsSpent (view g) → IsSpent (view (hears g m c text))
 hears_spent g m c text s =
-    let x = sign_hears g m c text in let more = said_added (asked g m text) c text (said_by text) in
+    let x = IsHeardSign-hears g m c text in let more = said_added (asked g m text) c text (said_by text) in
     let same : view (hears g m c text) ≡ record (view g) { entries = g.entries ++ more } =
-    ap view_of x.sign ∙ ap (λ z. record (view g) { entries = z }) (adds_said (asked g m text) m c text (said_by text)) in
+    ap view_of x.sign ∙ ap (λ z. record (view g) { entries = z }) (entries-done_for (asked g m text) m c text (said_by text)) in
     subst IsSpent (sym same) (more_spent (view g) more (said_room (asked g m text) s c text (said_by text)) s)
 
 said_spent : (g : Gate) (m : ℕ) (text : List ℕ) → IsSpent (view g) → IsSpent (view (said g m text))
@@ -183,7 +183,7 @@ takes_spent : (g : Gate) (x : Step) → IsSpent (view g) → IsSpent (view (take
 takes_spent g x s = subst IsSpent (sym same) (more_spent (view g) (taken_by g x) room s)
   where
     same : view (takes g x) ≡ record (view g) { entries = g.entries ++ taken_by g x }
-    same = ap view_of (takes_sign g x) ∙ by (is_some (fault_of g x))
+    same = ap view_of (sign-takes g x) ∙ by (is_some (fault_of g x))
       where
         by : (b : Bool) → view_of (record { marks = cond b (record (marks g) { dead = true }) (marks g); entries = g.entries ++ taken_by g x; slots = [] }) ≡ record (view g) { entries = g.entries ++ taken_by g x }
         by true = refl
@@ -201,9 +201,9 @@ happens_spent g (presented m token) s = by (token_for g m token)
   where
     by : (o : Option Token) → IsSpent (view (if_some o g (came_as g m)))
     by None = s
-    by (Some t) = subst IsSpent (sym (ap view_of (came_sign g m t))) s
+    by (Some t) = subst IsSpent (sym (ap view_of (sign-came_as g m t))) s
 happens_spent g (message m text) s = said_spent g m text s
-happens_spent g (gone m) s = subst IsSpent (sym (ap view_of (went_sign g m))) s
+happens_spent g (gone m) s = subst IsSpent (sym (ap view_of (sign-went g m))) s
 happens_spent g (known tokens) s = s
 happens_spent g ticked s = s
 happens_spent g synced s = s
@@ -233,5 +233,5 @@ runs_spent cap _ (begins tokens most head journal g r) = restored_spent cap toke
 runs_spent cap _ (goes_on h e w r) = next_spent h e (runs_spent cap h r)
 runs_spent cap _ (begins_again h disk tokens most i r l x) = restored_spent cap tokens most h.head h.sent disk i x
 
-pub spends_little : (cap : ℕ) (g : Gate) → Runs cap g → g.head.log ≡ None → (holder : List ℕ) → refused_by g holder ≤ limits.refusals
-spends_little cap g r n holder = (runs_spent cap g r).spent n holder
+pub le-refused_by : (cap : ℕ) (g : Gate) → Runs cap g → g.head.log ≡ None → (holder : List ℕ) → refused_by g holder ≤ limits.refusals
+le-refused_by cap g r n holder = (runs_spent cap g r).spent n holder

@@ -18,7 +18,7 @@ use Rattle.iv_clients.specs.Tokens.{Token}
 use Rattle.iv_gate.specs.Gate.{Gate, acts, all_rested, all_swept, at_text, begun_for, came, closes, columns_in, done_for, entered, feed_begun, hears, in_session, is_needed, joined, joined_by, joins, may_have, next_own, ran, reads, reads_first, replies_to, reply_to, done_in, rested, said, seated, settles, shares, shut, subscribes, swept, tells, token_for, went, with_session}
 use Rattle.iv_gate.specs.Laws.{is_made}
 use Rattle.iv_gate.proofs.Choosing.{IsAside, refers, leaves, repeats, shares_so}
-use Rattle.iv_gate.proofs.Shaping.{test_of}
+use Rattle.iv_gate.proofs.Shaping.{cond-either}
 
 -- what client c asks by a text
 abbrev pub request_of : Client → List ℕ → Act → Request
@@ -198,7 +198,7 @@ module _ (m : ℕ) (G : Gate → Gate → Type 0) (kit : Steps m G) where
     step_done c text no_object f k = reach (tells g m (fault 2)) (kit.tell g (fault 2) refl)
     step_done c text (no_request id why) f k = reach (tells g m (unasked id why)) (kit.tell g (unasked id why) refl)
     step_done c text (request id act) f k =
-        test_of F (may_have (claim_said text) act) (acts g m c id text act) (tells g m (unasked id (unknown (codes "once"))))
+        cond-either F (may_have (claim_said text) act) (acts g m c id text act) (tells g m (unasked id (unknown (codes "once"))))
         (step_acts c id text act (λ o n x e. f id act o n refl x e) (λ a r x. k id act a r refl x))
         (reach (tells g m (unasked id (unknown (codes "once")))) (kit.tell g (unasked id (unknown (codes "once"))) refl))
 

@@ -18,12 +18,12 @@ use Rattle.iv_machine.specs.Reached.{AreGiven, AreUnique}
 use Rattle.iv_machine.specs.Refusing.{refusal}
 use Rattle.iv_machine.specs.Sound.{IsSoundState, MayRead}
 use Rattle.iv_machine.specs.State.{Session, State, Subscription, actor, is_open, is_within_for, missing_for, rel_of, session_of, shown, subscription_of, view_for, view_shown}
-use Rattle.iv_clients.proofs.Slots.{some_is_none}
+use Rattle.iv_clients.proofs.Slots.{not_None-Some}
 use Rattle.iv_gate.specs.Gate.{in_session, reply_in}
-use Rattle.iv_gate.proofs.Machine.{find_filtered, find_inserted, find_left, find_some_kept, first_none, later_none, not_next, passed}
-use Rattle.iv_gate.proofs.Running.{all_so}
-use Rattle.iv_gate.proofs.Sound.{filter_all}
-use Rattle.iv_gate.proofs.Summing.{both, differs_back, neither, same_self}
+use Rattle.iv_gate.proofs.Machine.{find-filter, find-insert_subscription, find-filter_left, find-append, None-or_else_first, None-or_else_later, eq-le_last, test-None}
+use Rattle.iv_gate.proofs.Running.{AllByRecursion-map}
+use Rattle.iv_gate.proofs.Sound.{AllByRecursion-filter_not}
+use Rattle.iv_gate.proofs.Summing.{AllByRecursion-zip, eq-false_turned, or-both_false, eq-itself}
 
 -- ---- subscriptions that stand
 
@@ -35,22 +35,22 @@ pub record IsStanding (s : State) (e : Subscription) : Type 0 where
 
 none_same : (n : ℕ) (es : List Subscription) → list_any (λ (f : Subscription). n == f.number) es ≡ false → AllByRecursion (λ (f : Subscription). (f.number == n) ≡ false) es
 none_same n [] h = tt
-none_same n (e ∷ es) h = let p = neither (n == e.number) (list_any (λ (f : Subscription). n == f.number) es) h in (differs_back n e.number p.0, none_same n es p.1)
+none_same n (e ∷ es) h = let p = or-both_false (n == e.number) (list_any (λ (f : Subscription). n == f.number) es) h in (eq-false_turned n e.number p.0, none_same n es p.1)
 
-pub found_each : (es : List Subscription) → AreUnique es → AllByRecursion (λ (e : Subscription). subscription_of es e.number ≡ Some e) es
-found_each [] u = tt
-found_each (e ∷ es) u = (
-  ap (λ b. cond b (Some e) (subscription_of es e.number)) (same_self e.number),
-  both {P = λ (f : Subscription). (f.number == e.number) ≡ false} {Q = λ (f : Subscription). subscription_of es f.number ≡ Some f} {R = λ (f : Subscription). subscription_of (e ∷ es) f.number ≡ Some f}
-      (λ f d h. ap (λ b. cond b (Some e) (subscription_of es f.number)) d ∙ h) es (none_same e.number es u.0) (found_each es u.1),
+pub AllByRecursion-subscription_of : (es : List Subscription) → AreUnique es → AllByRecursion (λ (e : Subscription). subscription_of es e.number ≡ Some e) es
+AllByRecursion-subscription_of [] u = tt
+AllByRecursion-subscription_of (e ∷ es) u = (
+  ap (λ b. cond b (Some e) (subscription_of es e.number)) (eq-itself e.number),
+  AllByRecursion-zip {P = λ (f : Subscription). (f.number == e.number) ≡ false} {Q = λ (f : Subscription). subscription_of es f.number ≡ Some f} {R = λ (f : Subscription). subscription_of (e ∷ es) f.number ≡ Some f}
+      (λ f d h. ap (λ b. cond b (Some e) (subscription_of es f.number)) d ∙ h) es (none_same e.number es u.0) (AllByRecursion-subscription_of es u.1),
 )
 
 pub standing : (s : State) → IsSoundState s → AllByRecursion (IsStanding s) s.frame.subscriptions
 standing s b =
     let es = s.frame.subscriptions in
-    both {P = λ (e : Subscription). subscription_of es e.number ≡ Some e} {Q = λ (e : Subscription). (is_open s.frame e.session ≡ true) × (ending s e ≡ None)} {R = IsStanding s}
-    (λ e f p. record { found = f; opened = p.0; served = p.1 }) es (found_each es b.numbers.unique)
-    (both {P = MayRead s.frame} {Q = λ (e : Subscription). ending s e ≡ None} {R = λ (e : Subscription). (is_open s.frame e.session ≡ true) × (ending s e ≡ None)}
+    AllByRecursion-zip {P = λ (e : Subscription). subscription_of es e.number ≡ Some e} {Q = λ (e : Subscription). (is_open s.frame e.session ≡ true) × (ending s e ≡ None)} {R = IsStanding s}
+    (λ e f p. record { found = f; opened = p.0; served = p.1 }) es (AllByRecursion-subscription_of es b.numbers.unique)
+    (AllByRecursion-zip {P = MayRead s.frame} {Q = λ (e : Subscription). ending s e ≡ None} {R = λ (e : Subscription). (is_open s.frame e.session ≡ true) × (ending s e ≡ None)}
     (λ e m p. (m.session, p)) es (recursion_from_All (MayRead s.frame) es b.readers) b.served)
 
 -- ---- nothing differs
@@ -161,10 +161,10 @@ begin_still s n role (Some r) b = refl
 begin_still s n role None b =
     let ss : List Session = s.frame.sessions ++ record { number = n; role = role_number s.frame.rights role } ∷ [] in
     ap (λ z. reply n done ∷ z) (quiet_changes s ss s.frame.subscriptions s.frame.last
-    (all_so {P = IsStanding s} {Q = Stays s ss s.frame.subscriptions s.frame.last s.frame.subscriptions}
+    (AllByRecursion-map {P = IsStanding s} {Q = Stays s ss s.frame.subscriptions s.frame.last s.frame.subscriptions}
     (λ e x. record {
       same = ap (λ o. unwrap_or (option_map (λ (y : Session). y.role) o) (length s.frame.rights.roles))
-          (find_some_kept (λ (y : Session). e.session == y.number) s.frame.sessions (record { number = n; role = role_number s.frame.rights role } ∷ []) (session_of s.frame.sessions e.session) refl x.opened);
+          (find-append (λ (y : Session). e.session == y.number) s.frame.sessions (record { number = n; role = role_number s.frame.rights role } ∷ []) (session_of s.frame.sessions e.session) refl x.opened);
       found = x.found;
       before = x;
     }) s.frame.subscriptions (standing s b)))
@@ -174,13 +174,14 @@ finish_still s n (Some r) b = refl
 finish_still s n None b =
     let ss = filter (λ (y : Session). not (n == y.number)) s.frame.sessions in let es = filter (λ (y : Subscription). not (n == y.session)) s.frame.subscriptions in
     ap (λ z. reply n done ∷ z) (quiet_changes s ss es s.frame.last
-    (filter_all (Stays s ss es s.frame.last es) (λ (y : Subscription). n == y.session) s.frame.subscriptions
-    (all_so {P = IsStanding s} {Q = λ (e : Subscription). (n == e.session) ≡ false → Stays s ss es s.frame.last es e}
+    (AllByRecursion-filter_not (Stays s ss es s.frame.last es) (λ (y : Subscription). n == y.session) s.frame.subscriptions
+    (AllByRecursion-map {P = IsStanding s} {Q = λ (e : Subscription). (n == e.session) ≡ false → Stays s ss es s.frame.last es e}
     (λ e x ne. record {
       same = ap (λ o. unwrap_or (option_map (λ (y : Session). y.role) o) (length s.frame.rights.roles))
-          (find_filtered (λ (y : Session). e.session == y.number) (λ (y : Session). not (n == y.number)) s.frame.sessions
+          (find-filter (λ (y : Session). e.session == y.number) (λ (y : Session). not (n == y.number)) s.frame.sessions
           (λ y h. ap (λ i. not (n == i)) (sym (eqb-true e.session y.number h)) ∙ ap not ne));
-      found = find_left (λ (y : Subscription). e.number == y.number) (λ (y : Subscription). not (n == y.session)) s.frame.subscriptions e x.found (ap not ne);
+      found =
+        find-filter_left (λ (y : Subscription). e.number == y.number) (λ (y : Subscription). not (n == y.session)) s.frame.subscriptions e x.found (ap not ne);
       before = x;
     }) s.frame.subscriptions (standing s b))))
 
@@ -189,29 +190,30 @@ close_still s n k (Some r) b = refl
 close_still s n k None b =
     let es = filter (λ (y : Subscription). not (k == y.number)) s.frame.subscriptions in
     ap (λ z. reply n done ∷ z) (quiet_changes s s.frame.sessions es s.frame.last
-    (filter_all (Stays s s.frame.sessions es s.frame.last es) (λ (y : Subscription). k == y.number) s.frame.subscriptions
-    (all_so {P = IsStanding s} {Q = λ (e : Subscription). (k == e.number) ≡ false → Stays s s.frame.sessions es s.frame.last es e}
+    (AllByRecursion-filter_not (Stays s s.frame.sessions es s.frame.last es) (λ (y : Subscription). k == y.number) s.frame.subscriptions
+    (AllByRecursion-map {P = IsStanding s} {Q = λ (e : Subscription). (k == e.number) ≡ false → Stays s s.frame.sessions es s.frame.last es e}
     (λ e x ne. record {
       same = refl;
-      found = find_left (λ (y : Subscription). e.number == y.number) (λ (y : Subscription). not (k == y.number)) s.frame.subscriptions e x.found (ap not ne);
+      found =
+        find-filter_left (λ (y : Subscription). e.number == y.number) (λ (y : Subscription). not (k == y.number)) s.frame.subscriptions e x.found (ap not ne);
       before = x;
     }) s.frame.subscriptions (standing s b))))
 
-pub still_lines : (s : State) (n : ℕ) (act : Act) → is_still act ≡ true → IsSoundState s → IsReplyAlone n (step s (in_session n act)).lines
-still_lines s n (begin role) h b = begin_still s n role (refusal s n (begin role)) b
-still_lines s n finish h b = finish_still s n (refusal s n finish) b
-still_lines s n (unsubscribe k) h b = close_still s n k (refusal s n (unsubscribe k)) b
-still_lines s n _ h b = absurd (false≢true h)
+pub IsReplyAlone-is_still : (s : State) (n : ℕ) (act : Act) → is_still act ≡ true → IsSoundState s → IsReplyAlone n (step s (in_session n act)).lines
+IsReplyAlone-is_still s n (begin role) h b = begin_still s n role (refusal s n (begin role)) b
+IsReplyAlone-is_still s n finish h b = finish_still s n (refusal s n finish) b
+IsReplyAlone-is_still s n (unsubscribe k) h b = close_still s n k (refusal s n (unsubscribe k)) b
+IsReplyAlone-is_still s n _ h b = absurd (false≢true h)
 
 -- ---- a subscribe tells its contents
 
 none_mapped : {X Y : Type 0} (f : X → Y) (o : Option X) → option_map f o ≡ None → o ≡ None
 none_mapped f None h = refl
-none_mapped f (Some x) h = absurd (some_is_none (f x) h)
+none_mapped f (Some x) h = absurd (not_None-Some (f x) h)
 
-pub not_not : (b : Bool) → not b ≡ false → b ≡ true
-not_not true h = refl
-not_not false h = absurd (false≢true (sym h))
+pub true-not_false : (b : Bool) → not b ≡ false → b ≡ true
+true-not_false true h = refl
+true-not_false false h = absurd (false≢true (sym h))
 
 given_each : (last : ℕ) (es : List Subscription) → AreGiven last es → AllByRecursion (λ (e : Subscription). e.number ≤ last) es
 given_each last [] h = tt
@@ -220,19 +222,20 @@ given_each last (e ∷ es) h = (h.0, given_each last es h.1)
 subscribed_by : (s : State) (n : ℕ) (rel : Name) (o : Option Refusal) → o ≡ None → refusal s n (subscribe rel) ≡ None → IsSoundState s
     → (outcome s (in_session n (subscribe rel)) o).lines ≡ reply n (subscribed (s.frame.last + 1))
     ∷ lines_told None (opened_by s.frame n rel) (difference (shown s (s.frame.last + 1)) (shown (outcome s (in_session n (subscribe rel)) o).state (s.frame.last + 1)))
-subscribed_by s n rel (Some r) h z b = absurd (some_is_none r h)
+subscribed_by s n rel (Some r) h z b = absurd (not_None-Some r h)
 subscribed_by s n rel None h z b =
     let e = opened_by s.frame n rel in let es = insert_subscription e s.frame.subscriptions in
-    let lacks : missing_for s.frame (actor s.frame n) (rel_of s.frame.catalog rel) ≡ None = none_mapped _ _ (first_none _ _ (later_none _ _ (later_none _ _ (first_none _ _ z)))) in
-    let fits : is_within_for s (actor s.frame n) (rel_of s.frame.catalog rel) ≡ true = not_not _ (passed _ limit (later_none _ _ z)) in
+    let lacks : missing_for s.frame (actor s.frame n) (rel_of s.frame.catalog rel) ≡ None = none_mapped _ _ (None-or_else_first _ _ (None-or_else_later _ _ (None-or_else_later _ _ (None-or_else_first _ _ z)))) in
+    let fits : is_within_for s (actor s.frame n) (rel_of s.frame.catalog rel) ≡ true = true-not_false _ (test-None _ limit (None-or_else_later _ _ z)) in
     let served : ending (with_open s s.frame.sessions es (s.frame.last + 1)) e ≡ None = (λ i. first_cause (is_some (lacks i)) (fits i)) in
     ap (λ z. reply n (subscribed (s.frame.last + 1)) ∷ z) (new_changes s s.frame.sessions es (s.frame.last + 1) e s.frame.subscriptions refl served
-    (both {P = IsStanding s} {Q = λ (f : Subscription). f.number ≤ s.frame.last} {R = Stays s s.frame.sessions es (s.frame.last + 1) es}
-    (λ f x l. record { same = refl; found = find_inserted f.number e f s.frame.subscriptions (not_next f.number s.frame.last l) x.found; before = x })
+    (AllByRecursion-zip {P = IsStanding s} {Q = λ (f : Subscription). f.number ≤ s.frame.last} {R = Stays s s.frame.sessions es (s.frame.last + 1) es}
+    (λ f x l. record { same = refl; found = find-insert_subscription f.number e f s.frame.subscriptions
+      (eq-le_last f.number s.frame.last l) x.found; before = x })
     s.frame.subscriptions (standing s b) (given_each s.frame.last s.frame.subscriptions b.numbers.given)))
 
 -- the new one is told what it shows, where it shows anything
-pub subscribed_lines : (s : State) (n : ℕ) (rel : Name) → refusal s n (subscribe rel) ≡ None → IsSoundState s
+pub lines-subscribe : (s : State) (n : ℕ) (rel : Name) → refusal s n (subscribe rel) ≡ None → IsSoundState s
     → (step s (in_session n (subscribe rel))).lines ≡ reply n (subscribed (s.frame.last + 1))
     ∷ lines_told None (opened_by s.frame n rel) (difference (shown s (s.frame.last + 1)) (shown (step s (in_session n (subscribe rel))).state (s.frame.last + 1)))
-subscribed_lines s n rel z b = subscribed_by s n rel (refusal s n (subscribe rel)) z z b
+lines-subscribe s n rel z b = subscribed_by s n rel (refusal s n (subscribe rel)) z z b

@@ -7,21 +7,21 @@ use Rattle.std.proofs.lemmas.List.Sums.{length-filter}
 use Rattle.iv_access.specs.Rights.{Name}
 use Rattle.iv_machine.specs.State.{Session, session_of}
 use Rattle.iv_clients.specs.Feeds.{Feed, Seat, is_reading}
-use Rattle.iv_clients.proofs.Slots.{some_is_none}
+use Rattle.iv_clients.proofs.Slots.{not_None-Some}
 use Rattle.iv_gate.specs.Gate.{Gate}
 use Rattle.iv_gate.specs.Needed.{IsOpenFeed, KnowsMachine}
 use Rattle.iv_gate.specs.Runs.{Runs}
-use Rattle.iv_gate.proofs.Freeing.{reads_for_clients}
+use Rattle.iv_gate.proofs.Freeing.{ReadsForClients-Runs}
 use Rattle.iv_gate.proofs.Keeping.{IsKept}
-use Rattle.iv_gate.proofs.Lasting.{Starts, runs_kept, runs_sound}
-use Rattle.iv_gate.proofs.Needing.{runs_needed}
-use Rattle.iv_gate.proofs.Running.{all_so}
-use Rattle.iv_gate.proofs.Sharing.{alone_of}
+use Rattle.iv_gate.proofs.Lasting.{Starts, IsKept-Runs, IsSoundGate-Runs}
+use Rattle.iv_gate.proofs.Needing.{AreNeeded-Runs}
+use Rattle.iv_gate.proofs.Running.{AllByRecursion-map}
+use Rattle.iv_gate.proofs.Sharing.{IsAlone-ActsAs}
 use Rattle.iv_gate.proofs.Sound.{Adds, IsFeed, IsSoundGate, Sounds}
 
 -- a session that is open is among the numbers of those that are
 session_there : (n : ℕ) (es : List Session) (x : Session) → session_of es n ≡ Some x → list_any (λ i. n == i) (map (λ (e : Session). e.number) es) ≡ true
-session_there n [] x h = absurd (some_is_none x (sym h))
+session_there n [] x h = absurd (not_None-Some x (sym h))
 session_there n (e ∷ es) x h = by (n == e.number) h (session_there n es x)
   where
     by : (b : Bool) → cond b (Some e) (session_of es n) ≡ Some x → (session_of es n ≡ Some x → list_any (λ i. n == i) (map (λ (y : Session). y.number) es) ≡ true)
@@ -45,16 +45,16 @@ opened_feed g b k f a = record {
   opened = a.found ∙ ap (λ r. Some (record { session = f.session; number = f.number; rel = r })) a.there;
   seat = seat_there f.session f.role g.seats
       (ap (list_any (λ i. f.session == i)) (sym k.shared.sessions) ∙ session_there f.session g.machine.frame.sessions _ a.acts.session)
-      (alone_of g.machine (record { session = f.session; role = f.role }) g.seats a.acts b.seats);
+      (IsAlone-ActsAs g.machine (record { session = f.session; role = f.role }) g.seats a.acts b.seats);
   only = subst (λ n. n ≤ 1) (length-filter (is_reading f.role f.rel) g.feeds) (k.few.once f.role f.rel);
 }
 
-pub knows_machine : Adds → Starts → Sounds → (cap : ℕ) (g : Gate) → Runs cap g → KnowsMachine g
-knows_machine adds starts sounds cap g r =
-    let b = runs_sound adds starts sounds cap g r in let k = runs_kept adds starts sounds cap g r in record {
+pub KnowsMachine-Runs : Adds → Starts → Sounds → (cap : ℕ) (g : Gate) → Runs cap g → KnowsMachine g
+KnowsMachine-Runs adds starts sounds cap g r =
+    let b = IsSoundGate-Runs adds starts sounds cap g r in let k = IsKept-Runs adds starts sounds cap g r in record {
       sessions = k.shared.sessions;
       seats = b.seats;
-      needed = runs_needed adds starts sounds cap g r;
-      feeds = all_so {P = IsFeed g.machine} {Q = IsOpenFeed g} (λ f a. opened_feed g b k f a) g.feeds b.feeds;
-      read = (reads_for_clients adds starts sounds cap g r).subscriptions;
+      needed = AreNeeded-Runs adds starts sounds cap g r;
+      feeds = AllByRecursion-map {P = IsFeed g.machine} {Q = IsOpenFeed g} (λ f a. opened_feed g b k f a) g.feeds b.feeds;
+      read = (ReadsForClients-Runs adds starts sounds cap g r).subscriptions;
     }

@@ -23,35 +23,35 @@ use Rattle.iv_machine.specs.declared.Cause.{Cause}
 use Rattle.iv_message.specs.Told.{Told, changed, over, granted}
 use Rattle.iv_clients.specs.Clients.{Client, Sub, all_shown, followed_by, own_line, own_lines, told}
 use Rattle.iv_clients.specs.Feeds.{Feed, ends_in, feed_of, is_end, rel_read}
-use Rattle.iv_clients.proofs.Slots.{one_some, some_is_none}
+use Rattle.iv_clients.proofs.Slots.{same-Some, not_None-Some}
 use Rattle.iv_gate.specs.Events.{Event, next}
 use Rattle.iv_gate.specs.Gate as gates
 use Rattle.iv_gate.specs.Gate.{Gate, granted_by, is_accepted, reply_in, entries_of}
 use Rattle.iv_gate.specs.Replies.{ByClient, IsClient, told_by}
 use Rattle.iv_gate.specs.Seen.{all_rows, change_told, is_told_of, read_by, rows_told, seen}
 use Rattle.iv_gate.proofs.Doing.{AreCalm, is_news}
-use Rattle.iv_gate.proofs.Growing.{behind_front, map_front}
-use Rattle.iv_gate.proofs.Showing.{are_shown}
+use Rattle.iv_gate.proofs.Growing.{append-drop_front, map-append_front}
+use Rattle.iv_gate.proofs.Showing.{ByClient-IsToldMore}
 use Rattle.iv_gate.proofs.News.{Hears, quietly, by_command, by_contents, IsToldContents, IsToldOf, IsToldOutcome, grants_of}
-use Rattle.iv_gate.proofs.Heeding.{IsOwn, followed_any, nothing_shown, own_each, same_subscriptions}
-use Rattle.iv_gate.proofs.Joining.{shows_view}
-use Rattle.iv_gate.proofs.Machine.{absent, any_append, ended_told, find_left, find_passes}
-use Rattle.iv_gate.proofs.Noticing.{next_all, told_now, HearsBy, IsToldStep, taken, untaken, heard}
-use Rattle.iv_gate.proofs.Running.{found_all}
-use Rattle.iv_gate.proofs.Seeing.{adds_to_view}
+use Rattle.iv_gate.proofs.Heeding.{IsOwn, is_some-followed_by, nothing_shown, AllByRecursion-IsOwn, subscriptions-after}
+use Rattle.iv_gate.proofs.Joining.{shown-IsFeed}
+use Rattle.iv_gate.proofs.Machine.{None-is_some, list_any-append, ends_in-subscription_of, find-filter_left, true-find}
+use Rattle.iv_gate.proofs.Noticing.{HearsBy-next, told_by-append, HearsBy, IsToldStep, taken, untaken, heard}
+use Rattle.iv_gate.proofs.Running.{AllByRecursion-feed_of}
+use Rattle.iv_gate.proofs.Seeing.{AddsToView-IsSoundGate}
 use Rattle.iv_gate.proofs.Sound.{Adds, IsFeed, IsFollowing, IsSoundClient, IsSoundGate, Sounds, seer}
-use Rattle.iv_gate.proofs.Summing.{AreOwn, above, differs_back, is_back, neither, same_self, sum-append, sum_for}
+use Rattle.iv_gate.proofs.Summing.{AreOwn, list_any-above_given, eq-false_turned, eq-turned, or-both_false, eq-itself, sum_for-append, sum_for}
 use Rattle.iv_clients.specs.Journal.{Entry}
 use Rattle.iv_gate.specs.Arriving.{Step, entry_of, fact_of, newly}
 use Rattle.iv_steps.specs.Steps.{all_carried, among, looked_at, shared}
-use Rattle.iv_gate.proofs.Ending.{step_over}
+use Rattle.iv_gate.proofs.Ending.{shown-stepped}
 
 -- ---- the texts of one number
 
 none_passes : {X : Type 0} (p : X → Bool) (xs : List X) → list_any p xs ≡ false → filter p xs ≡ []
 none_passes p [] h = refl
 none_passes p (x ∷ xs) h =
-    let e = neither (p x) (list_any p xs) h in
+    let e = or-both_false (p x) (list_any p xs) h in
     (λ i. cond (e.0 i) (x ∷ filter p xs) (filter p xs)) ∙ none_passes p xs e.1
 
 calm_text : (own : ℕ) (t : Told) → is_news t ≡ false → is_told_of own t ≡ false
@@ -97,7 +97,7 @@ line_other own feeds (ended n k why rows) x e = by (k == x.feed)
 line_none : (own : ℕ) (feeds : List Feed) (l : Line) (xs : List Sub) → list_any (λ (y : Sub). own == y.own) xs ≡ false → filter (is_told_of own) (flat_map (own_line feeds l) xs) ≡ []
 line_none own feeds l [] h = refl
 line_none own feeds l (x ∷ xs) h =
-    let e = neither (own == x.own) (list_any (λ (y : Sub). own == y.own) xs) h in
+    let e = or-both_false (own == x.own) (list_any (λ (y : Sub). own == y.own) xs) h in
     filter-append (is_told_of own) (own_line feeds l x) (flat_map (own_line feeds l) xs) ∙ (λ i. line_other own feeds l x e.0 i ++ line_none own feeds l xs e.1 i)
 
 lines_none : (own : ℕ) (feeds : List Feed) (ls : List Line) (xs : List Sub) → list_any (λ (y : Sub). own == y.own) xs ≡ false → filter (is_told_of own) (own_lines feeds ls xs) ≡ []
@@ -108,7 +108,7 @@ lines_none own feeds (l ∷ ls) xs h =
 -- where the number stands once, its texts are those of its feed
 line_one : (own given : ℕ) (feeds : List Feed) (l : Line) (s : Sub) (xs : List Sub) → AreOwn given xs → find (λ (y : Sub). own == y.own) xs ≡ Some s
     → filter (is_told_of own) (flat_map (own_line feeds l) xs) ≡ own_line feeds l s
-line_one own given feeds l s [] a h = absurd (some_is_none s (sym h))
+line_one own given feeds l s [] a h = absurd (not_None-Some s (sym h))
 line_one own given feeds l s (x ∷ xs) a h =
     filter-append (is_told_of own) (own_line feeds l x) (flat_map (own_line feeds l) xs) ∙ by (own == x.own) refl h (λ t. line_one own given feeds l s xs a.2 t)
   where
@@ -117,7 +117,7 @@ line_one own given feeds l s (x ∷ xs) a h =
         → filter (is_told_of own) (own_line feeds l x) ++ filter (is_told_of own) (flat_map (own_line feeds l) xs) ≡ own_line feeds l s
     by true e t more =
         (λ i. line_this own feeds l x e i ++ line_none own feeds l xs (ap (λ z. list_any (λ (y : Sub). z == y.own) xs) (eqb-true own x.own e) ∙ a.1) i)
-        ∙ (append-nil (own_line feeds l x) ∙ ap (own_line feeds l) (one_some x s t))
+        ∙ (append-nil (own_line feeds l x) ∙ ap (own_line feeds l) (same-Some x s t))
     by false e t more = (λ i. line_other own feeds l x e i ++ more t i)
 
 lines_one : (own given : ℕ) (feeds : List Feed) (ls : List Line) (s : Sub) (xs : List Sub) → AreOwn given xs → find (λ (y : Sub). own == y.own) xs ≡ Some s
@@ -145,20 +145,20 @@ no_line feeds s None e [] h = refl
 no_line feeds s None e (p ∷ ps) h = ap (λ b. cond b (changed s.own (p ∷ ps) ∷ []) [] ++ []) h
 
 turned : (a b : ℕ) (t : Bool) → (a == b) ≡ t → (b == a) ≡ t
-turned a b true h = is_back a b h
-turned a b false h = differs_back a b h
+turned a b true h = eq-turned a b h
+turned a b false h = eq-false_turned a b h
 
 module _ (old new : State) (ends : Subscription → Option Cause) (feeds : List Feed) (s : Sub) where
   nobodys : (es : List Subscription) → list_any (λ (f : Subscription). s.feed == f.number) es ≡ false → flat_map (λ l. own_line feeds l s) (flat_map (line_for old new ends) es) ≡ []
   nobodys [] h = refl
   nobodys (e ∷ es) h =
-      let p = neither (s.feed == e.number) (list_any (λ (f : Subscription). s.feed == f.number) es) h in
+      let p = or-both_false (s.feed == e.number) (list_any (λ (f : Subscription). s.feed == f.number) es) h in
       flat_map-append (λ l. own_line feeds l s) (line_for old new ends e) (flat_map (line_for old new ends) es)
       ∙ (λ i. no_line feeds s (ends e) e (difference (shown old e.number) (shown new e.number)) (turned s.feed e.number false p.0) i ++ nobodys es p.1 i)
 
   pub of_one : (es : List Subscription) (x : Subscription) → AreUnique es → subscription_of es s.feed ≡ Some x
       → flat_map (λ l. own_line feeds l s) (flat_map (line_for old new ends) es) ≡ text_of feeds s x.number (ends x) (difference (shown old x.number) (shown new x.number))
-  of_one [] x u h = absurd (some_is_none x (sym h))
+  of_one [] x u h = absurd (not_None-Some x (sym h))
   of_one (e ∷ es) x u h =
       flat_map-append (λ l. own_line feeds l s) (line_for old new ends e) (flat_map (line_for old new ends) es) ∙ by (s.feed == e.number) refl h (λ t. of_one es x u.1 t)
     where
@@ -171,7 +171,7 @@ module _ (old new : State) (ends : Subscription → Option Cause) (feeds : List 
           (λ i. its_line feeds s (ends e) e (difference (shown old e.number) (shown new e.number)) (turned s.feed e.number true q) i
           ++ nobodys es (ap (λ z. list_any (λ (f : Subscription). z == f.number) es) (eqb-true s.feed e.number q) ∙ u.0) i)
           ∙ (append-nil (text_of feeds s e.number (ends e) (difference (shown old e.number) (shown new e.number)))
-          ∙ ap (λ (z : Subscription). text_of feeds s z.number (ends z) (difference (shown old z.number) (shown new z.number))) (one_some e x t))
+          ∙ ap (λ (z : Subscription). text_of feeds s z.number (ends z) (difference (shown old z.number) (shown new z.number))) (same-Some e x t))
       by false q t more =
           (λ i. no_line feeds s (ends e) e (difference (shown old e.number) (shown new e.number)) (turned s.feed e.number false q) i ++ more t i)
 
@@ -183,14 +183,14 @@ module _ (old new : State) (ends : Subscription → Option Cause) (feeds : List 
   none_ended : (k : ℕ) (es : List Subscription) → list_any (λ (f : Subscription). k == f.number) es ≡ false → ends_in (flat_map (line_for old new ends) es) k ≡ false
   none_ended k [] h = refl
   none_ended k (e ∷ es) h =
-      let p = neither (k == e.number) (list_any (λ (f : Subscription). k == f.number) es) h in
-      any_append (is_end k) (line_for old new ends e) (flat_map (line_for old new ends) es)
+      let p = or-both_false (k == e.number) (list_any (λ (f : Subscription). k == f.number) es) h in
+      list_any-append (is_end k) (line_for old new ends e) (flat_map (line_for old new ends) es)
       ∙ (λ i. no_end k (ends e) e (difference (shown old e.number) (shown new e.number)) p.0 i || none_ended k es p.1 i)
 
   pub not_ended : (k : ℕ) (es : List Subscription) (x : Subscription) → AreUnique es → subscription_of es k ≡ Some x → ends x ≡ None → ends_in (flat_map (line_for old new ends) es) k ≡ false
   not_ended k [] x u h n = refl
   not_ended k (e ∷ es) x u h n =
-      any_append (is_end k) (line_for old new ends e) (flat_map (line_for old new ends) es) ∙ by (k == e.number) refl h (λ t. not_ended k es x u.1 t n)
+      list_any-append (is_end k) (line_for old new ends e) (flat_map (line_for old new ends) es) ∙ by (k == e.number) refl h (λ t. not_ended k es x u.1 t n)
     where
       quiet : (rows : List (List Cell × ℤ)) → list_any (is_end k) (lines_told None e rows) ≡ false
       quiet [] = refl
@@ -199,7 +199,7 @@ module _ (old new : State) (ends : Subscription → Option Cause) (feeds : List 
       by : (b : Bool) → (k == e.number) ≡ b → cond b (Some e) (subscription_of es k) ≡ Some x → (subscription_of es k ≡ Some x → ends_in (flat_map (line_for old new ends) es) k ≡ false)
           → (list_any (is_end k) (line_for old new ends e) || list_any (is_end k) (flat_map (line_for old new ends) es)) ≡ false
       by true q t more =
-          let none : ends e ≡ None = ap ends (one_some e x t) ∙ n in
+          let none : ends e ≡ None = ap ends (same-Some e x t) ∙ n in
           λ i. (ap (λ o. list_any (is_end k) (lines_told o e (difference (shown old e.number) (shown new e.number)))) none ∙ quiet (difference (shown old e.number) (shown new e.number))) i
           || none_ended k es (ap (λ z. list_any (λ (f : Subscription). z == f.number) es) (eqb-true k e.number q) ∙ u.0) i
       by false q t more = λ i. no_end k (ends e) e (difference (shown old e.number) (shown new e.number)) q i || more t i
@@ -211,19 +211,19 @@ shown_read g b m c own k x h = look c.subs (b.clients m c x.there x.stays).follo
     of_sub : (s : Sub) → s.feed ≡ k → IsFollowing g.machine g.feeds (seer c) s → shown g.machine k ≡ read_by g c own
     of_sub s f y =
         let there : feed_of g.feeds k ≡ Some y.feed = ap (feed_of g.feeds) (sym f) ∙ y.found in
-        let number : k ≡ y.feed.number = eqb-true k y.feed.number (find_passes (λ (z : Feed). k == z.number) g.feeds y.feed there) in
+        let number : k ≡ y.feed.number = eqb-true k y.feed.number (true-find (λ (z : Feed). k == z.number) g.feeds y.feed there) in
         let rel : rel_read g.feeds k ≡ y.feed.rel = ap (λ o. if_some o [] (λ (z : Feed). z.rel)) there in
-        ap (shown g.machine) number ∙ (shows_view g.machine y.feed (found_all (IsFeed g.machine) g.feeds k y.feed b.feeds there)
+        ap (shown g.machine) number ∙ (shown-IsFeed g.machine y.feed (AllByRecursion-feed_of (IsFeed g.machine) g.feeds k y.feed b.feeds there)
         ∙ ((λ i. view_for g.machine (role_number g.machine.frame.rights (y.role i)) (rel_of g.machine.frame.catalog (sym rel i)))
         ∙ ap (λ o. if_some o [] (λ j. seen g.machine c.role (rel_read g.feeds j))) (sym h)))
 
     look : (xs : List Sub) → AllByRecursion (IsFollowing g.machine g.feeds (seer c)) xs → followed_by xs own ≡ Some k → shown g.machine k ≡ read_by g c own
-    look [] a e = absurd (some_is_none k (sym e))
+    look [] a e = absurd (not_None-Some k (sym e))
     look (s ∷ ss) a e = by (own == s.own) e (λ z. look ss a.1 z)
       where
         by : (t : Bool) → option_map (λ (z : Sub). z.feed) (cond t (Some s) (find (λ (z : Sub). own == z.own) ss)) ≡ Some k → (followed_by ss own ≡ Some k → shown g.machine k ≡ read_by g c own)
             → shown g.machine k ≡ read_by g c own
-        by true z more = of_sub s (one_some s.feed k z) a.0
+        by true z more = of_sub s (same-Some s.feed k z) a.0
         by false z more = more z
 
 -- ---- what an event tells of a number
@@ -246,11 +246,11 @@ find_there own (x ∷ xs) h = by (own == x.own) refl h (λ t. find_there own xs 
     by false e t more = let m = more t in record { sub = m.sub; is = ap (λ z. cond z (Some x) (find (λ (y : Sub). own == y.own) xs)) e ∙ m.is }
 
 found_sub : (P : Sub → Type 0) (p : Sub → Bool) (xs : List Sub) (s : Sub) → AllByRecursion P xs → find p xs ≡ Some s → P s
-found_sub P p [] s a h = absurd (some_is_none s (sym h))
+found_sub P p [] s a h = absurd (not_None-Some s (sym h))
 found_sub P p (x ∷ xs) s a h = by (p x) h (λ t. found_sub P p xs s a.1 t)
   where
     by : (b : Bool) → cond b (Some x) (find p xs) ≡ Some s → (find p xs ≡ Some s → P s) → P s
-    by true t more = subst P (one_some x s t) a.0
+    by true t more = subst P (same-Some x s t) a.0
     by false t more = more t
 
 -- a number that stands once is gone where it is left out
@@ -260,7 +260,7 @@ sub_gone own given p (x ∷ xs) s a h e = by (own == x.own) refl h (λ t. sub_go
   where
     none : (zs : List Sub) → list_any (λ (y : Sub). own == y.own) zs ≡ false → find (λ (y : Sub). own == y.own) (filter p zs) ≡ None
     none [] q = refl
-    none (z ∷ zs) q = let r = neither (own == z.own) (list_any (λ (y : Sub). own == y.own) zs) q in kept (p z) r.0 (none zs r.1)
+    none (z ∷ zs) q = let r = or-both_false (own == z.own) (list_any (λ (y : Sub). own == y.own) zs) q in kept (p z) r.0 (none zs r.1)
       where
         kept : (t : Bool) → (own == z.own) ≡ false → find (λ (y : Sub). own == y.own) (filter p zs) ≡ None → find (λ (y : Sub). own == y.own) (cond t (z ∷ filter p zs) (filter p zs)) ≡ None
         kept true f more = ap (λ b. cond b (Some z) (find (λ (y : Sub). own == y.own) (filter p zs))) f ∙ more
@@ -269,7 +269,7 @@ sub_gone own given p (x ∷ xs) s a h e = by (own == x.own) refl h (λ t. sub_go
     by : (b : Bool) → (own == x.own) ≡ b → cond b (Some x) (find (λ (y : Sub). own == y.own) xs) ≡ Some s
         → (find (λ (y : Sub). own == y.own) xs ≡ Some s → find (λ (y : Sub). own == y.own) (filter p xs) ≡ None) → find (λ (y : Sub). own == y.own) (cond (p x) (x ∷ filter p xs) (filter p xs)) ≡ None
     by true q t more =
-        ap (λ b. find (λ (y : Sub). own == y.own) (cond b (x ∷ filter p xs) (filter p xs))) (ap p (one_some x s t) ∙ e)
+        ap (λ b. find (λ (y : Sub). own == y.own) (cond b (x ∷ filter p xs) (filter p xs))) (ap p (same-Some x s t) ∙ e)
         ∙ none xs (ap (λ i. list_any (λ (z : Sub). i == z.own) xs) (eqb-true own x.own q) ∙ a.1)
     by false q t more = kept (p x)
       where
@@ -286,7 +286,7 @@ module _ (g : Gate) (e : Event) (b : IsSoundGate g) (m : ℕ) (c d : Client) (x 
   of_lines : filter (is_told_of own) (told_by c d) ≡ filter (is_told_of own) (own_lines g.feeds o.lines c.subs)
   of_lines =
       let lines = own_lines g.feeds o.lines c.subs in
-      ap (filter (is_told_of own)) (told_now c d _ a.told)
+      ap (filter (is_told_of own)) (told_by-append c d _ a.told)
       ∙ (three (is_told_of own) a.front (lines ++ grants) a.back (calm_texts own a.front a.calm.0) (calm_texts own a.back a.calm.1)
       ∙ (filter-append (is_told_of own) lines grants ∙ ((λ i. filter (is_told_of own) lines ++ quiet i) ∙ append-nil (filter (is_told_of own) lines))))
 
@@ -302,13 +302,13 @@ module _ (g : Gate) (e : Event) (b : IsSoundGate g) (m : ℕ) (c d : Client) (x 
   of_sub s f now ends lines over_so gone = by (ends x0) refl
     where
       y : IsOwn g c s
-      y = found_sub (IsOwn g c) (λ (w : Sub). own == w.own) c.subs s (own_each g c sound) f
+      y = found_sub (IsOwn g c) (λ (w : Sub). own == w.own) c.subs s (AllByRecursion-IsOwn g c sound) f
 
       number : s.feed ≡ y.follows.feed.number
-      number = eqb-true s.feed y.follows.feed.number (find_passes (λ (w : Feed). s.feed == w.number) g.feeds y.follows.feed y.follows.found)
+      number = eqb-true s.feed y.follows.feed.number (true-find (λ (w : Feed). s.feed == w.number) g.feeds y.follows.feed y.follows.found)
 
       fd : IsFeed g.machine y.follows.feed
-      fd = found_all (IsFeed g.machine) g.feeds s.feed y.follows.feed b.feeds y.follows.found
+      fd = AllByRecursion-feed_of (IsFeed g.machine) g.feeds s.feed y.follows.feed b.feeds y.follows.found
 
       x0 : Subscription
       x0 = record { session = y.follows.feed.session; number = y.follows.feed.number; rel = fd.rel }
@@ -317,7 +317,7 @@ module _ (g : Gate) (e : Event) (b : IsSoundGate g) (m : ℕ) (c d : Client) (x 
       found = ap (subscription_of g.machine.frame.subscriptions) number ∙ fd.found
 
       same : own ≡ s.own
-      same = eqb-true own s.own (find_passes (λ (w : Sub). own == w.own) c.subs s f)
+      same = eqb-true own s.own (true-find (λ (w : Sub). own == w.own) c.subs s f)
 
       texts : filter (is_told_of own) (told_by c d) ≡ text_of g.feeds s x0.number (ends x0) (difference (shown g.machine x0.number) (shown now x0.number))
       texts =
@@ -330,9 +330,10 @@ module _ (g : Gate) (e : Event) (b : IsSoundGate g) (m : ℕ) (c d : Client) (x 
           differs (shown g.machine x0.number) (shown now x0.number)
           (texts ∙ (ap (λ z. text_of g.feeds s x0.number z (difference (shown g.machine x0.number) (shown now x0.number))) q ∙ ap (λ i. change_told i (difference (shown g.machine x0.number) (shown now x0.number))) (sym same)))
           (ap (λ z. is_some (followed_by z own)) a.subs ∙ ap (λ z. is_some (option_map (λ (w : Sub). w.feed) z))
-          (find_left (λ (w : Sub). own == w.own) (λ (w : Sub). not (ends_in o.lines w.feed)) c.subs s f (ap not goes)))
+          (find-filter_left (λ (w : Sub). own == w.own) (λ (w : Sub). not (ends_in o.lines w.feed)) c.subs s f (ap not goes)))
       by (Some why) q =
-          let over_now : ends_in o.lines s.feed ≡ true = over_so ∙ ended_told s.feed g.machine now ends g.machine.frame.subscriptions x0 found (ap is_some q) in
+          let over_now : ends_in o.lines s.feed ≡ true =
+            over_so ∙ ends_in-subscription_of s.feed g.machine now ends g.machine.frame.subscriptions x0 found (ap is_some q) in
           let none : shown now x0.number ≡ [] = gone x0 why fd.found q (ap (ends_in o.lines) (sym number) ∙ over_now) in
           let was : shown g.machine x0.number ≡ read_by g c own =
           ap (shown g.machine) (sym number) ∙ shown_read g b m c own s.feed x (ap (option_map (λ (w : Sub). w.feed)) f) in
@@ -385,7 +386,7 @@ of_command g e b m c d x own a = of_outcome g e b m c d x own o grants added a.b
     by s f None z =
         let lines : (step g.machine a.command).lines ≡ reply n (reply_to g.machine.frame act) ∷ flat_map (line_for g.machine now ends) g.machine.frame.subscriptions =
         ap (λ q. (outcome g.machine a.command q).lines) z
-        ∙ ap (λ es. reply n (reply_to g.machine.frame act) ∷ flat_map (line_for g.machine now ends) es) (same_subscriptions g.machine n act a.shared) in
+        ∙ ap (λ es. reply n (reply_to g.machine.frame act) ∷ flat_map (line_for g.machine now ends) es) (subscriptions-after g.machine n act a.shared) in
         of_sub g e b m c d x own o grants added a.by quiet s f now ends (ap (flat_map (λ l. own_line g.feeds l s)) lines) (ap (λ w. ends_in w s.feed) lines)
         (λ y why there q i. nothing_shown g.machine n act a.shared b.state.numbers.unique y why there q)
 
@@ -399,13 +400,13 @@ of_step g e b m c d x own s a = of_outcome g e b m c d x own a.outcome (map gran
     quiet = grant_texts own true (newly g.machine.frame a.outcome.state.frame c.role)
 
     by : (w : Sub) → find (λ (y : Sub). own == y.own) c.subs ≡ Some w → (t : Option State) → option_map (λ u. looked_at g.machine (among g.machine u)) t ≡ Some a.outcome → Texts g c d own
-    by w f None i = absurd (some_is_none a.outcome (sym i))
+    by w f None i = absurd (not_None-Some a.outcome (sym i))
     by w f (Some t) i =
-        let same = one_some (looked_at g.machine (among g.machine t)) a.outcome i in let ends = ending (among g.machine t) in
+        let same = same-Some (looked_at g.machine (among g.machine t)) a.outcome i in let ends = ending (among g.machine t) in
         of_sub g e b m c d x own a.outcome (map granted names) (entry_of s ∷ []) a.by quiet w f a.outcome.state ends
         (subst (λ (z : Outcome). flat_map (λ l. own_line g.feeds l w) z.lines ≡ flat_map (λ l. own_line g.feeds l w) (flat_map (line_for g.machine z.state ends) g.machine.frame.subscriptions)) same refl)
         (subst (λ (z : Outcome). ends_in z.lines w.feed ≡ ends_in (flat_map (line_for g.machine z.state ends) g.machine.frame.subscriptions) w.feed) same refl)
-        (λ y why there q j. step_over (map fact_of s.requests) g.machine a.outcome b.state.numbers.unique a.leads y.number j)
+        (λ y why there q j. shown-stepped (map fact_of s.requests) g.machine a.outcome b.state.numbers.unique a.leads y.number j)
 
 of_contents : (g : Gate) (c d : Client) (own : ℕ) → IsToldContents c d → Texts g c d own
 of_contents g c d own a = by (own == (c.given + 1)) refl
@@ -414,7 +415,7 @@ of_contents g c d own a = by (own == (c.given + 1)) refl
     D = difference a.before a.after
 
     texts : filter (is_told_of own) (told_by c d) ≡ cond (own == (c.given + 1)) (changed (c.given + 1) (difference a.before a.after) ∷ []) []
-    texts = ap (filter (is_told_of own)) (told_now c d _ a.told)
+    texts = ap (filter (is_told_of own)) (told_by-append c d _ a.told)
         ∙ three (is_told_of own) a.front (changed (c.given + 1) (difference a.before a.after) ∷ []) a.back (calm_texts own a.front a.calm.0) (calm_texts own a.back a.calm.1)
 
     filled : (rows : List (List Cell × ℤ)) → (rows ≡ [] → ⊥) → changed own rows ∷ [] ≡ change_told own rows
@@ -427,7 +428,7 @@ of_contents g c d own a = by (own == (c.given + 1)) refl
         let same : own ≡ c.given + 1 = eqb-true own (c.given + 1) t in
         differs a.before a.after
         (texts ∙ (ap (λ z. cond z (changed (c.given + 1) (difference a.before a.after) ∷ []) []) t ∙ (ap (λ i. changed i (difference a.before a.after) ∷ []) (sym same) ∙ filled (difference a.before a.after) a.some)))
-        (followed_any own d.subs ∙ (ap (λ i. list_any (λ (z : Sub). i == z.own) d.subs) same ∙ a.follows))
+        (is_some-followed_by own d.subs ∙ (ap (λ i. list_any (λ (z : Sub). i == z.own) d.subs) same ∙ a.follows))
 
 -- ---- the difference
 
@@ -442,8 +443,8 @@ pub record TellsApart (g : Gate) (e : Event) (c d : Client) (own : ℕ) : Type 0
 -- what it was told stays, and more comes behind it
 text_kept : (g : Gate) (e : Event) (m : ℕ) (c d : Client) → IsClient g m c → IsClient (next g e) m d → told d ≡ told c ++ told_by c d
 text_kept g e m c d a b =
-    let x = are_shown g e m c d a b in
-    behind_front (told c) (map (λ s. s.told) x.more) (told d) (ap (map (λ s. s.told)) x.keeps ∙ map_front (λ s. s.told) (all_shown c) x.more)
+    let x = ByClient-IsToldMore g e m c d a b in
+    append-drop_front (told c) (map (λ s. s.told) x.more) (told d) (ap (map (λ s. s.told)) x.keeps ∙ map-append_front (λ s. s.told) (all_shown c) x.more)
 
 module _ (adds : Adds) (sounds : Sounds) (exact : (xs ys : List (List Cell)) → IsDifference xs ys (difference xs ys)) (only : (xs ys : List (List Cell)) (rows : List (List Cell × ℤ)) → IsDifference xs ys rows → rows ≡ difference xs ys)
     (g : Gate) (e : Event) (b : IsSoundGate g) (m : ℕ) (c d : Client) (x : IsClient g m c) (y : IsClient (next g e) m d) (own : ℕ) (after : IsSoundGate (next g e)) where
@@ -454,13 +455,13 @@ module _ (adds : Adds) (sounds : Sounds) (exact : (xs ys : List (List Cell)) →
   behind = read_by (next g e) d own
 
   texts_by : Hears g (next g e) c d → Texts g c d own
-  texts_by (quietly a n) = silent (ap (filter (is_told_of own)) (told_now c d a.more a.told) ∙ calm_texts own a.more a.calm)
+  texts_by (quietly a n) = silent (ap (filter (is_told_of own)) (told_by-append c d a.more a.told) ∙ calm_texts own a.more a.calm)
   texts_by (by_contents a n) = of_contents g c d own a
   texts_by (by_command a) = of_command g e b m c d x own a
 
   texts_of : HearsBy g e c d → Texts g c d own
   texts_of (heard n h) = texts_by h
-  texts_of (untaken n k same) = silent (ap (filter (is_told_of own)) (told_now c d [] (ap told (sym same) ∙ sym (append-nil (told c)))))
+  texts_of (untaken n k same) = silent (ap (filter (is_told_of own)) (told_by-append c d [] (ap told (sym same) ∙ sym (append-nil (told c)))))
   texts_of (taken s q a) = of_step g e b m c d x own s a
 
   rows_filtered : (ts : List Told) → all_rows own ts ≡ all_rows own (filter (is_told_of own) ts)
@@ -482,11 +483,12 @@ module _ (adds : Adds) (sounds : Sounds) (exact : (xs ys : List (List Cell)) →
     where
       by : (o : Option ℕ) → followed_by c.subs own ≡ o → sum_for own q (told c) ≡ pos (copies q (read_by g c own))
       by None f = absurd (false≢true (sym (ap is_some f) ∙ h))
-      by (Some k) f = (adds_to_view g b m c own k x f).sum q ∙ sym (ap (λ o. pos (copies q (if_some o [] (λ j. seen g.machine c.role (rel_read g.feeds j))))) f)
+      by (Some k) f =
+        (AddsToView-IsSoundGate g b m c own k x f).sum q ∙ sym (ap (λ o. pos (copies q (if_some o [] (λ j. seen g.machine c.role (rel_read g.feeds j))))) f)
   sum_before (inr l) q =
       let sound = b.clients m c x.there x.stays in
       sound.later own q l ∙ sym (ap (λ o. pos (copies q (if_some o [] (λ j. seen g.machine c.role (rel_read g.feeds j)))))
-      (absent (followed_by c.subs own) (followed_any own c.subs ∙ above c.given own c.subs sound.own l)))
+      (None-is_some (followed_by c.subs own) (is_some-followed_by own c.subs ∙ list_any-above_given c.given own c.subs sound.own l)))
 
   sum_behind : is_some (followed_by d.subs own) ≡ true → (q : List Cell) → sum_for own q (told d) ≡ pos (copies q (read_by (next g e) d own))
   sum_behind h q = by (followed_by d.subs own) refl
@@ -494,7 +496,7 @@ module _ (adds : Adds) (sounds : Sounds) (exact : (xs ys : List (List Cell)) →
       by : (o : Option ℕ) → followed_by d.subs own ≡ o → sum_for own q (told d) ≡ pos (copies q (read_by (next g e) d own))
       by None f = absurd (false≢true (sym (ap is_some f) ∙ h))
       by (Some k) f =
-          (adds_to_view (next g e) after m d own k y f).sum q
+          (AddsToView-IsSoundGate (next g e) after m d own k y f).sum q
           ∙ sym (ap (λ o. pos (copies q (if_some o [] (λ j. seen (next g e).machine d.role (rel_read (next g e).feeds j))))) f)
 
   left_over : (w : ℤ) (p q : ℕ) → pos q ≡ pos p +ℤ w → w ≡ pos q -ℤ pos p
@@ -505,12 +507,12 @@ module _ (adds : Adds) (sounds : Sounds) (exact : (xs ys : List (List Cell)) →
       → weight_of (all_rows own (filter (is_told_of own) (told_by c d))) q ≡ weight (read_by g c own) (read_by (next g e) d own) q
   weighs f p q =
       left_over (weight_of (all_rows own (filter (is_told_of own) (told_by c d))) q) (copies q (read_by g c own)) (copies q (read_by (next g e) d own))
-      (sym (sum_behind f q) ∙ (ap (sum_for own q) (text_kept g e m c d x y) ∙ (sum-append own q (told c) (told_by c d)
+      (sym (sum_behind f q) ∙ (ap (sum_for own q) (text_kept g e m c d x y) ∙ (sum_for-append own q (told c) (told_by c d)
       ∙ (λ i. sum_before p q i +ℤ ap (λ rows. weight_of rows q) (rows_filtered (told_by c d)) i))))
 
   rows_of_change : (rows : List (List Cell × ℤ)) → all_rows own (change_told own rows) ≡ rows
   rows_of_change [] = refl
-  rows_of_change (p ∷ ps) = ap (λ z. cond z (p ∷ ps) [] ++ []) (same_self own) ∙ append-nil (p ∷ ps)
+  rows_of_change (p ∷ ps) = ap (λ z. cond z (p ∷ ps) [] ++ []) (eq-itself own) ∙ append-nil (p ∷ ps)
 
   told_exactly : (xs ys : List (List Cell)) → filter (is_told_of own) (told_by c d) ≡ change_told own (difference xs ys) → is_some (followed_by d.subs own) ≡ true → (is_some (followed_by c.subs own) ≡ true) ⊎ (c.given < own)
       → filter (is_told_of own) (told_by c d) ≡ change_told own (difference (read_by g c own) (read_by (next g e) d own))
@@ -528,6 +530,6 @@ module _ (adds : Adds) (sounds : Sounds) (exact : (xs ys : List (List Cell)) →
       by (differs xs ys t s) = record { goes_on = λ f p. told_exactly xs ys t f p; stops = λ f. absurd (false≢true (sym (ap is_some f) ∙ s)) }
       by (ends_so rel why t s) = record { goes_on = λ f p. absurd (false≢true (sym (ap is_some s) ∙ f)); stops = λ f. inr (rel, why, t) }
 
-pub tells_apart : Adds → Sounds → ((xs ys : List (List Cell)) → IsDifference xs ys (difference xs ys))
+pub TellsApart-IsSoundGate : Adds → Sounds → ((xs ys : List (List Cell)) → IsDifference xs ys (difference xs ys))
     → ((xs ys : List (List Cell)) (rows : List (List Cell × ℤ)) → IsDifference xs ys rows → rows ≡ difference xs ys) → (g : Gate) (e : Event) → IsSoundGate g → IsSoundGate (next g e) → ByClient g e (λ m c d. (own : ℕ) → TellsApart g e c d own)
-tells_apart adds sounds exact only g e b behind m c d x y own = tells_difference adds sounds exact only g e b m c d x y own behind (next_all sounds g e b m c d x.there x.stays y.there y.stays)
+TellsApart-IsSoundGate adds sounds exact only g e b behind m c d x y own = tells_difference adds sounds exact only g e b m c d x y own behind (HearsBy-next sounds g e b m c d x.there x.stays y.there y.stays)

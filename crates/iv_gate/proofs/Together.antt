@@ -13,7 +13,7 @@ use Rattle.iv_clients.specs.Journal.{IsRequest, Request, is_shared, said_by}
 use Rattle.iv_clients.specs.Names.{holder_of, place_text}
 use Rattle.iv_steps.specs.Laws.{RefusalsAreFound}
 use Rattle.iv_steps.specs.Steps.{stepped}
-use Rattle.iv_clients.proofs.Slots.{one_some}
+use Rattle.iv_clients.proofs.Slots.{same-Some}
 use Rattle.iv_gate.specs.Arriving.{Step, entry_of, fact_of, fault_of, is_behind}
 use Rattle.iv_gate.specs.Events.{Event, presented, message, gone, known, ticked, synced, handed, arrived, forgave, failed, IsWell, happens, next}
 use Rattle.iv_gate.specs.Gate.{Gate, hears, place_of}
@@ -22,17 +22,17 @@ use Rattle.iv_gate.specs.Laws.{AddsOnly, AreShown, HasMarks, LeavesMarks, marked
 use Rattle.iv_gate.specs.Replies.{ByClient, IsClient, added_by, heard_by, is_opened, place_behind, told_by}
 use Rattle.iv_gate.specs.Seen.{IsEnd, TellsDifference, hindrance, is_told_of, read_by}
 use Rattle.iv_gate.specs.Touched.{AreTouched, IsNewcomer, StaysItself, itself_behind}
-use Rattle.iv_gate.proofs.Answered.{place_is}
-use Rattle.iv_gate.proofs.Answering.{drop_text, follows_none, heard_is, not_followed, other_hears, own_answer}
-use Rattle.iv_gate.proofs.Booking.{came_adds, is_next, went_adds}
-use Rattle.iv_gate.proofs.Growing.{drop_front, map_front}
+use Rattle.iv_gate.proofs.Answered.{place_text-place_behind}
+use Rattle.iv_gate.proofs.Answering.{told_by-told_more, is_own-not_followed_by, IsOwn-heard_by, followed_by-not_is_own, Hears-heard_by, OwnAnswer-IsOwn}
+use Rattle.iv_gate.proofs.Booking.{entries-came, IsNext-fault_of, entries-went}
+use Rattle.iv_gate.proofs.Growing.{drop-append_front, map-append_front}
 use Rattle.iv_gate.proofs.Hearing.{is_own}
-use Rattle.iv_gate.proofs.Replying.{asked, had_before, said_reply}
-use Rattle.iv_gate.proofs.Showing.{IsShownBy, are_shown}
+use Rattle.iv_gate.proofs.Replying.{asked, is_own-before, said_reply}
+use Rattle.iv_gate.proofs.Showing.{IsShownBy, ByClient-IsToldMore}
 use Rattle.iv_gate.proofs.Signs.{Marks, Sign, card, marks}
-use Rattle.iv_gate.proofs.Summing.{same_self}
+use Rattle.iv_gate.proofs.Summing.{eq-itself}
 use Rattle.iv_gate.proofs.Telling.{TellsApart}
-use Rattle.iv_gate.proofs.Touching.{IsKept as KeepsCard, IsNewcomer as Comes, card_behind, entered_by_event, is_gone, marked_by_event, marks_behind, rests, taken_by, takes_sign, touched}
+use Rattle.iv_gate.proofs.Touching.{IsKept as KeepsCard, IsNewcomer as Comes, card_behind, entries-next, is_gone, marks-next, marks_behind, next-dead, taken_by, sign-takes, AreTouched-next}
 
 -- ---- marks
 
@@ -60,12 +60,12 @@ as_marked g h (arrived s) live = by (is_some (fault_of g s))
 
 has_marks : (g : Gate) (e : Event) → g.dead ≡ false → HasMarks g e
 has_marks g e live =
-    let m = marked_by_event g e live in
+    let m = marks-next g e live in
     (λ i. record (next g e) { tokens = (m i).tokens; head = (m i).head; kept = (m i).kept; forgiven = (m i).forgiven; sent = (m i).sent; dead = (m i).dead }) ∙ as_marked g (next g e) e live
 
 -- where the entries stay nothing was added
 none_added : (g : Gate) (e : Event) → (next g e).entries ≡ g.entries → added_by g e ≡ []
-none_added g e h = ap (drop (length g.entries)) (h ∙ sym (append-nil g.entries)) ∙ drop_front g.entries []
+none_added g e h = ap (drop (length g.entries)) (h ∙ sym (append-nil g.entries)) ∙ drop-append_front g.entries []
 
 awake : (g : Gate) (e : Event) → g.dead ≡ false → next g e ≡ happens g e
 awake g e live = ap (λ b. cond b g (happens g e)) live
@@ -78,7 +78,7 @@ facts_shared (q ∷ qs) w = (w.0.shared, facts_shared qs w.1)
 -- a step without a fault that is not behind is taken
 step_taken : RefusalsAreFound → (g : Gate) (s : Step) → AllByRecursion IsRequest s.requests → is_some (fault_of g s) ≡ false → is_behind g s ≡ false → is_some (stepped (map fact_of s.requests) g.machine) ≡ true
 step_taken found g s w f b =
-    taken_if (is_some (stepped (map fact_of s.requests) g.machine)) (sym (found (map fact_of s.requests) g.machine (facts_shared s.requests w)) ∙ (is_next g s f b).accepted)
+    taken_if (is_some (stepped (map fact_of s.requests) g.machine)) (sym (found (map fact_of s.requests) g.machine (facts_shared s.requests w)) ∙ (IsNext-fault_of g s f b).accepted)
   where
     taken_if : (t : Bool) → not t ≡ false → t ≡ true
     taken_if true h = refl
@@ -86,10 +86,10 @@ step_taken found g s w f b =
 
 adds_only : RefusalsAreFound → (g : Gate) (e : Event) → IsWell e → g.dead ≡ false → AddsOnly g e (added_by g e)
 adds_only found g (arrived s) w live =
-    drop_more (ap (λ (x : Gate). x.entries) (awake g (arrived s) live) ∙ ap (λ (x : Sign). x.entries) (takes_sign g s)) ∙ by (is_some (fault_of g s)) refl (is_behind g s) refl (stepped (map fact_of s.requests) g.machine) refl
+    drop_more (ap (λ (x : Gate). x.entries) (awake g (arrived s) live) ∙ ap (λ (x : Sign). x.entries) (sign-takes g s)) ∙ by (is_some (fault_of g s)) refl (is_behind g s) refl (stepped (map fact_of s.requests) g.machine) refl
   where
     drop_more : (next g (arrived s)).entries ≡ g.entries ++ taken_by g s → added_by g (arrived s) ≡ taken_by g s
-    drop_more h = ap (drop (length g.entries)) h ∙ drop_front g.entries (taken_by g s)
+    drop_more h = ap (drop (length g.entries)) h ∙ drop-append_front g.entries (taken_by g s)
 
     by : (d : Bool) → is_some (fault_of g s) ≡ d → (p : Bool) → is_behind g s ≡ p → (o : Option Outcome) → stepped (map fact_of s.requests) g.machine ≡ o
         → cond d [] (cond p [] (if_some o [] (λ x. entry_of s ∷ []))) ≡ cond (p || d) [] (entry_of s ∷ [])
@@ -107,8 +107,8 @@ adds_only found g (message m text) w live = λ h. none_added g (message m text) 
     by : (o : Option Client) → if_some o false may_say ≡ false → (if_some o g (λ c. cond (may_say c) (hears g m c text) g)).entries ≡ g.entries
     by None e = refl
     by (Some c) e = heard_not c (may_say c) e
-adds_only found g (presented m token) w live = none_added g (presented m token) (ap (λ (x : Gate). x.entries) (awake g (presented m token) live) ∙ came_adds g m token)
-adds_only found g (gone m) w live = none_added g (gone m) (ap (λ (x : Gate). x.entries) (awake g (gone m) live) ∙ went_adds g m)
+adds_only found g (presented m token) w live = none_added g (presented m token) (ap (λ (x : Gate). x.entries) (awake g (presented m token) live) ∙ entries-came g m token)
+adds_only found g (gone m) w live = none_added g (gone m) (ap (λ (x : Gate). x.entries) (awake g (gone m) live) ∙ entries-went g m)
 adds_only found g (known tokens) w live = none_added g (known tokens) (ap (λ (x : Gate). x.entries) (awake g (known tokens) live))
 adds_only found g ticked w live = none_added g ticked (ap (λ (x : Gate). x.entries) (awake g ticked live))
 adds_only found g synced w live = none_added g synced (ap (λ (x : Gate). x.entries) (awake g synced live))
@@ -116,8 +116,8 @@ adds_only found g (handed m) w live = none_added g (handed m) (ap (λ (x : Gate)
 adds_only found g forgave w live = none_added g forgave (ap (λ (x : Gate). x.entries) (awake g forgave live))
 adds_only found g failed w live = none_added g failed (ap (λ (x : Gate). x.entries) (awake g failed live))
 
-pub leaves_marks : RefusalsAreFound → (g : Gate) (e : Event) → IsWell e → g.dead ≡ false → LeavesMarks g e
-leaves_marks found g e w live = record { grows = entered_by_event g e live; only = adds_only found g e w live; marks = has_marks g e live }
+pub LeavesMarks-IsWell : RefusalsAreFound → (g : Gate) (e : Event) → IsWell e → g.dead ≡ false → LeavesMarks g e
+LeavesMarks-IsWell found g e w live = record { grows = entries-next g e live; only = adds_only found g e w live; marks = has_marks g e live }
 
 -- ---- clients
 
@@ -172,14 +172,14 @@ newcomer g e m d live x =
     let holder = holder_of x.token.role x.token.user in
     let head : (next g e).head ≡ g.head = ap (λ (z : Event). (next g z).head) x.event ∙ ap (λ (z : Gate). z.head) (has_marks g (presented m x.text) live) in
     let entries : (next g e).entries ≡ g.entries =
-    ap (λ (z : Event). (next g z).entries) x.event ∙ (ap (λ (z : Gate). z.entries) (awake g (presented m x.text) live) ∙ came_adds g m x.text) in
+    ap (λ (z : Event). (next g z).entries) x.event ∙ (ap (λ (z : Gate). z.entries) (awake g (presented m x.text) live) ∙ entries-came g m x.text) in
     let place : place_text (place_of (next g e) holder) ≡ place_behind g holder 0 =
-    place_is (next g e) holder ∙ (λ i. place_behind (record g { head = head i; entries = entries i }) holder 0) in
+    place_text-place_behind (next g e) holder ∙ (λ i. place_behind (record g { head = head i; entries = entries i }) holder 0) in
     record { text = x.text; token = x.token; event = x.event; opened = x.opened; is = x.is ∙ ap (fresh (next g e).entries x.token) place }
 
-pub touches : (g : Gate) (e : Event) → g.dead ≡ false → AreTouched g e
-touches g e live = let t = touched g e live in
-    record { stays = λ m c h n. keeps g e m c (t.stays m c h (not_gone m e n)); leaves = λ m n. t.leaves m (ap (is_gone m) n ∙ same_self m); comes = λ m d h k. newcomer g e m d live (t.comes m d h k) }
+pub AreTouched-event : (g : Gate) (e : Event) → g.dead ≡ false → AreTouched g e
+AreTouched-event g e live = let t = AreTouched-next g e live in
+    record { stays = λ m c h n. keeps g e m c (t.stays m c h (not_gone m e n)); leaves = λ m n. t.leaves m (ap (is_gone m) n ∙ eq-itself m); comes = λ m d h k. newcomer g e m d live (t.comes m d h k) }
 
 -- ---- what is shown
 
@@ -192,11 +192,11 @@ as_shown g e m c (s ∷ ss) a =
     let x = sym a.0.entries in let y = sym a.0.answers in
     λ i. record { told = s.told; entries = x i; answers = y i } ∷ as_shown g e m c ss a.1 i
 
-pub shows_told : (g : Gate) (e : Event) → AreShown g e
-shows_told g e m c d a b =
-    let x = are_shown g e m c d a b in
-    let text : told d ≡ told c ++ map (λ (s : Shown). s.told) x.more = ap (map (λ (s : Shown). s.told)) x.keeps ∙ map_front (λ (s : Shown). s.told) (all_shown c) x.more in
-    x.keeps ∙ ap (λ z. all_shown c ++ z) (sym (ap (map (shown_by g e m c)) (drop_text c d (map (λ (s : Shown). s.told) x.more) text) ∙ as_shown g e m c x.more x.shows))
+pub AreShown-event : (g : Gate) (e : Event) → AreShown g e
+AreShown-event g e m c d a b =
+    let x = ByClient-IsToldMore g e m c d a b in
+    let text : told d ≡ told c ++ map (λ (s : Shown). s.told) x.more = ap (map (λ (s : Shown). s.told)) x.keeps ∙ map-append_front (λ (s : Shown). s.told) (all_shown c) x.more in
+    x.keeps ∙ ap (λ z. all_shown c ++ z) (sym (ap (map (shown_by g e m c)) (told_by-told_more c d (map (λ (s : Shown). s.told) x.more) text) ∙ as_shown g e m c x.more x.shows))
 
 -- ---- changes
 
@@ -208,15 +208,15 @@ comes_own g e m c d x y own h = by g.dead refl
     above i j k = omega (arith, k)
 
     live : g.dead ≡ false → (o : Option (List ℕ)) → heard_by m c e ≡ o → (is_own own c.subs ≡ true) ⊎ (c.given < own)
-    live l None q = inl (had_before c d own ((other_hears g e m c d l x.there y.there y.stays q).none own) h)
-    live l (Some text) q = heard (is_opened (said_reply (asked g m text) c text (said_by text)) ≡ true) ((own_answer g e m c d text l x.there y.there (heard_is m c e text q)).comes own h)
+    live l None q = inl (is_own-before c d own ((Hears-heard_by g e m c d l x.there y.there y.stays q).none own) h)
+    live l (Some text) q = heard (is_opened (said_reply (asked g m text) c text (said_by text)) ≡ true) ((OwnAnswer-IsOwn g e m c d text l x.there y.there (IsOwn-heard_by m c e text q)).comes own h)
       where
         heard : (P : Type 0) → (is_own own c.subs ≡ true) ⊎ (P × (own ≡ c.given + 1)) → (is_own own c.subs ≡ true) ⊎ (c.given < own)
         heard P (inl k) = inl k
         heard P (inr k) = inr (above c.given own k.1)
 
     by : (t : Bool) → g.dead ≡ t → (is_own own c.subs ≡ true) ⊎ (c.given < own)
-    by true q = inl (ap (λ (z : Client). is_own own z.subs) (one_some c d (sym x.there ∙ (ap (λ (z : Gate). client_at z.clients m) (sym (rests g e q)) ∙ y.there))) ∙ h)
+    by true q = inl (ap (λ (z : Client). is_own own z.subs) (same-Some c d (sym x.there ∙ (ap (λ (z : Gate). client_at z.clients m) (sym (next-dead g e q)) ∙ y.there))) ∙ h)
     by false q = live q (heard_by m c e) refl
 
 first_in : {X : Type 0} (p : X → Bool) (ts : List X) (x : X) → filter p ts ≡ x ∷ [] → Contains ts x
@@ -234,9 +234,9 @@ first_in p (t ∷ ts) x h = by (p t) h (first_in p ts x)
     by true k more = (0, omega arith, ap (λ l. get_or l 0 x) k)
     by false k more = let c = more k in let l = c.1 in (suc c.0, omega (arith, l), c.2)
 
-pub tells_changes : (g : Gate) (e : Event) → ((m : ℕ) (c d : Client) → IsClient g m c → IsClient (next g e) m d → (own : ℕ) → TellsApart g e c d own) → EndsForCause g e
+pub TellsDifference-TellsApart : (g : Gate) (e : Event) → ((m : ℕ) (c d : Client) → IsClient g m c → IsClient (next g e) m d → (own : ℕ) → TellsApart g e c d own) → EndsForCause g e
     → ByClient g e (λ m c d. (own : ℕ) → TellsDifference g e c d own)
-tells_changes g e apart ends m c d x y own = record {
+TellsDifference-TellsApart g e apart ends m c d x y own = record {
   goes_on = λ f. a.goes_on f (since f);
   stops = λ f. stop (a.stops f);
 }
@@ -249,13 +249,13 @@ tells_changes g e apart ends m c d x y own = record {
       where
         by : (t : Bool) → is_own own z.subs ≡ t → is_own own z.subs ≡ true
         by true q = q
-        by false q = absurd (false≢true (sym (ap is_some (not_followed z.subs own q)) ∙ f))
+        by false q = absurd (false≢true (sym (ap is_some (followed_by-not_is_own z.subs own q)) ∙ f))
 
     is_followed : (z : Client) → is_own own z.subs ≡ true → is_some (followed_by z.subs own) ≡ true
     is_followed z q = by (followed_by z.subs own) refl
       where
         by : (o : Option ℕ) → followed_by z.subs own ≡ o → is_some (followed_by z.subs own) ≡ true
-        by None f = absurd (false≢true (sym (follows_none z.subs own f) ∙ q))
+        by None f = absurd (false≢true (sym (is_own-not_followed_by z.subs own f) ∙ q))
         by (Some k) f = ap is_some f
 
     since : is_some (followed_by d.subs own) ≡ true → (is_some (followed_by c.subs own) ≡ true) ⊎ (c.given < own)

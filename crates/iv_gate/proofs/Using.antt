@@ -10,61 +10,63 @@ use Rattle.iv_machine.specs.Refusing.{refusal}
 use Rattle.iv_machine.specs.State.{State}
 use Rattle.iv_clients.specs.Clients.{Client, Slots, Sub, at_all, at_client, client_at, is_followed, staying, telling, told}
 use Rattle.iv_clients.specs.Feeds.{Feed, ends_in, without_feed}
-use Rattle.iv_clients.proofs.Slots.{at_every, from, one_some, some_is_none}
+use Rattle.iv_clients.proofs.Slots.{client_at-at_all, IsFrom-option_map, same-Some, not_None-Some}
 use Rattle.iv_gate.specs.Gate.{Gate, in_session, ran, shut, told_of, went_on}
-use Rattle.iv_gate.proofs.Running.{all_so, at_one, filter_plain}
-use Rattle.iv_gate.proofs.Sound.{Seer, filter_all, seer, seer_telling}
+use Rattle.iv_gate.proofs.Running.{AllByRecursion-map, client_at-one_changed, AllByRecursion-filter}
+use Rattle.iv_gate.proofs.Sound.{Seer, AllByRecursion-filter_not, seer, seer-telling}
 use Rattle.iv_message.specs.Told.{Told}
 
 -- ---- who follows
 
-pub or_both : (a b c d : Bool) → (a ≡ true → c ≡ true) → (b ≡ true → d ≡ true) → (a || b) ≡ true → (c || d) ≡ true
-or_both true b c d f g h = ap (λ z. z || d) (f refl)
-or_both false b true d f g h = refl
-or_both false b false d f g h = g h
+pub or-implies : (a b c d : Bool) → (a ≡ true → c ≡ true) → (b ≡ true → d ≡ true) → (a || b) ≡ true → (c || d) ≡ true
+or-implies true b c d f g h = ap (λ z. z || d) (f refl)
+or-implies false b true d f g h = refl
+or-implies false b false d f g h = g h
 
 abbrev pub follows : ℕ → List Sub → Bool
 follows k subs = list_any (λ (s : Sub). k == s.feed) subs
 
-pub followed_all : (k : ℕ) (f : Client → Client) (slots : Slots) → ((c : Client) → follows k c.subs ≡ true → follows k (f c).subs ≡ true) → is_followed k slots ≡ true → is_followed k (at_all f slots) ≡ true
-followed_all k f [] g h = h
-followed_all k f (None ∷ ss) g h = followed_all k f ss g h
-followed_all k f (Some c ∷ ss) g h = or_both (follows k c.subs) (is_followed k ss) (follows k (f c).subs) (is_followed k (at_all f ss)) (g c) (followed_all k f ss g) h
+pub is_followed-at_all : (k : ℕ) (f : Client → Client) (slots : Slots) → ((c : Client) → follows k c.subs ≡ true → follows k (f c).subs ≡ true) → is_followed k slots ≡ true → is_followed k (at_all f slots) ≡ true
+is_followed-at_all k f [] g h = h
+is_followed-at_all k f (None ∷ ss) g h = is_followed-at_all k f ss g h
+is_followed-at_all k f (Some c ∷ ss) g h = or-implies (follows k c.subs) (is_followed k ss) (follows k (f c).subs) (is_followed k (at_all f ss)) (g c) (is_followed-at_all k f ss g) h
 
-pub followed_one : (k m : ℕ) (f : Client → Client) (slots : Slots) → ((c : Client) → client_at slots m ≡ Some c → follows k c.subs ≡ true → follows k (f c).subs ≡ true)
+pub is_followed-at_client : (k m : ℕ) (f : Client → Client) (slots : Slots) → ((c : Client) → client_at slots m ≡ Some c → follows k c.subs ≡ true → follows k (f c).subs ≡ true)
     → is_followed k slots ≡ true → is_followed k (at_client m f slots) ≡ true
-followed_one k m f [] g h = h
-followed_one k zero f (None ∷ ss) g h = h
-followed_one k zero f (Some c ∷ ss) g h = or_both (follows k c.subs) (is_followed k ss) (follows k (f c).subs) (is_followed k ss) (g c refl) (λ e. e) h
-followed_one k (suc m) f (None ∷ ss) g h = followed_one k m f ss g h
-followed_one k (suc m) f (Some c ∷ ss) g h = or_both (follows k c.subs) (is_followed k ss) (follows k c.subs) (is_followed k (at_client m f ss)) (λ e. e) (followed_one k m f ss g) h
+is_followed-at_client k m f [] g h = h
+is_followed-at_client k zero f (None ∷ ss) g h = h
+is_followed-at_client k zero f (Some c ∷ ss) g h =
+    or-implies (follows k c.subs) (is_followed k ss) (follows k (f c).subs) (is_followed k ss) (g c refl) (λ e. e) h
+is_followed-at_client k (suc m) f (None ∷ ss) g h = is_followed-at_client k m f ss g h
+is_followed-at_client k (suc m) f (Some c ∷ ss) g h = or-implies (follows k c.subs) (is_followed k ss) (follows k c.subs) (is_followed k (at_client m f ss)) (λ e. e) (is_followed-at_client k m f ss g) h
 
-pub followed_by_one : (k m : ℕ) (f : Client → Client) (slots : Slots) (c : Client) → client_at slots m ≡ Some c → follows k (f c).subs ≡ true → is_followed k (at_client m f slots) ≡ true
-followed_by_one k m f [] c t h = absurd (some_is_none c (sym t))
-followed_by_one k zero f (None ∷ ss) c t h = absurd (some_is_none c (sym t))
-followed_by_one k zero f (Some d ∷ ss) c t h = or_left (follows k (f d).subs) (is_followed k ss) (ap (λ (x : Client). follows k (f x).subs) (one_some d c t) ∙ h)
-followed_by_one k (suc m) f (None ∷ ss) c t h = followed_by_one k m f ss c t h
-followed_by_one k (suc m) f (Some d ∷ ss) c t h = or_right (follows k d.subs) (is_followed k (at_client m f ss)) (followed_by_one k m f ss c t h)
+pub is_followed-at_one : (k m : ℕ) (f : Client → Client) (slots : Slots) (c : Client) → client_at slots m ≡ Some c → follows k (f c).subs ≡ true → is_followed k (at_client m f slots) ≡ true
+is_followed-at_one k m f [] c t h = absurd (not_None-Some c (sym t))
+is_followed-at_one k zero f (None ∷ ss) c t h = absurd (not_None-Some c (sym t))
+is_followed-at_one k zero f (Some d ∷ ss) c t h = or_left (follows k (f d).subs) (is_followed k ss) (ap (λ (x : Client). follows k (f x).subs) (same-Some d c t) ∙ h)
+is_followed-at_one k (suc m) f (None ∷ ss) c t h = is_followed-at_one k m f ss c t h
+is_followed-at_one k (suc m) f (Some d ∷ ss) c t h = or_right (follows k d.subs) (is_followed k (at_client m f ss)) (is_followed-at_one k m f ss c t h)
 
 -- who goes takes what it follows alone
-pub followed_left : (k m : ℕ) (slots : Slots) (c : Client) → client_at slots m ≡ Some c → follows k c.subs ≡ false → is_followed k slots ≡ true → is_followed k (set slots m None) ≡ true
-followed_left k m [] c t n h = h
-followed_left k zero (None ∷ ss) c t n h = h
-followed_left k zero (Some d ∷ ss) c t n h = by (follows k d.subs) (ap (λ (x : Client). follows k x.subs) (one_some d c t) ∙ n) h
+pub is_followed-set_None : (k m : ℕ) (slots : Slots) (c : Client) → client_at slots m ≡ Some c → follows k c.subs ≡ false → is_followed k slots ≡ true → is_followed k (set slots m None) ≡ true
+is_followed-set_None k m [] c t n h = h
+is_followed-set_None k zero (None ∷ ss) c t n h = h
+is_followed-set_None k zero (Some d ∷ ss) c t n h = by (follows k d.subs) (ap (λ (x : Client). follows k x.subs) (same-Some d c t) ∙ n) h
   where
     by : (b : Bool) → b ≡ false → (b || is_followed k ss) ≡ true → is_followed k ss ≡ true
     by true e g = absurd (false≢true (sym e))
     by false e g = g
-followed_left k (suc m) (None ∷ ss) c t n h = followed_left k m ss c t n h
-followed_left k (suc m) (Some d ∷ ss) c t n h = or_both (follows k d.subs) (is_followed k ss) (follows k d.subs) (is_followed k (set ss m None)) (λ e. e) (followed_left k m ss c t n) h
+is_followed-set_None k (suc m) (None ∷ ss) c t n h = is_followed-set_None k m ss c t n h
+is_followed-set_None k (suc m) (Some d ∷ ss) c t n h = or-implies (follows k d.subs) (is_followed k ss) (follows k d.subs) (is_followed k (set ss m None)) (λ e. e) (is_followed-set_None k m ss c t n) h
 
-pub followed_put : (k m : ℕ) (x : Option Client) (slots : Slots) → client_at slots m ≡ None → is_followed k slots ≡ true → is_followed k (set slots m x) ≡ true
-followed_put k m x [] t h = h
-followed_put k zero None (None ∷ ss) t h = h
-followed_put k zero (Some d) (None ∷ ss) t h = or_right (follows k d.subs) (is_followed k ss) h
-followed_put k zero x (Some c ∷ ss) t h = absurd (some_is_none c t)
-followed_put k (suc m) x (None ∷ ss) t h = followed_put k m x ss t h
-followed_put k (suc m) x (Some d ∷ ss) t h = or_both (follows k d.subs) (is_followed k ss) (follows k d.subs) (is_followed k (set ss m x)) (λ e. e) (followed_put k m x ss t) h
+pub is_followed-set : (k m : ℕ) (x : Option Client) (slots : Slots) → client_at slots m ≡ None → is_followed k slots ≡ true
+    → is_followed k (set slots m x) ≡ true
+is_followed-set k m x [] t h = h
+is_followed-set k zero None (None ∷ ss) t h = h
+is_followed-set k zero (Some d) (None ∷ ss) t h = or_right (follows k d.subs) (is_followed k ss) h
+is_followed-set k zero x (Some c ∷ ss) t h = absurd (not_None-Some c t)
+is_followed-set k (suc m) x (None ∷ ss) t h = is_followed-set k m x ss t h
+is_followed-set k (suc m) x (Some d ∷ ss) t h = or-implies (follows k d.subs) (is_followed k ss) (follows k d.subs) (is_followed k (set ss m x)) (λ e. e) (is_followed-set k m x ss t) h
 
 -- ---- in whose role
 
@@ -80,8 +82,8 @@ pub record Shrinks (f : Client → Client) : Type 0 where
   pub role : (c : Client) → (f c).role ≡ c.role
   pub fewer : (c : Client) (k : ℕ) → follows k (f c).subs ≡ true → follows k c.subs ≡ true
 
-pub shrinks_same : (f : Client → Client) → ((c : Client) → (f c).role ≡ c.role) → ((c : Client) → (f c).subs ≡ c.subs) → Shrinks f
-shrinks_same f r s = record { role = r; fewer = λ c k h. sym (ap (follows k) (s c)) ∙ h }
+pub Shrinks-same_subs : (f : Client → Client) → ((c : Client) → (f c).role ≡ c.role) → ((c : Client) → (f c).subs ≡ c.subs) → Shrinks f
+Shrinks-same_subs f r s = record { role = r; fewer = λ c k h. sym (ap (follows k) (s c)) ∙ h }
 
 -- some feeds fewer, and a later number
 fits_less : (last new : ℕ) (fs gs : List Feed) (c d : Client) → last ≤ new → d.role ≡ c.role → ((k : ℕ) → follows k d.subs ≡ true → follows k c.subs ≡ true)
@@ -92,21 +94,21 @@ fits_less last new fs gs c d l role fewer less a k h =
       subst (λ r. AllByRecursion (λ (f : Feed). (k == f.number) ≡ true → f.role ≡ r) gs) (sym role) (less (λ (f : Feed). (k == f.number) ≡ true → f.role ≡ c.role) x.1),
     )
 
-pub fit_one : (last : ℕ) (fs : List Feed) (m : ℕ) (f : Client → Client) (slots : Slots) → Shrinks f → AreFit last fs slots → AreFit last fs (at_client m f slots)
-fit_one last fs m f slots s a = at_one (λ i c. Fits last fs c) m f slots (λ c h. fits_less last last fs fs c (f c) (omega arith) (s.role c) (s.fewer c) (λ P b. b) (a m c h)) (λ j c ne h. a j c h)
+pub AreFit-at_client : (last : ℕ) (fs : List Feed) (m : ℕ) (f : Client → Client) (slots : Slots) → Shrinks f → AreFit last fs slots → AreFit last fs (at_client m f slots)
+AreFit-at_client last fs m f slots s a = client_at-one_changed (λ i c. Fits last fs c) m f slots (λ c h. fits_less last last fs fs c (f c) (omega arith) (s.role c) (s.fewer c) (λ P b. b) (a m c h)) (λ j c ne h. a j c h)
 
-pub fit_all : (last new : ℕ) (fs gs : List Feed) (f : Client → Client) (slots : Slots) → last ≤ new → ((P : Feed → Type 0) → AllByRecursion P fs → AllByRecursion P gs) → Shrinks f
+pub AreFit-at_all : (last new : ℕ) (fs gs : List Feed) (f : Client → Client) (slots : Slots) → last ≤ new → ((P : Feed → Type 0) → AllByRecursion P fs → AllByRecursion P gs) → Shrinks f
     → AreFit last fs slots → AreFit new gs (at_all f slots)
-fit_all last new fs gs f slots l less s a m d e =
-    let o = from f (client_at slots m) d (sym (at_every f slots m) ∙ e) in
+AreFit-at_all last new fs gs f slots l less s a m d e =
+    let o = IsFrom-option_map f (client_at slots m) d (sym (client_at-at_all f slots m) ∙ e) in
     subst (Fits new gs) o.same (fits_less last new fs gs o.old (f o.old) l (s.role o.old) (s.fewer o.old) less (a m o.old o.there))
 
-pub follows_fewer : (k : ℕ) (q : Sub → Bool) (xs : List Sub) → follows k (filter q xs) ≡ true → follows k xs ≡ true
-follows_fewer k q [] h = h
-follows_fewer k q (x ∷ xs) h = by (q x) h (follows_fewer k q xs)
+pub follows-filter : (k : ℕ) (q : Sub → Bool) (xs : List Sub) → follows k (filter q xs) ≡ true → follows k xs ≡ true
+follows-filter k q [] h = h
+follows-filter k q (x ∷ xs) h = by (q x) h (follows-filter k q xs)
   where
     by : (b : Bool) → follows k (cond b (x ∷ filter q xs) (filter q xs)) ≡ true → (follows k (filter q xs) ≡ true → follows k xs ≡ true) → ((k == x.feed) || follows k xs) ≡ true
-    by true t more = or_both (k == x.feed) (follows k (filter q xs)) (k == x.feed) (follows k xs) (λ e. e) more t
+    by true t more = or-implies (k == x.feed) (follows k (filter q xs)) (k == x.feed) (follows k xs) (λ e. e) more t
     by false t more = or_right (k == x.feed) (follows k xs) (more t)
 
 -- ---- what is followed
@@ -140,16 +142,17 @@ kept_sub k ls (x ∷ xs) e h = by (k == x.feed) refl (ends_in ls x.feed) refl h 
 
 went_followed : (but : ℕ → Bool) (g : Gate) (o : Outcome) (ts : Client → List Told) → AreFollowed but g.feeds g.clients → AreFollowed but (went_on g o ts).feeds (went_on g o ts).clients
 went_followed but g o ts a =
-    filter_all (λ (f : Feed). but f.number ≡ false → is_followed f.number (at_all hears g.clients) ≡ true) (λ (f : Feed). ends_in o.lines f.number) g.feeds
-    (all_so {P = λ (f : Feed). but f.number ≡ false → is_followed f.number g.clients ≡ true}
+    AllByRecursion-filter_not (λ (f : Feed). but f.number ≡ false → is_followed f.number (at_all hears g.clients) ≡ true)
+      (λ (f : Feed). ends_in o.lines f.number) g.feeds
+    (AllByRecursion-map {P = λ (f : Feed). but f.number ≡ false → is_followed f.number g.clients ≡ true}
     {Q = λ (f : Feed). ends_in o.lines f.number ≡ false → but f.number ≡ false → is_followed f.number (at_all hears g.clients) ≡ true}
-    (λ f h e n. followed_all f.number hears g.clients (λ c t. heard f.number c e t) (h n)) g.feeds a)
+    (λ f h e n. is_followed-at_all f.number hears g.clients (λ c t. heard f.number c e t) (h n)) g.feeds a)
   where
     hears : Client → Client
     hears c = staying o.lines (telling g.entries (ts c) c)
 
     heard : (n : ℕ) (c : Client) → ends_in o.lines n ≡ false → follows n c.subs ≡ true → follows n (hears c).subs ≡ true
-    heard n c e t = kept_sub n o.lines (telling g.entries (ts c) c).subs e (ap (λ v. follows n v.subs) (seer_telling g.entries (ts c) c) ∙ t)
+    heard n c e t = kept_sub n o.lines (telling g.entries (ts c) c).subs e (ap (λ v. follows n v.subs) (seer-telling g.entries (ts c) c) ∙ t)
 
 last_by : (s : State) (k : Command) (o : Option Refusal) → s.frame.last ≤ (outcome s k o).state.frame.last
 last_by s k (Some r) = omega arith
@@ -164,38 +167,38 @@ last_kept s k = last_by s k (refusal s k.session k.act)
 
 went_fit : (last : ℕ) (g : Gate) (o : Outcome) (ts : Client → List Told) → last ≤ o.state.frame.last → AreFit last g.feeds g.clients → AreFit (went_on g o ts).machine.frame.last (went_on g o ts).feeds (went_on g o ts).clients
 went_fit last g o ts l a =
-    fit_all last o.state.frame.last g.feeds (went_on g o ts).feeds hears g.clients l (λ P b. filter_plain P (λ (f : Feed). not (ends_in o.lines f.number)) g.feeds b)
-    (record { role = λ c. ap (λ (v : Seer). v.role) (seen c); fewer = λ c n h. sym (ap (λ (v : Seer). follows n v.subs) (seen c)) ∙ follows_fewer n (λ (s : Sub). not (ends_in o.lines s.feed)) _ h }) a
+    AreFit-at_all last o.state.frame.last g.feeds (went_on g o ts).feeds hears g.clients l (λ P b. AllByRecursion-filter P (λ (f : Feed). not (ends_in o.lines f.number)) g.feeds b)
+    (record { role = λ c. ap (λ (v : Seer). v.role) (seen c); fewer = λ c n h. sym (ap (λ (v : Seer). follows n v.subs) (seen c)) ∙ follows-filter n (λ (s : Sub). not (ends_in o.lines s.feed)) _ h }) a
   where
     hears : Client → Client
     hears c = staying o.lines (telling g.entries (ts c) c)
 
     seen : (c : Client) → seer (telling g.entries (ts c) c) ≡ record (seer c) { told = told c ++ ts c }
-    seen c = seer_telling g.entries (ts c) c
+    seen c = seer-telling g.entries (ts c) c
 
-pub went_using : (but : ℕ → Bool) (g : Gate) (o : Outcome) (ts : Client → List Told) → g.machine.frame.last ≤ o.state.frame.last → IsUsing but g → IsUsing but (went_on g o ts)
-went_using but g o ts l a = record { followed = went_followed but g o ts a.followed; fit = went_fit g.machine.frame.last g o ts l a.fit }
+pub IsUsing-went_on : (but : ℕ → Bool) (g : Gate) (o : Outcome) (ts : Client → List Told) → g.machine.frame.last ≤ o.state.frame.last → IsUsing but g → IsUsing but (went_on g o ts)
+IsUsing-went_on but g o ts l a = record { followed = went_followed but g o ts a.followed; fit = went_fit g.machine.frame.last g o ts l a.fit }
 
-pub ran_using : (but : ℕ → Bool) (g : Gate) (k : Command) → IsUsing but g → IsUsing but (ran g k)
-ran_using but g k a = went_using but g (step g.machine k) (told_of g k.act (step g.machine k)) (last_kept g.machine k) a
+pub IsUsing-ran : (but : ℕ → Bool) (g : Gate) (k : Command) → IsUsing but g → IsUsing but (ran g k)
+IsUsing-ran but g k a = IsUsing-went_on but g (step g.machine k) (told_of g k.act (step g.machine k)) (last_kept g.machine k) a
 
 -- ---- subscriptions that are opened and closed
 
 last_more : (s : State) (n : ℕ) (rel : List ℕ) (o : Option Refusal) → o ≡ None → s.frame.last + 1 ≤ (outcome s (in_session n (subscribe rel)) o).state.frame.last
 last_more s n rel None h = omega arith
-last_more s n rel (Some r) h = absurd (some_is_none r h)
+last_more s n rel (Some r) h = absurd (not_None-Some r h)
 
 -- the new subscription is a feed already, which its client follows
-pub ran_subscribe : (g : Gate) (n : ℕ) (rel : List ℕ) → refusal g.machine n (subscribe rel) ≡ None → AreFollowed none_but g.feeds g.clients → AreFit (g.machine.frame.last + 1) g.feeds g.clients
+pub IsUsing-subscribe : (g : Gate) (n : ℕ) (rel : List ℕ) → refusal g.machine n (subscribe rel) ≡ None → AreFollowed none_but g.feeds g.clients → AreFit (g.machine.frame.last + 1) g.feeds g.clients
     → IsUsing none_but (ran g (in_session n (subscribe rel)))
-ran_subscribe g n rel accepted followed fit = record {
+IsUsing-subscribe g n rel accepted followed fit = record {
   followed = went_followed none_but g (step g.machine (in_session n (subscribe rel))) (told_of g (subscribe rel) (step g.machine (in_session n (subscribe rel)))) followed;
   fit = went_fit (g.machine.frame.last + 1) g (step g.machine (in_session n (subscribe rel))) (told_of g (subscribe rel) (step g.machine (in_session n (subscribe rel)))) (last_more g.machine n rel (refusal g.machine n (subscribe rel)) accepted) fit;
 }
 
-pub shut_using : (but : ℕ → Bool) (g : Gate) (f : Feed) → AreFollowed but (without_feed f.number g.feeds) g.clients → AreFit g.machine.frame.last g.feeds g.clients → IsUsing but (shut g f)
-shut_using but g f a fit =
-    let k = f.number in ran_using but (record g { feeds = without_feed k g.feeds }) (in_session f.session (unsubscribe k)) (record {
+pub IsUsing-shut : (but : ℕ → Bool) (g : Gate) (f : Feed) → AreFollowed but (without_feed f.number g.feeds) g.clients → AreFit g.machine.frame.last g.feeds g.clients → IsUsing but (shut g f)
+IsUsing-shut but g f a fit =
+    let k = f.number in IsUsing-ran but (record g { feeds = without_feed k g.feeds }) (in_session f.session (unsubscribe k)) (record {
       followed = a;
-      fit = λ m c e j i. let x = fit m c e j i in (x.0, filter_plain (λ (y : Feed). (j == y.number) ≡ true → y.role ≡ c.role) (λ (y : Feed). not (k == y.number)) g.feeds x.1);
+      fit = λ m c e j i. let x = fit m c e j i in (x.0, AllByRecursion-filter (λ (y : Feed). (j == y.number) ≡ true → y.role ≡ c.role) (λ (y : Feed). not (k == y.number)) g.feeds x.1);
     })

@@ -13,7 +13,7 @@ use Rattle.iv_clients.specs.Clients.{Client, Slots, at_all, at_client, client_at
 use Rattle.iv_clients.specs.Feeds.{Seat}
 use Rattle.iv_clients.specs.Journal.{Entry, Request, shape_for}
 use Rattle.iv_once.specs.Names.{Ask}
-use Rattle.iv_clients.proofs.Slots.{at_every, at_other, at_same, one_some}
+use Rattle.iv_clients.proofs.Slots.{client_at-at_all, client_at-at_other_client, client_at-at_client, same-Some}
 use Rattle.iv_gate.specs.Gate.{Gate, all_rested, all_swept, done_for, entered, entries_of, in_session, ran, replies_to, reply_to, reply_told, done_in, settles, informs, tells, told_of, with_session, went_on}
 use Rattle.iv_gate.proofs.Shaping.{all_made}
 use Rattle.iv_gate.proofs.Stepping.{Steps, request_of, step_all_rested, step_all_swept, step_done, step_with}
@@ -49,23 +49,23 @@ step_told g o c = own_lines g.feeds o.lines c.subs ++ map granted (newly g.machi
 abbrev pub landed_client : Gate → Entry → Outcome → Client → Client
 landed_client g e o c = let es = g.entries ++ e ∷ [] in let z = staying o.lines (telling es (step_told g o c) c) in settling es (telling es (shape_for z.role (e ∷ [])) z)
 
-pub landed_at : (g : Gate) (e : Entry) (o : Outcome) (j : ℕ) (c : Client) → client_at g.clients j ≡ Some c → client_at (landed g e o).clients j ≡ Some (landed_client g e o c)
-landed_at g e o j c t =
+pub client_at-landed : (g : Gate) (e : Entry) (o : Outcome) (j : ℕ) (c : Client) → client_at g.clients j ≡ Some c → client_at (landed g e o).clients j ≡ Some (landed_client g e o c)
+client_at-landed g e o j c t =
     let es = g.entries ++ e ∷ [] in
     let first : Client → Client = λ (x : Client). staying o.lines (telling es (step_told g o x) x) in
     let shapes : Client → Client = λ (x : Client). telling es (shape_for x.role (e ∷ [])) x in
-    at_every (settling es) (at_all shapes (at_all first g.clients)) j ∙ ap (option_map (settling es)) (at_every shapes (at_all first g.clients) j ∙ ap (option_map shapes) (at_every first g.clients j ∙ ap (option_map first) t))
+    client_at-at_all (settling es) (at_all shapes (at_all first g.clients)) j ∙ ap (option_map (settling es)) (client_at-at_all shapes (at_all first g.clients) j ∙ ap (option_map shapes) (client_at-at_all first g.clients j ∙ ap (option_map first) t))
 
 -- whatever comes of a step, a client stays as it is, or is told of it
-pub takes_at : (P : Client → Type 0) (g : Gate) (s : Step) (j : ℕ) (c d : Client) → client_at g.clients j ≡ Some c → client_at (takes g s).clients j ≡ Some d → P c
+pub client_at-takes : (P : Client → Type 0) (g : Gate) (s : Step) (j : ℕ) (c d : Client) → client_at g.clients j ≡ Some c → client_at (takes g s).clients j ≡ Some d → P c
     → ((o : Outcome) → stepped (map fact_of s.requests) g.machine ≡ Some o → P (landed_client g (entry_of s) o c)) → P d
-takes_at P g s j c d t k same led = by (is_some (fault_of g s)) (is_behind g s) (stepped (map fact_of s.requests) g.machine) refl k
+client_at-takes P g s j c d t k same led = by (is_some (fault_of g s)) (is_behind g s) (stepped (map fact_of s.requests) g.machine) refl k
   where
     by : (x y : Bool) (o : Option Outcome) → stepped (map fact_of s.requests) g.machine ≡ o → client_at (cond x (record g { dead = true }) (cond y g (if_some o g (landed g (entry_of s))))).clients j ≡ Some d → P d
-    by true y o e i = subst P (one_some c d (sym t ∙ i)) same
-    by false true o e i = subst P (one_some c d (sym t ∙ i)) same
-    by false false None e i = subst P (one_some c d (sym t ∙ i)) same
-    by false false (Some o) e i = subst P (one_some (landed_client g (entry_of s) o c) d (sym (landed_at g (entry_of s) o j c t) ∙ i)) (led o e)
+    by true y o e i = subst P (same-Some c d (sym t ∙ i)) same
+    by false true o e i = subst P (same-Some c d (sym t ∙ i)) same
+    by false false None e i = subst P (same-Some c d (sym t ∙ i)) same
+    by false false (Some o) e i = subst P (same-Some (landed_client g (entry_of s) o c) d (sym (client_at-landed g (entry_of s) o j c t) ∙ i)) (led o e)
 
 module _ (m : ℕ) (R : ℕ → Client → Client → Type 0) (kit : Kit m R) where
   pub to_same : (slots : Slots) → Leads R slots slots
@@ -75,7 +75,7 @@ module _ (m : ℕ) (R : ℕ → Client → Client → Type 0) (kit : Kit m R) wh
   to_then a b c f g j x h = let p = f j x h in let q = g j p.now p.there in record { now = q.now; there = q.there; so = kit.chain j x p.now q.now p.so q.so }
 
   pub to_all : (f : Client → Client) → ((j : ℕ) (c : Client) → R j c (f c)) → (slots : Slots) → Leads R slots (at_all f slots)
-  to_all f k slots j c h = record { now = f c; there = at_every f slots j ∙ ap (option_map f) h; so = k j c }
+  to_all f k slots j c h = record { now = f c; there = client_at-at_all f slots j ∙ ap (option_map f) h; so = k j c }
 
   pub to_one : (f : Client → Client) → ((c : Client) → R m c (f c)) → (slots : Slots) → Leads R slots (at_client m f slots)
   to_one f k slots j c h = by (m == j) refl
@@ -83,8 +83,8 @@ module _ (m : ℕ) (R : ℕ → Client → Client → Type 0) (kit : Kit m R) wh
       by : (b : Bool) → (m == j) ≡ b → Later R (at_client m f slots) j c
       by true e =
           let same = eqb-true m j e in
-          record { now = f c; there = ap (λ i. client_at (at_client i f slots) j) same ∙ (at_same j f slots ∙ ap (option_map f) h); so = subst (λ i. R i c (f c)) same (k c) }
-      by false e = record { now = c; there = at_other m j f slots (eqb-false m j e) ∙ h; so = kit.same j c }
+          record { now = f c; there = ap (λ i. client_at (at_client i f slots) j) same ∙ (client_at-at_client j f slots ∙ ap (option_map f) h); so = subst (λ i. R i c (f c)) same (k c) }
+      by false e = record { now = c; there = client_at-at_other_client m j f slots (eqb-false m j e) ∙ h; so = kit.same j c }
 
   pub to_ran : (g : Gate) (k : Command) → Leads R g.clients (ran g k).clients
   to_ran g k = to_all (λ c. staying (step g.machine k).lines (telling g.entries (told_of g k.act (step g.machine k) c) c)) (λ j c. kit.hear j c g k) g.clients

@@ -11,9 +11,9 @@ use Rattle.iv_gate.specs.Gate.{Gate, all_rested, all_swept, in_session, is_neede
 use Rattle.iv_gateway.specs.Views.{IsAlive, IsGate}
 use Rattle.iv_gateway.specs.declared.gateway.Gateway.{Gateway}
 
-pub alive_next : (g : Gate) (e : Event) (x : Gateway) → g.dead ≡ false → x.dead ≡ false → (happens g e).dead ≡ g.dead → IsAlive (happens g e) x
+pub IsGate-IsAlive : (g : Gate) (e : Event) (x : Gateway) → g.dead ≡ false → x.dead ≡ false → (happens g e).dead ≡ g.dead → IsAlive (happens g e) x
     → IsGate (next g e) x
-alive_next g e x h d s a = subst (λ b. IsGate (cond b g (happens g e)) x) (sym h) (record { dead = d ∙ sym (s ∙ h); alive = λ z. a })
+IsGate-IsAlive g e x h d s a = subst (λ b. IsGate (cond b g (happens g e)) x) (sym h) (record { dead = d ∙ sym (s ∙ h); alive = λ z. a })
 
 pub dead_next : (g : Gate) (e : Event) (x : Gateway) → g.dead ≡ true → x.dead ≡ true → IsGate (next g e) x
 dead_next g e x h d = subst (λ b. IsGate (cond b g (happens g e)) x) (sym h) (record { dead = d ∙ sym h; alive = λ z. absurd (false≢true (sym z ∙ h)) })
@@ -50,8 +50,8 @@ all_rested_dead : (g : Gate) (ss : List Seat) → (all_rested g ss).dead ≡ g.d
 all_rested_dead g [] = refl
 all_rested_dead g (s ∷ ss) = all_rested_dead (rested g s) ss ∙ rested_dead g s
 
-pub went_dead : (g : Gate) (m : ℕ) → (went g m).dead ≡ g.dead
-went_dead g m = by (client_at g.clients m)
+pub dead-went : (g : Gate) (m : ℕ) → (went g m).dead ≡ g.dead
+dead-went g m = by (client_at g.clients m)
   where
     by : (o : Option Client) → (if_some o g (λ c. let h = all_swept (record g { clients = set g.clients m None }) (map (λ s. s.feed) c.subs) in
         settles (all_rested h (filter (is_of_role c.role) h.seats)))).dead ≡ g.dead

@@ -10,13 +10,13 @@ use Rattle.iv_clients.specs.Feeds.{seat_of}
 use Rattle.iv_clients.specs.Kept.{Places, kept_slots}
 use Rattle.iv_clients.specs.Tokens.{Token, token_of}
 use Rattle.iv_gate.specs.Gate.{Gate, begun_for, came, has_session, seated, token_for, with_session}
-use Rattle.iv_gate.proofs.Joining.{same_name}
-use Rattle.iv_gate.proofs.Machine.{find_passes}
+use Rattle.iv_gate.proofs.Joining.{same-bytes_eq}
+use Rattle.iv_gate.proofs.Machine.{true-find}
 use Rattle.iv_gate.proofs.Touching.{came_as}
 use Rattle.iv_gateway.specs.Views.{IsAlive}
 use Rattle.iv_gateway.specs.declared.gateway.Gateway.{Gateway}
-use Rattle.iv_gateway.proofs.Keeping.{is_free_kept}
-use Rattle.iv_gateway.proofs.Swept.{same_some}
+use Rattle.iv_gateway.proofs.Keeping.{is_free-kept_slots}
+use Rattle.iv_gateway.proofs.Swept.{same-Some}
 
 none_presented : (o : Option Token) (free : Bool) (session : Name → Bool) → option_and_then (λ (t : Token). cond (is_name t.role && free) (Some t) None) o ≡ None
     → option_and_then (λ (t : Token). cond (is_name t.role && (free && session t.role)) (Some t) None) o ≡ None
@@ -35,7 +35,7 @@ some_presented None free session t h = cc
 some_presented (Some x) free session t h = by (is_name x.role) free h
   where
     by : (a f : Bool) → cond (a && f) (Some x) None ≡ Some t → cond (a && (f && session x.role)) (Some x) None ≡ cond (session t.role) (Some t) None
-    by true true h = ap (λ (z : Token). cond (session z.role) (Some z) None) (same_some x t h)
+    by true true h = ap (λ (z : Token). cond (session z.role) (Some z) None) (same-Some x t h)
     by true false h = cc
     by false f h = cc
 
@@ -55,29 +55,29 @@ came_by : (g : Gate) (m : ℕ) (token : List ℕ) (o : Option Token) (x : Gatewa
     → (is_some o ≡ is_some (token_for g m token)) × IsAlive (came g m token) x
 came_by g m token o x e a = (ap is_some (sym e), subst (λ z. IsAlive (if_some z g (came_as g m)) x) (sym e) a)
 
-pub comes_none : (g : Gate) (m : ℕ) (token : List ℕ) (x : Gateway) → presented_by g m token ≡ None → IsAlive g x
+pub IsAlive-came_none : (g : Gate) (m : ℕ) (token : List ℕ) (x : Gateway) → presented_by g m token ≡ None → IsAlive g x
     → (false ≡ is_some (token_for g m token)) × IsAlive (came g m token) x
-comes_none g m token x h a = came_by g m token None x (none_presented (token_of g.tokens (sha256 token)) (is_free m g.clients) (has_session g) h) a
+IsAlive-came_none g m token x h a = came_by g m token None x (none_presented (token_of g.tokens (sha256 token)) (is_free m g.clients) (has_session g) h) a
 
-pub comes_not : (g : Gate) (m : ℕ) (token : List ℕ) (t : Token) (x : Gateway) → presented_by g m token ≡ Some t → has_session g t.role ≡ false
+pub IsAlive-came_no_session : (g : Gate) (m : ℕ) (token : List ℕ) (t : Token) (x : Gateway) → presented_by g m token ≡ Some t → has_session g t.role ≡ false
     → IsAlive (with_session g t.role) x
     → (false ≡ is_some (token_for g m token)) × IsAlive (came g m token) x
-comes_not g m token t x h s a =
+IsAlive-came_no_session g m token t x h s a =
     came_by g m token None x (some_presented (token_of g.tokens (sha256 token)) (is_free m g.clients) (has_session g) t h
     ∙ ap (λ b. cond b (Some t) None) s)
     (subst (λ z. IsAlive z x) (no_session g t.role s) a)
 
-pub comes_in : (g : Gate) (m : ℕ) (token : List ℕ) (t : Token) (x : Gateway) → presented_by g m token ≡ Some t → has_session g t.role ≡ true
+pub IsAlive-came_as : (g : Gate) (m : ℕ) (token : List ℕ) (t : Token) (x : Gateway) → presented_by g m token ≡ Some t → has_session g t.role ≡ true
     → IsAlive (came_as g m t) x
     → (true ≡ is_some (token_for g m token)) × IsAlive (came g m token) x
-comes_in g m token t x h s a =
+IsAlive-came_as g m token t x h s a =
     came_by g m token (Some t) x (some_presented (token_of g.tokens (sha256 token)) (is_free m g.clients) (has_session g) t h
     ∙ ap (λ b. cond b (Some t) None) s) a
 
 -- a token that is found has the digest by which it is found
 own_digest : (tokens : List Token) (digest : List ℕ) (t : Token) → token_of tokens digest ≡ Some t → record t { digest = digest } ≡ t
 own_digest tokens digest t h =
-    let same : t.digest ≡ digest = same_name t.digest digest (find_passes (λ (x : Token). bytes_eq x.digest digest) tokens t h) in
+    let same : t.digest ≡ digest = same-bytes_eq t.digest digest (true-find (λ (x : Token). bytes_eq x.digest digest) tokens t h) in
     λ i. record t { digest = sym same i }
 
 as_found : (tokens : List Token) (digest : List ℕ) (free : Bool) → option_map (λ (t : Token). record t { digest = digest })
@@ -94,12 +94,12 @@ as_found tokens digest free = by (token_of tokens digest) refl
     by None e = refl
     by (Some t) e = test t (own_digest tokens digest t e) (is_name t.role && free)
 
-pub presented_is : (g : Gate) (m : ℕ) (token : List ℕ) (tokens : List Token) (places : Places) (digest : List ℕ) (o : Option Token) → tokens ≡ g.tokens
+pub presented_by-token_of : (g : Gate) (m : ℕ) (token : List ℕ) (tokens : List Token) (places : Places) (digest : List ℕ) (o : Option Token) → tokens ≡ g.tokens
     → places ≡ kept_slots g.clients → digest ≡ sha256 token
     → o ≡ option_map (λ (t : Token). record t { digest = digest }) (option_and_then (λ (t : Token). cond (is_name t.role && is_free m places) (Some t) None) (token_of tokens digest))
     → presented_by g m token ≡ o
-presented_is g m token tokens places digest o t b d h =
-    let free : is_free m places ≡ is_free m g.clients = ap (is_free m) b ∙ is_free_kept m g.clients in
+presented_by-token_of g m token tokens places digest o t b d h =
+    let free : is_free m places ≡ is_free m g.clients = ap (is_free m) b ∙ is_free-kept_slots m g.clients in
     sym (h ∙ (as_found tokens digest (is_free m places) ∙ (λ i. option_and_then (λ (x : Token). cond (is_name x.role && free i) (Some x) None) (token_of (t i) (d i)))))
 
 with_session_dead : (g : Gate) (role : Name) → (with_session g role).dead ≡ g.dead
@@ -110,8 +110,8 @@ with_session_dead g role = by (seat_of g.seats role) (begun_for g role)
     by None (Some n) = refl
     by (Some n) p = refl
 
-pub came_dead : (g : Gate) (m : ℕ) (token : List ℕ) → (came g m token).dead ≡ g.dead
-came_dead g m token = by (token_for g m token)
+pub dead-came : (g : Gate) (m : ℕ) (token : List ℕ) → (came g m token).dead ≡ g.dead
+dead-came g m token = by (token_for g m token)
   where
     by : (o : Option Token) → (if_some o g (came_as g m)).dead ≡ g.dead
     by None = refl

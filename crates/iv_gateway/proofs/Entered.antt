@@ -20,11 +20,11 @@ use Rattle.iv_gateway.specs.Shaping.{shape_in}
 use Rattle.iv_gateway.specs.Speaking.{Asking, lines_entered, request_of}
 use Rattle.iv_gateway.specs.Views.{IsAlive, IsPending}
 use Rattle.iv_gateway.specs.declared.gateway.Gateway.{Gateway}
-use Rattle.iv_gateway.proofs.Shaped.{shape_added}
+use Rattle.iv_gateway.proofs.Shaped.{shape_text-added}
 
 -- without the last, as the newline of a line
-pub but_last : (xs : List ℕ) (x n : ℕ) → n ≡ length (xs ++ x ∷ []) → take (n - 1) (xs ++ x ∷ []) ≡ xs
-but_last xs x n h = ap (λ k. take k (xs ++ x ∷ [])) (one_less (length xs) n (h ∙ length-append xs (x ∷ [])))
+pub take-but_last : (xs : List ℕ) (x n : ℕ) → n ≡ length (xs ++ x ∷ []) → take (n - 1) (xs ++ x ∷ []) ≡ xs
+take-but_last xs x n h = ap (λ k. take k (xs ++ x ∷ [])) (one_less (length xs) n (h ∙ length-append xs (x ∷ [])))
     ∙ (take-append-le (length xs) xs (x ∷ []) (omega arith) ∙ take-length xs)
   where
     one_less : (m n : ℕ) → n ≡ m + 1 → n - 1 ≡ m
@@ -36,9 +36,9 @@ abbrev pub placed_in : Names → List ℕ → List ℕ
 placed_in n holder = let o = own_of n.known holder in place_text (record { epoch = o.epoch; count = o.count })
 
 -- as the code has it, and as the gateway does
-pub place_known : (g : Gate) (x : Gateway) (h holder : List ℕ) → names_in_code x.names ≡ names_of g → h ≡ holder
+pub placed_in-place_text : (g : Gate) (x : Gateway) (h holder : List ℕ) → names_in_code x.names ≡ names_of g → h ≡ holder
     → placed_in (names_in_code x.names) h ≡ place_text (place_of g holder)
-place_known g x h holder n s = λ i. placed_in (n i) (s i)
+placed_in-place_text g x h holder n s = λ i. placed_in (n i) (s i)
 
 -- ---- refusals are counted in any order
 
@@ -98,8 +98,9 @@ abbrev pub names_by : Gate → List Named → List Named → Names
 names_by g all spent = record { limits = limits; known = known_by (known_at g.head) all; spent = spent_in spent }
 
 -- a name more
-pub one_pushed : (g : Gate) (all spent : List Named) (n : Named) → names_by g (all ++ n ∷ []) (spent ++ n ∷ []) ≡ pushed (names_by g all spent) (once.named n)
-one_pushed g all spent n = λ i. record { limits = limits; known = known_last (known_at g.head) all n i; spent = spent_last spent n i }
+pub names_by-push : (g : Gate) (all spent : List Named) (n : Named)
+    → names_by g (all ++ n ∷ []) (spent ++ n ∷ []) ≡ pushed (names_by g all spent) (once.named n)
+names_by-push g all spent n = λ i. record { limits = limits; known = known_last (known_at g.head) all n i; spent = spent_last spent n i }
 
 names_more : (g : Gate) (qs : List Request) (ns : List Named) → g.forgiven ≤ length g.entries
     → names_of (entered g (entry_with qs ns ∷ [])) ≡ names_by g (names_in g.entries ++ ns) (names_in (drop g.forgiven g.entries) ++ ns)
@@ -111,7 +112,7 @@ names_more g qs ns f =
 
 -- an entry with a name
 pub names_pushed : (g : Gate) (qs : List Request) (n : Named) → g.forgiven ≤ length g.entries → names_of (entered g (entry_with qs (n ∷ []) ∷ [])) ≡ pushed (names_of g) (once.named n)
-names_pushed g qs n f = names_more g qs (n ∷ []) f ∙ one_pushed g (names_in g.entries) (names_in (drop g.forgiven g.entries)) n
+names_pushed g qs n f = names_more g qs (n ∷ []) f ∙ names_by-push g (names_in g.entries) (names_in (drop g.forgiven g.entries)) n
 
 -- and one without
 pub names_stay : (g : Gate) (qs : List Request) → g.forgiven ≤ length g.entries → names_of (entered g (entry_with qs [] ∷ [])) ≡ names_of g
@@ -119,13 +120,13 @@ names_stay g qs f = names_more g qs [] f ∙ (λ i. names_by g (append-nil (name
 
 -- ---- positions
 
-pub position_push : (p : ℕ) (es : List Entry) (e : Entry) → position_of p (es ++ e ∷ []) ≡ unwrap_or e.position (position_of p es)
-position_push p [] e = refl
-position_push p (x ∷ xs) e = position_push (unwrap_or x.position p) xs e
+pub position_of-push : (p : ℕ) (es : List Entry) (e : Entry) → position_of p (es ++ e ∷ []) ≡ unwrap_or e.position (position_of p es)
+position_of-push p [] e = refl
+position_of-push p (x ∷ xs) e = position_of-push (unwrap_or x.position p) xs e
 
 -- a client's request is no step
 position_stays : (g : Gate) (qs : List Request) (ns : List Named) → position (entered g (entry_with qs ns ∷ [])) ≡ position g
-position_stays g qs ns = position_push g.head.position g.entries (entry_with qs ns)
+position_stays g qs ns = position_of-push g.head.position g.entries (entry_with qs ns)
 
 pub settled_stays : (g : Gate) (es : List Entry) → g.kept ≤ length g.entries → settled_at (entered g es) ≡ settled_at g
 settled_stays g es h = ap (position_of g.head.position) (take-append-le g.kept g.entries es h)
@@ -209,17 +210,17 @@ kept_by false g a act (Some ask) r x names lines shape b n l s =
     one_kept g [] (e ∷ []) x names lines shape b (n ∙ (ap (λ z. pushed z (once.named e)) b.names ∙ sym (names_pushed g [] e b.forgiven))) l s
 
 -- behind its entry
-pub entry_kept : (g : Gate) (a : Asking) (act : Act) (by : Option Ask) (r : Reply) (accepted : Bool) (name : Option Named) (x : Gateway) (names : Names) (lines : List Line) (old text shape : List ℕ)
+pub AreKept-entered : (g : Gate) (a : Asking) (act : Act) (by : Option Ask) (r : Reply) (accepted : Bool) (name : Option Named) (x : Gateway) (names : Names) (lines : List Line) (old text shape : List ℕ)
     → IsAlive g x → is_shared act ≡ true → accepted ≡ is_accepted r → name ≡ named_by by r
     → names ≡ names_with (names_in_code x.names) name → lines ≡ x.pending.items ++ lines_entered a accepted name
     → old ≡ shape_text g.entries → text ≡ shape_text (entries_of (request_of a act) by r) → shape ≡ old ++ text
     → AreKept (entered g (entries_of (request_of a act) by r)) names x.position x.settled lines shape
-entry_kept g a act by r accepted name x names lines old text shape b h t e n l o m s =
+AreKept-entered g a act by r accepted name x names lines old text shape b h t e n l o m s =
     let are = entries_are accepted (request_of a act) by r h t in
     subst (λ es. AreKept (entered g es) names x.position x.settled lines shape) are
     (kept_by accepted g a act by r x names lines shape b (n ∙ ap (names_with (names_in_code x.names)) e)
     (l ∙ ap (λ z. x.pending.items ++ lines_entered a accepted z) e)
-    (shape_added g.entries (entries_of (request_of a act) by r) old shape text o m s ∙ ap (λ es. shape_text (g.entries ++ es)) (sym are)))
+    (shape_text-added g.entries (entries_of (request_of a act) by r) old shape text o m s ∙ ap (λ es. shape_text (g.entries ++ es)) (sym are)))
 
 -- what the entry makes of the shape
 made_by : (accepted : Bool) (q : Request) (by : Option Ask) (r : Reply) → shape_text (entries_by accepted q by r) ≡ cond accepted (shape_in q) []
@@ -227,6 +228,6 @@ made_by true q by r = refl
 made_by false q None r = refl
 made_by false q (Some a) r = refl
 
-pub made_is : (q : Request) (by : Option Ask) (r : Reply) (accepted : Bool) → is_shared q.act ≡ true → accepted ≡ is_accepted r
+pub shape_text-entries_of : (q : Request) (by : Option Ask) (r : Reply) (accepted : Bool) → is_shared q.act ≡ true → accepted ≡ is_accepted r
     → cond accepted (shape_in q) [] ≡ shape_text (entries_of q by r)
-made_is q by r accepted h a = sym (made_by accepted q by r) ∙ ap shape_text (entries_are accepted q by r h a)
+shape_text-entries_of q by r accepted h a = sym (made_by accepted q by r) ∙ ap shape_text (entries_are accepted q by r h a)

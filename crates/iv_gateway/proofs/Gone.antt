@@ -9,8 +9,8 @@ use Rattle.iv_clients.specs.Kept.{Kept, Places, kept, kept_slots}
 use Rattle.iv_gate.specs.Gate.{Gate, all_rested, all_swept, settles, went}
 use Rattle.iv_gateway.specs.Views.{IsAlive}
 use Rattle.iv_gateway.specs.declared.gateway.Gateway.{Gateway}
-use Rattle.iv_gateway.proofs.Keeping.{kept_at}
-use Rattle.iv_gateway.proofs.Swept.{same_some}
+use Rattle.iv_gateway.proofs.Keeping.{client_at-kept_slots}
+use Rattle.iv_gateway.proofs.Swept.{same-Some}
 
 -- the gateway that a client of the role leaves, which followed these feeds
 abbrev pub left_by : Gate → ℕ → Name → List ℕ → Gate
@@ -33,16 +33,16 @@ went_some : (g : Gate) (m : ℕ) (role : Name) (feeds : List ℕ) (o : Option Cl
     → IsAlive (left_by g m role feeds) x → IsAlive (went g m) x
 went_some g m role feeds None x e h b = cc
 went_some g m role feeds (Some c) x e h b =
-    let q = same_some (leaving (kept c)) (role, feeds) h in
+    let q = same-Some (leaving (kept c)) (role, feeds) h in
     went_by g m (Some c) x e (subst (λ (z : Name × List ℕ). IsAlive (left_by g m z.0 z.1) x) (sym q) b)
 
-pub goes_none : (g : Gate) (m : ℕ) (places : Places) (x : Gateway) → places ≡ kept_slots g.clients
+pub IsAlive-went_none : (g : Gate) (m : ℕ) (places : Places) (x : Gateway) → places ≡ kept_slots g.clients
     → option_map {U = Name × List ℕ} leaving (client_at places m) ≡ None → IsAlive g x → IsAlive (went g m) x
-goes_none g m places x b e a = went_none g m (client_at g.clients m) x refl
-    (ap (option_map {U = Name × List ℕ} leaving) (sym (ap (λ z. client_at z m) b ∙ kept_at g.clients m)) ∙ e) a
+IsAlive-went_none g m places x b e a = went_none g m (client_at g.clients m) x refl
+    (ap (option_map {U = Name × List ℕ} leaving) (sym (ap (λ z. client_at z m) b ∙ client_at-kept_slots g.clients m)) ∙ e) a
 
-pub goes_some : (g : Gate) (m : ℕ) (role : Name) (feeds : List ℕ) (places : Places) (x : Gateway) → places ≡ kept_slots g.clients
+pub IsAlive-went_some : (g : Gate) (m : ℕ) (role : Name) (feeds : List ℕ) (places : Places) (x : Gateway) → places ≡ kept_slots g.clients
     → option_map {U = Name × List ℕ} leaving (client_at places m) ≡ Some (role, feeds)
     → IsAlive (left_by g m role feeds) x → IsAlive (went g m) x
-goes_some g m role feeds places x b e a = went_some g m role feeds (client_at g.clients m) x refl
-    (ap (option_map {U = Name × List ℕ} leaving) (sym (ap (λ z. client_at z m) b ∙ kept_at g.clients m)) ∙ e) a
+IsAlive-went_some g m role feeds places x b e a = went_some g m role feeds (client_at g.clients m) x refl
+    (ap (option_map {U = Name × List ℕ} leaving) (sym (ap (λ z. client_at z m) b ∙ client_at-kept_slots g.clients m)) ∙ e) a

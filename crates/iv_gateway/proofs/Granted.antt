@@ -19,23 +19,23 @@ use Rattle.iv_gate.specs.Gate.{granted_by, is_accepted, reply_in}
 use Rattle.iv_gateway.specs.Granting.{IsGranting, granted_in, hearing_granted, holding_for, text_granted}
 use Rattle.iv_hall.specs.Hearing.{hearing_lines}
 use Rattle.iv_gateway.specs.declared.granting.Grants.{Grants}
-use Rattle.iv_hall.proofs.Heard.{all_append}
-use Rattle.iv_gateway.proofs.Keeping.{keeps_all, kept_telling, nonempty}
+use Rattle.iv_hall.proofs.Heard.{holding_all-append}
+use Rattle.iv_gateway.proofs.Keeping.{at_all-kept_slots, kept-telling, length-told_text}
 
 -- ---- all places
 
 -- the same is done to each
-pub same_all : {C : Type 0} (f h : C → C) → ((c : C) → f c ≡ h c) → (os : List (Option C)) → at_all f os ≡ at_all h os
-same_all f h e os i = at_all (λ c. e c i) os
+pub at_all-same : {C : Type 0} (f h : C → C) → ((c : C) → f c ≡ h c) → (os : List (Option C)) → at_all f os ≡ at_all h os
+at_all-same f h e os i = at_all (λ c. e c i) os
 
 still_slot : {C : Type 0} (o : Option C) → o ≡ option_map (λ c. c) o
 still_slot None = refl
 still_slot (Some c) = refl
 
 -- nothing is done to any
-pub still_all : {C : Type 0} (os : List (Option C)) → os ≡ at_all (λ c. c) os
-still_all [] = refl
-still_all (o ∷ os) = λ i. still_slot o i ∷ still_all os i
+pub at_all-identity : {C : Type 0} (os : List (Option C)) → os ≡ at_all (λ c. c) os
+at_all-identity [] = refl
+at_all-identity (o ∷ os) = λ i. still_slot o i ∷ at_all-identity os i
 
 both_slot : {C : Type 0} (f h : C → C) (o : Option C) → option_map f (option_map h o) ≡ option_map (λ c. f (h c)) o
 both_slot f h None = refl
@@ -58,30 +58,31 @@ one_first f zero (o ∷ os) = refl
 one_first f (suc n) [] = refl
 one_first f (suc n) (o ∷ os) = ap (λ z. option_map f o ∷ z) (one_first f n os)
 
-pub first_more : {C : Type 0} (f : C → C) (n : ℕ) (os before now : List (Option C)) → before ≡ first_all f n os → now ≡ at_client n f before
+pub first_all-next : {C : Type 0} (f : C → C) (n : ℕ) (os before now : List (Option C)) → before ≡ first_all f n os → now ≡ at_client n f before
     → now ≡ first_all f (n + 1) os
-first_more f n os before now e g = g ∙ (ap (at_client n f) e ∙ (one_first f n os ∙ ap (λ k. first_all f k os) (sym (add-one n))))
+first_all-next f n os before now e g = g ∙ (ap (at_client n f) e ∙ (one_first f n os ∙ ap (λ k. first_all f k os) (sym (add-one n))))
 
-pub first_whole : {C : Type 0} (f : C → C) (n : ℕ) (os : List (Option C)) → length os ≤ n → first_all f n os ≡ at_all f os
-first_whole f zero [] h = refl
-first_whole f zero (o ∷ os) h = absurd (let none : ⊥ = omega (arith, h) in none)
-first_whole f (suc n) [] h = refl
-first_whole f (suc n) (o ∷ os) h = ap (λ z. option_map f o ∷ z) (first_whole f n os (omega (arith, h)))
+pub first_all-whole : {C : Type 0} (f : C → C) (n : ℕ) (os : List (Option C)) → length os ≤ n → first_all f n os ≡ at_all f os
+first_all-whole f zero [] h = refl
+first_all-whole f zero (o ∷ os) h = absurd (let none : ⊥ = omega (arith, h) in none)
+first_all-whole f (suc n) [] h = refl
+first_all-whole f (suc n) (o ∷ os) h = ap (λ z. option_map f o ∷ z) (first_all-whole f n os (omega (arith, h)))
 
 -- a client of such a role is told, and no other
-pub held_for : (p : Name → Bool) (text : List ℕ) (n : ℕ) (places : Places) → if_some (client_at places n) false (λ (k : Kept). p k.role) ≡ true
+pub at_client-holding_for : (p : Name → Bool) (text : List ℕ) (n : ℕ) (places : Places) → if_some (client_at places n) false (λ (k : Kept). p k.role) ≡ true
     → at_client n (holding text) places ≡ at_client n (holding_for p text) places
-held_for p text n [] h = refl
-held_for p text zero (None ∷ os) h = refl
-held_for p text zero (Some k ∷ os) h = ap (λ b. Some (cond b (holding text k) k) ∷ os) (sym h)
-held_for p text (suc n) (o ∷ os) h = ap (λ z. o ∷ z) (held_for p text n os h)
+at_client-holding_for p text n [] h = refl
+at_client-holding_for p text zero (None ∷ os) h = refl
+at_client-holding_for p text zero (Some k ∷ os) h = ap (λ b. Some (cond b (holding text k) k) ∷ os) (sym h)
+at_client-holding_for p text (suc n) (o ∷ os) h = ap (λ z. o ∷ z) (at_client-holding_for p text n os h)
 
-pub not_held_for : (p : Name → Bool) (text : List ℕ) (n : ℕ) (places : Places) → if_some (client_at places n) false (λ (k : Kept). p k.role) ≡ false
+pub at_client-not_holding_for : (p : Name → Bool) (text : List ℕ) (n : ℕ) (places : Places)
+    → if_some (client_at places n) false (λ (k : Kept). p k.role) ≡ false
     → places ≡ at_client n (holding_for p text) places
-not_held_for p text n [] h = refl
-not_held_for p text zero (None ∷ os) h = refl
-not_held_for p text zero (Some k ∷ os) h = ap (λ b. Some (cond b (holding text k) k) ∷ os) (sym h)
-not_held_for p text (suc n) (o ∷ os) h = ap (λ z. o ∷ z) (not_held_for p text n os h)
+at_client-not_holding_for p text n [] h = refl
+at_client-not_holding_for p text zero (None ∷ os) h = refl
+at_client-not_holding_for p text zero (Some k ∷ os) h = ap (λ b. Some (cond b (holding text k) k) ∷ os) (sym h)
+at_client-not_holding_for p text (suc n) (o ∷ os) h = ap (λ z. o ∷ z) (at_client-not_holding_for p text n os h)
 
 -- ---- the text of what is granted
 
@@ -92,11 +93,11 @@ held_twice x y k i = record (holding (x ++ y) k) { unsynced = append_assoc k.uns
     count : k.brought + length x + length y ≡ k.brought + length (x ++ y)
     count = add_assoc k.brought (length x) (length y) ∙ ap (λ n. k.brought + n) (sym (length-append x y))
 
-pub held_all : (ts : List Told) (x : List ℕ) (k : Kept) → holding_all ts (holding x k) ≡ holding (x ++ flat_map told_text ts) k
-held_all [] x k = ap (λ z. holding z k) (sym (append-nil x))
-held_all (t ∷ ts) x k =
+pub holding_all-holding : (ts : List Told) (x : List ℕ) (k : Kept) → holding_all ts (holding x k) ≡ holding (x ++ flat_map told_text ts) k
+holding_all-holding [] x k = ap (λ z. holding z k) (sym (append-nil x))
+holding_all-holding (t ∷ ts) x k =
     ap (holding_all ts) (held_twice x (told_text t) k)
-    ∙ (held_all ts (x ++ told_text t) k ∙ ap (λ z. holding z k) (append_assoc x (told_text t) (flat_map told_text ts)))
+    ∙ (holding_all-holding ts (x ++ told_text t) k ∙ ap (λ z. holding z k) (append_assoc x (told_text t) (flat_map told_text ts)))
 
 -- whom something is granted
 abbrev pub told_names : (Name → Bool) → List Name → Kept → Kept
@@ -107,19 +108,20 @@ none_told true k = refl
 none_told false k = refl
 
 some_told : (n : Name) (ns : List Name) (b : Bool) (k : Kept) → cond b (holding (text_granted (n ∷ ns)) k) k ≡ holding_all (map granted (cond b (n ∷ ns) [])) k
-some_told n ns true k = sym (held_all (map granted ns) (told_text (granted n)) k)
+some_told n ns true k = sym (holding_all-holding (map granted ns) (told_text (granted n)) k)
 some_told n ns false k = refl
 
 -- where the text is empty nothing is granted
-pub tells_none : ((t : Told) → IsLine (told_text t)) → (p : Name → Bool) (names : List Name) (places : Places) → (length (text_granted names) == 0) ≡ true
+pub at_all-told_names_none : ((t : Told) → IsLine (told_text t)) → (p : Name → Bool) (names : List Name) (places : Places)
+    → (length (text_granted names) == 0) ≡ true
     → places ≡ at_all (told_names p names) places
-tells_none law p [] places h = still_all places ∙ same_all (λ k. k) (told_names p []) (λ k. none_told (p k.role) k) places
-tells_none law p (n ∷ ns) places h = absurd (false≢true (sym (nonempty (granted n) (text_granted ns) (law (granted n))) ∙ h))
+at_all-told_names_none law p [] places h = at_all-identity places ∙ at_all-same (λ k. k) (told_names p []) (λ k. none_told (p k.role) k) places
+at_all-told_names_none law p (n ∷ ns) places h = absurd (false≢true (sym (length-told_text (granted n) (text_granted ns) (law (granted n))) ∙ h))
 
-pub tells_some : (p : Name → Bool) (names : List Name) (places : Places) → (length (text_granted names) == 0) ≡ false
+pub at_all-told_names : (p : Name → Bool) (names : List Name) (places : Places) → (length (text_granted names) == 0) ≡ false
     → at_all (holding_for p (text_granted names)) places ≡ at_all (told_names p names) places
-tells_some p [] places h = absurd (false≢true (sym h))
-tells_some p (n ∷ ns) places h = same_all (holding_for p (text_granted (n ∷ ns))) (told_names p (n ∷ ns)) (λ k. some_told n ns (p k.role) k) places
+at_all-told_names p [] places h = absurd (false≢true (sym h))
+at_all-told_names p (n ∷ ns) places h = at_all-same (holding_for p (text_granted (n ∷ ns))) (told_names p (n ∷ ns)) (λ k. some_told n ns (p k.role) k) places
 
 more_text : (ns : List Name) (n : Name) → text_granted (ns ++ n ∷ []) ≡ text_granted ns ++ told_text (granted n)
 more_text ns n =
@@ -127,10 +129,10 @@ more_text ns n =
     ∙ (flat_map-append told_text (map granted ns) (granted n ∷ []) ∙ ap (λ z. text_granted ns ++ z) (append-nil (told_text (granted n))))
 
 -- one name more of a list
-pub name_next : {A : Type 0} (read : A → Name) (xs : List A) (i : ℕ) (d : A) (start before now : List ℕ) → i < length xs
+pub text_granted-take_next : {A : Type 0} (read : A → Name) (xs : List A) (i : ℕ) (d : A) (start before now : List ℕ) → i < length xs
     → before ≡ start ++ text_granted (map read (take i xs))
     → now ≡ before ++ told_text (granted (read (get_or xs i d))) → now ≡ start ++ text_granted (map read (take (i + 1) xs))
-name_next read xs i d start before now lt e g =
+text_granted-take_next read xs i d start before now lt e g =
     g ∙ (ap (λ z. z ++ told_text (granted (read (get_or xs i d)))) e
     ∙ (append_assoc start (text_granted (map read (take i xs))) (told_text (granted (read (get_or xs i d)))) ∙ ap (λ z. start ++ z) (sym more)))
   where
@@ -144,15 +146,15 @@ role_held [] k = refl
 role_held (t ∷ ts) k = role_held ts (holding (told_text t) k)
 
 -- the lines of a command are told, and then to each role what is its own
-pub stands_granted : (es : List Entry) (feeds : List Feed) (ls : List Line) (more : Name → List Told) (slots : Slots) (places : Places)
+pub kept_slots-granted : (es : List Entry) (feeds : List Feed) (ls : List Line) (more : Name → List Told) (slots : Slots) (places : Places)
     → places ≡ kept_slots slots
     → at_all (keeping_on ls) (at_all (λ k. holding_all (more k.role) k) (at_all (hearing_lines feeds ls) places))
     ≡ kept_slots (at_all (λ c. staying ls (telling es (own_lines feeds ls c.subs ++ more c.role) c)) slots)
-stands_granted es feeds ls more slots places b =
+kept_slots-granted es feeds ls more slots places b =
     ap (λ z. at_all (keeping_on ls) (at_all (λ k. holding_all (more k.role) k) (at_all (hearing_lines feeds ls) z))) b
     ∙ (ap (at_all (keeping_on ls)) (both_all (λ k. holding_all (more k.role) k) (hearing_lines feeds ls) (kept_slots slots)
-    ∙ keeps_all tells_all hears_all one slots)
-    ∙ (keeps_all (staying ls) (keeping_on ls) (λ c. refl) (at_all tells_all slots) ∙ ap kept_slots (both_all (staying ls) tells_all slots)))
+    ∙ at_all-kept_slots tells_all hears_all one slots)
+    ∙ (at_all-kept_slots (staying ls) (keeping_on ls) (λ c. refl) (at_all tells_all slots) ∙ ap kept_slots (both_all (staying ls) tells_all slots)))
   where
     tells_all : Client → Client
     tells_all c = telling es (own_lines feeds ls c.subs ++ more c.role) c
@@ -162,18 +164,19 @@ stands_granted es feeds ls more slots places b =
 
     one : (c : Client) → kept (tells_all c) ≡ hears_all (kept c)
     one c = let own = own_lines feeds ls c.subs in
-        kept_telling es (own_lines feeds ls c.subs ++ more c.role) c
-        ∙ (all_append own (more c.role) (kept c) ∙ ap (λ r. holding_all (more r) (hearing_lines feeds ls (kept c))) (sym (role_held own (kept c))))
+        kept-telling es (own_lines feeds ls c.subs ++ more c.role) c
+        ∙ (holding_all-append own (more c.role) (kept c) ∙ ap (λ r. holding_all (more r) (hearing_lines feeds ls (kept c))) (sym (role_held own (kept c))))
 
 -- by a refused command nothing is granted
-pub grants_none : (b : Bool) (f : Frame) (gs : Grants) (places : Places) → b ≡ false → places ≡ at_all (hearing_granted b f gs) places
-grants_none b f gs places h = still_all places ∙ ap (λ z. at_all (hearing_granted z f gs) places) (sym h)
+pub at_all-hearing_granted_none : (b : Bool) (f : Frame) (gs : Grants) (places : Places) → b ≡ false → places ≡ at_all (hearing_granted b f gs) places
+at_all-hearing_granted_none b f gs places h = at_all-identity places ∙ ap (λ z. at_all (hearing_granted z f gs) places) (sym h)
 
 -- what is granted in a frame is granted by the act
-pub granted_same : (ls ms : List Line) (e f : Frame) (act : Act) (gs : Grants) (places : Places) → ls ≡ ms → f ≡ e → IsGranting act gs
+pub at_all-hearing_granted : (ls ms : List Line) (e f : Frame) (act : Act) (gs : Grants) (places : Places) → ls ≡ ms → f ≡ e → IsGranting act gs
     → at_all (hearing_granted (is_accepted (reply_in ls)) e gs) places ≡ at_all
     (λ k. holding_all (cond (is_accepted (reply_in ms)) (map granted (granted_by f act k.role)) []) k) places
-granted_same ls ms e f act gs places p q h = λ i. at_all (λ k. holding_all (cond (is_accepted (reply_in (p i))) (map granted (step k.role i)) []) k) places
+at_all-hearing_granted ls ms e f act gs places p q h =
+    λ i. at_all (λ k. holding_all (cond (is_accepted (reply_in (p i))) (map granted (step k.role i)) []) k) places
   where
     step : (role : Name) → granted_in e gs role ≡ granted_by f act role
     step role = ap (λ z. granted_in z gs role) (sym q) ∙ sym (h f role)

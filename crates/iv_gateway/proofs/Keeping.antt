@@ -43,28 +43,28 @@ brought_one : (es : List Entry) (t : Told) (ss : List Shown)
 brought_one es t ss = others_count ss (record { told = t; entries = es; answers = false } ∷ [])
     ∙ ap (λ z. length (text_shown (by_others ss)) + length z) (append-nil (told_text t))
 
-pub kept_one : (es : List Entry) (t : Told) (c : Client) → kept (told_one es t c) ≡ holding (told_text t) (kept c)
-kept_one es t c i = record (holding (told_text t) (kept c)) {
+pub kept-told_one : (es : List Entry) (t : Told) (c : Client) → kept (told_one es t c) ≡ holding (told_text t) (kept c)
+kept-told_one es t c i = record (holding (told_text t) (kept c)) {
   unsynced = one_text c.unsynced (record { told = t; entries = es; answers = false }) i;
   brought =
       brought_one es t c.unsynced i;
 }
 
 -- one thing after another
-pub kept_telling : (es : List Entry) (ts : List Told) (c : Client) → kept (telling es ts c) ≡ holding_all ts (kept c)
-kept_telling es [] c = refl
-kept_telling es (t ∷ ts) c = kept_telling es ts (told_one es t c) ∙ ap (holding_all ts) (kept_one es t c)
+pub kept-telling : (es : List Entry) (ts : List Told) (c : Client) → kept (telling es ts c) ≡ holding_all ts (kept c)
+kept-telling es [] c = refl
+kept-telling es (t ∷ ts) c = kept-telling es ts (told_one es t c) ∙ ap (holding_all ts) (kept-told_one es t c)
 
 owed_by : (b : Bool) (es : List Entry) (c : Client) → kept (cond b (record (told_one es settled c) { owed = false }) c) ≡ cond b
     (record (holding (told_text settled) (kept c)) { owed = false }) (kept c)
-owed_by true es c = ap (λ (k : Kept). record k { owed = false }) (kept_one es settled c)
+owed_by true es c = ap (λ (k : Kept). record k { owed = false }) (kept-told_one es settled c)
 owed_by false es c = refl
 
-pub kept_settling : (es : List Entry) (c : Client) → kept (settling es c) ≡ holding_owed (told_text settled) (kept c)
-kept_settling es c = owed_by c.owed es c
+pub kept-settling : (es : List Entry) (c : Client) → kept (settling es c) ≡ holding_owed (told_text settled) (kept c)
+kept-settling es c = owed_by c.owed es c
 
-pub kept_beating : (es : List Entry) (c : Client) → kept (beating es c) ≡ holding_beat (told_text alive) (kept c)
-kept_beating es c = ap (λ (k : Kept). record k { owed = c.owed }) (kept_one es alive c)
+pub kept-beating : (es : List Entry) (c : Client) → kept (beating es c) ≡ holding_beat (told_text alive) (kept c)
+kept-beating es c = ap (λ (k : Kept). record k { owed = c.owed }) (kept-told_one es alive c)
 
 slow_by : (b : Bool) (c : Client) → kept (cond b (dropping c) (record c { unsynced = []; sendable = c.sendable ++ c.unsynced }))
     ≡ cond b (letting_go (kept c)) (record (kept c) {
@@ -83,23 +83,23 @@ slow_by false c = λ i. record (kept c) {
   piled = others_count c.sendable c.unsynced i;
 }
 
-pub kept_released : (c : Client) → kept (released c) ≡ releasing (kept c)
-kept_released c = slow_by (c.dropped || is_slow c) c
+pub kept-released : (c : Client) → kept (released c) ≡ releasing (kept c)
+kept-released c = slow_by (c.dropped || is_slow c) c
 
 checked_by : (b : Bool) (c : Client) → kept (cond b c (dropping c)) ≡ cond b (kept c) (letting_go (kept c))
 checked_by true c = refl
 checked_by false c = refl
 
-pub kept_checked : (tokens : List Token) (c : Client) → kept (checked tokens c) ≡ checking tokens (kept c)
-kept_checked tokens c = checked_by (opens tokens c) c
+pub kept-checked : (tokens : List Token) (c : Client) → kept (checked tokens c) ≡ checking tokens (kept c)
+kept-checked tokens c = checked_by (opens tokens c) c
 
 drop_front : (xs ys : List Shown) → drop (length xs) (xs ++ ys) ≡ ys
 drop_front [] ys = refl
 drop_front (x ∷ xs) ys = drop_front xs ys
 
 -- what it was told since it was b comes of its own message: of what it was told before nothing is missing
-pub kept_answered : (b c : Client) (more : List Shown) → c.unsynced ≡ b.unsynced ++ more → kept (answered b c) ≡ answering (kept b).brought (kept c)
-kept_answered b c more e i = record (kept c) { unsynced = text i; brought = count i }
+pub kept-answered : (b c : Client) (more : List Shown) → c.unsynced ≡ b.unsynced ++ more → kept (answered b c) ≡ answering (kept b).brought (kept c)
+kept-answered b c more e i = record (kept c) { unsynced = text i; brought = count i }
   where
     mark : Shown → Shown
     mark s = record s { answers = true }
@@ -131,8 +131,8 @@ suc_not : (n : ℕ) → (suc n == 0) ≡ false
 suc_not n = ne_eqb (suc n) 0 (λ e. let no : ⊥ = omega (arith, e) in no)
 
 -- a text is not empty, so what is handed is nothing in both
-pub nonempty : (t : Told) (rest : List ℕ) → IsLine (told_text t) → (length (told_text t ++ rest) == 0) ≡ false
-nonempty t rest l = ap (λ z. length (z ++ rest) == 0) l.1 ∙ by l.0
+pub length-told_text : (t : Told) (rest : List ℕ) → IsLine (told_text t) → (length (told_text t ++ rest) == 0) ≡ false
+length-told_text t rest l = ap (λ z. length (z ++ rest) == 0) l.1 ∙ by l.0
   where
     by : (front : List ℕ) → (length ((front ++ 10 ∷ []) ++ rest) == 0) ≡ false
     by [] = suc_not (length rest)
@@ -147,10 +147,10 @@ handing_by law c (s ∷ ss) =
     ap (λ b. kept (cond b (record c { sendable = s ∷ ss }) (record c { sendable = []; asked = 0; handed = c.handed ++ (s ∷ ss) ∷ [] }))) (suc_not (length ss))
     ∙ ap (λ b. cond b (record (kept c) { sendable = text_shown (s ∷ ss); piled = length (text_shown (by_others (s ∷ ss))) })
     (record (kept c) { sendable = []; asked = 0; piled = 0 }))
-    (sym (nonempty s.told (text_shown ss) (law s.told)))
+    (sym (length-told_text s.told (text_shown ss) (law s.told)))
 
-pub kept_handing : ((t : Told) → IsLine (told_text t)) → (c : Client) → kept (handing c) ≡ emptied (kept c)
-kept_handing law c = handing_by law c c.sendable
+pub kept-handing : ((t : Told) → IsLine (told_text t)) → (c : Client) → kept (handing c) ≡ emptied (kept c)
+kept-handing law c = handing_by law c c.sendable
 
 sent_kept : (o : Option Client) → if_some (option_map kept o) [] (λ (k : Kept). k.sendable) ≡ if_some o [] (λ (c : Client). text_shown c.sendable)
 sent_kept None = refl
@@ -163,62 +163,63 @@ kept_map : (f : Client → Client) (h : Kept → Kept) → ((c : Client) → kep
 kept_map f h k None = refl
 kept_map f h k (Some c) = ap Some (sym (k c))
 
-pub keeps_at : (m : ℕ) (f : Client → Client) (h : Kept → Kept) → ((c : Client) → kept (f c) ≡ h (kept c)) → (slots : Slots)
+pub at_client-kept_slots : (m : ℕ) (f : Client → Client) (h : Kept → Kept) → ((c : Client) → kept (f c) ≡ h (kept c)) → (slots : Slots)
     → at_client m h (kept_slots slots) ≡ kept_slots (at_client m f slots)
-keeps_at m f h k [] = refl
-keeps_at zero f h k (s ∷ ss) = ap (λ z. z ∷ kept_slots ss) (kept_map f h k s)
-keeps_at (suc m) f h k (s ∷ ss) = ap (λ z. option_map kept s ∷ z) (keeps_at m f h k ss)
+at_client-kept_slots m f h k [] = refl
+at_client-kept_slots zero f h k (s ∷ ss) = ap (λ z. z ∷ kept_slots ss) (kept_map f h k s)
+at_client-kept_slots (suc m) f h k (s ∷ ss) = ap (λ z. option_map kept s ∷ z) (at_client-kept_slots m f h k ss)
 
-pub keeps_all : (f : Client → Client) (h : Kept → Kept) → ((c : Client) → kept (f c) ≡ h (kept c)) → (slots : Slots)
+pub at_all-kept_slots : (f : Client → Client) (h : Kept → Kept) → ((c : Client) → kept (f c) ≡ h (kept c)) → (slots : Slots)
     → at_all h (kept_slots slots) ≡ kept_slots (at_all f slots)
-keeps_all f h k [] = refl
-keeps_all f h k (s ∷ ss) = (λ i. kept_map f h k s i ∷ keeps_all f h k ss i)
+at_all-kept_slots f h k [] = refl
+at_all-kept_slots f h k (s ∷ ss) = (λ i. kept_map f h k s i ∷ at_all-kept_slots f h k ss i)
 
-pub keeps_set : (m : ℕ) (x : Option Client) (slots : Slots) → set (kept_slots slots) m (option_map kept x) ≡ kept_slots (set slots m x)
-keeps_set m x [] = refl
-keeps_set zero x (s ∷ ss) = refl
-keeps_set (suc m) x (s ∷ ss) = ap (λ z. option_map kept s ∷ z) (keeps_set m x ss)
+pub set-kept_slots : (m : ℕ) (x : Option Client) (slots : Slots) → set (kept_slots slots) m (option_map kept x) ≡ kept_slots (set slots m x)
+set-kept_slots m x [] = refl
+set-kept_slots zero x (s ∷ ss) = refl
+set-kept_slots (suc m) x (s ∷ ss) = ap (λ z. option_map kept s ∷ z) (set-kept_slots m x ss)
 
-pub told_kept : (o : Option Client) → if_some (option_map kept o) false is_told ≡ if_some o false (λ c. is_told (kept c))
-told_kept None = refl
-told_kept (Some c) = refl
+pub if_some-is_told : (o : Option Client) → if_some (option_map kept o) false is_told ≡ if_some o false (λ c. is_told (kept c))
+if_some-is_told None = refl
+if_some-is_told (Some c) = refl
 
-pub kept_at : (slots : Slots) (m : ℕ) → client_at (kept_slots slots) m ≡ option_map kept (client_at slots m)
-kept_at [] m = refl
-kept_at (s ∷ ss) zero = refl
-kept_at (s ∷ ss) (suc m) = kept_at ss m
+pub client_at-kept_slots : (slots : Slots) (m : ℕ) → client_at (kept_slots slots) m ≡ option_map kept (client_at slots m)
+client_at-kept_slots [] m = refl
+client_at-kept_slots (s ∷ ss) zero = refl
+client_at-kept_slots (s ∷ ss) (suc m) = client_at-kept_slots ss m
 
 follows_kept : (k : ℕ) (o : Option Client) → if_some (option_map kept o) false (is_following k) ≡ if_some o false
     (λ (c : Client). list_any (λ s. k == s.feed) c.subs)
 follows_kept k None = refl
 follows_kept k (Some c) = refl
 
-pub followed_kept : (k : ℕ) (slots : Slots) → is_followed_by k (kept_slots slots) ≡ is_followed k slots
-followed_kept k [] = refl
-followed_kept k (s ∷ ss) = (λ i. follows_kept k s i || followed_kept k ss i)
+pub is_followed_by-kept_slots : (k : ℕ) (slots : Slots) → is_followed_by k (kept_slots slots) ≡ is_followed k slots
+is_followed_by-kept_slots k [] = refl
+is_followed_by-kept_slots k (s ∷ ss) = (λ i. follows_kept k s i || is_followed_by-kept_slots k ss i)
 
 role_kept : (role : Name) (o : Option Client) → if_some (option_map kept o) false (λ (x : Kept). bytes_eq x.role role) ≡ if_some o false
     (λ (c : Client). bytes_eq c.role role)
 role_kept role None = refl
 role_kept role (Some c) = refl
 
-pub has_role_kept : (role : Name) (slots : Slots) → has_role_in role (kept_slots slots) ≡ has_role role slots
-has_role_kept role [] = refl
-has_role_kept role (s ∷ ss) = (λ i. role_kept role s i || has_role_kept role ss i)
+pub has_role_in-kept_slots : (role : Name) (slots : Slots) → has_role_in role (kept_slots slots) ≡ has_role role slots
+has_role_in-kept_slots role [] = refl
+has_role_in-kept_slots role (s ∷ ss) = (λ i. role_kept role s i || has_role_in-kept_slots role ss i)
 
 free_kept : (o : Option Client) → if_some (option_map kept o) true (λ c. false) ≡ if_some o true (λ c. false)
 free_kept None = refl
 free_kept (Some c) = refl
 
-pub is_free_kept : (m : ℕ) (slots : Slots) → is_free m (kept_slots slots) ≡ is_free m slots
-is_free_kept m [] = refl
-is_free_kept zero (s ∷ ss) = free_kept s
-is_free_kept (suc m) (s ∷ ss) = is_free_kept m ss
+pub is_free-kept_slots : (m : ℕ) (slots : Slots) → is_free m (kept_slots slots) ≡ is_free m slots
+is_free-kept_slots m [] = refl
+is_free-kept_slots zero (s ∷ ss) = free_kept s
+is_free-kept_slots (suc m) (s ∷ ss) = is_free-kept_slots m ss
 
-pub nobody_kept : (n : ℕ) → replicate n None ≡ kept_slots (replicate n None)
-nobody_kept zero = refl
-nobody_kept (suc n) = ap (λ z. None ∷ z) (nobody_kept n)
+pub kept_slots-replicate : (n : ℕ) → replicate n None ≡ kept_slots (replicate n None)
+kept_slots-replicate zero = refl
+kept_slots-replicate (suc n) = ap (λ z. None ∷ z) (kept_slots-replicate n)
 
-pub sendable_kept : (places : Places) (slots : Slots) (m : ℕ) → places ≡ kept_slots slots
+pub sendable-kept_slots : (places : Places) (slots : Slots) (m : ℕ) → places ≡ kept_slots slots
     → if_some (client_at places m) [] (λ (k : Kept). k.sendable) ≡ if_some (client_at slots m) [] (λ (c : Client). text_shown c.sendable)
-sendable_kept places slots m b = ap (λ z. if_some z [] (λ (k : Kept). k.sendable)) (ap (λ z. client_at z m) b ∙ kept_at slots m) ∙ sent_kept (client_at slots m)
+sendable-kept_slots places slots m b =
+    ap (λ z. if_some z [] (λ (k : Kept). k.sendable)) (ap (λ z. client_at z m) b ∙ client_at-kept_slots slots m) ∙ sent_kept (client_at slots m)

@@ -28,9 +28,9 @@ use Rattle.iv_gateway.specs.Views.{IsAlive}
 use Rattle.iv_gateway.specs.declared.arriving.StepFault.{StepFault}
 use Rattle.iv_gateway.specs.declared.arriving.StepFault.TheVariants as fault
 use Rattle.iv_gateway.specs.declared.gateway.Gateway.{Gateway}
-use Rattle.iv_gateway.proofs.Entered.{AreKept, forgiven_more, names_by, one_pushed, pends_more, position_push, settled_stays}
-use Rattle.iv_gateway.proofs.Replayed.{request_well}
-use Rattle.iv_gateway.proofs.Shaped.{no_shape, one_shape, shape_added}
+use Rattle.iv_gateway.proofs.Entered.{AreKept, forgiven_more, names_by, names_by-push, pends_more, position_of-push, settled_stays}
+use Rattle.iv_gateway.proofs.Replayed.{is_well_act-IsRequest}
+use Rattle.iv_gateway.proofs.Shaped.{no_shape, one_shape, shape_text-added}
 
 -- ---- names are learned
 
@@ -38,7 +38,7 @@ all_more : (g : Gate) (all spent ns : List Named) → names_by g (all ++ ns) (sp
 all_more g all spent [] = λ i. names_by g (append-nil all i) (append-nil spent i)
 all_more g all spent (n ∷ ns) =
     (λ i. names_by g (sym (append_assoc all (n ∷ []) ns) i) (sym (append_assoc spent (n ∷ []) ns) i))
-    ∙ (all_more g (all ++ n ∷ []) (spent ++ n ∷ []) ns ∙ ap (λ z. all_pushed z ns) (one_pushed g all spent n))
+    ∙ (all_more g (all ++ n ∷ []) (spent ++ n ∷ []) ns ∙ ap (λ z. all_pushed z ns) (names_by-push g all spent n))
 
 -- one after another: as long as each is new
 pub learns_on : (place : ℕ) (n : Named) (rest : List Named) (known now : Names) (is : Bool) → known.limits ≡ limits
@@ -100,12 +100,12 @@ pub step_kept : (g : Gate) (s : Step) (x : Gateway) (names : Names) (lines : Lis
     → AreKept (entered g (entry_of s ∷ [])) names s.to x.settled lines shape
 step_kept g s x names lines shape adds b n l m h = record {
   names = n ∙ (ap (λ z. all_pushed z s.names) b.names ∙ sym (names_all g (entry_of s) b.forgiven));
-  position = sym (position_push g.head.position g.entries (entry_of s));
+  position = sym (position_of-push g.head.position g.entries (entry_of s));
   settled = b.settled ∙ sym (settled_stays g (entry_of s ∷ []) b.pending.within);
   forgiven = forgiven_more g (entry_of s ∷ []) b.forgiven;
   pending = pends_more g.kept g.entries (entry_of s ∷ []) x.pending.items lines b.pending
       (l ∙ ap (λ z. x.pending.items ++ z) (sym (append-nil (record_of (texts_of (entry_of s))))));
-  shape = shape_added g.entries (entry_of s ∷ []) x.shape.items shape adds b.shape m h;
+  shape = shape_text-added g.entries (entry_of s ∷ []) x.shape.items shape adds b.shape m h;
 }
 
 -- ---- facts
@@ -114,7 +114,7 @@ step_kept g s x names lines shape adds b n l m h = record {
 pub facts_well : ReadsWell → (qs : List Request) → AllByRecursion IsRequest qs → list_all is_well_fact (map fact_of qs) ≡ true
 facts_well reads [] w = refl
 facts_well reads (q ∷ qs) w =
-    (λ i. (w.0.role i && (w.0.shared i && request_well reads q w.0 i)) && list_all is_well_fact (map fact_of qs)) ∙ facts_well reads qs w.1
+    (λ i. (w.0.role i && (w.0.shared i && is_well_act-IsRequest reads q w.0 i)) && list_all is_well_fact (map fact_of qs)) ∙ facts_well reads qs w.1
 
 facts_shared : (qs : List Request) → AllByRecursion IsRequest qs → AllByRecursion (λ f. is_shared f.act ≡ true) (map fact_of qs)
 facts_shared [] w = tt

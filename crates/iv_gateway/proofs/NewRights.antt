@@ -25,7 +25,7 @@ use Rattle.iv_clients.specs.Clients.{at_all, at_client, client_at, own_lines}
 use Rattle.iv_clients.specs.Feeds.{Feed}
 use Rattle.iv_clients.specs.Journal.{Request}
 use Rattle.iv_clients.specs.Kept.{Kept, Places, holding, holding_all}
-use Rattle.iv_clients.proofs.Slots.{one_some, some_is_none}
+use Rattle.iv_clients.proofs.Slots.{same-Some, not_None-Some}
 use Rattle.iv_hall.specs.Hearing.{hearing_lines}
 use Rattle.iv_engine.specs.Known.{has_any, has_some, relations_with}
 use Rattle.iv_engine.specs.Stepped.{is_write}
@@ -33,8 +33,8 @@ use Rattle.iv_steps.specs.Steps.{all_carried, among, carried, is_shared, looked_
 use Rattle.iv_gate.specs.Arriving.{fact_of, newly}
 use Rattle.iv_gateway.specs.Granting.{text_granted}
 use Rattle.iv_gateway.specs.Newly.{AreBefore, AreNewly, IsReadable, Newly, Readable, had, hearing_newly, is_among, newly_in, only_new, text_for}
-use Rattle.iv_gateway.proofs.Granted.{both_all, held_all, role_held, same_all, still_all}
-use Rattle.iv_gateway.proofs.Keeping.{nonempty}
+use Rattle.iv_gateway.proofs.Granted.{both_all, holding_all-holding, role_held, at_all-same, at_all-identity}
+use Rattle.iv_gateway.proofs.Keeping.{length-told_text}
 
 -- ---- roles are gathered
 
@@ -66,7 +66,7 @@ among_still (x ∷ rs) r role h = by (bytes_eq x.role role) (λ k. among_still r
 
 -- nobody is at a number beyond the last
 pub nobody_there : {C : Type 0} (places : List (Option C)) (m : ℕ) (k : C) → length places ≤ m → client_at places m ≡ Some k → ⊥
-nobody_there places m k h e = some_is_none k (sym e ∙ ap (option_and_then (λ x. x)) (slice_get_past places m h))
+nobody_there places m k h e = not_None-Some k (sym e ∙ ap (option_and_then (λ x. x)) (slice_get_past places m h))
 
 less : (m n : ℕ) → m < n + 1 → (m == n) ≡ false → m < n
 less m n h e = grind (arith, nat_tests)
@@ -162,7 +162,8 @@ empty_for (n ∷ ns) role h = by (λ k. empty_for ns role k) (bytes_eq n.role ro
 
 pub nobody_hears : (ns : List Newly) (places : Places) → list_all (λ n. length n.text == 0) ns ≡ true → places ≡ at_all (hearing_newly ns) places
 nobody_hears ns places h =
-    still_all places ∙ same_all (λ k. k) (hearing_newly ns) (λ k. ap (λ b. cond b k (holding (text_for ns k.role) k)) (sym (empty_for ns k.role h))) places
+    at_all-identity places ∙ at_all-same (λ k. k) (hearing_newly ns)
+      (λ k. ap (λ b. cond b k (holding (text_for ns k.role) k)) (sym (empty_for ns k.role h))) places
 
 -- ---- what is new
 
@@ -252,7 +253,7 @@ passed_keeps s t act r k h = by (is_some (refusal s 1 act)) h
   where
     by : (b : Bool) → cond b None (Some (step s (record { session = 1; act = act })).state) ≡ Some t → HasSameRights s t
     by true h = cc
-    by false h = subst (HasSameRights s) (one_some (step s (record { session = 1; act = act })).state t h) (step_keeps s act r k)
+    by false h = subst (HasSameRights s) (same-Some (step s (record { session = 1; act = act })).state t h) (step_keeps s act r k)
 
 write_keeps : (f : Frame) (act : Act) → is_write act ≡ true → (after_rights f act ≡ f.rights) × (after_catalog f act ≡ f.catalog)
 write_keeps f (write entries) h = (refl, refl)
@@ -284,7 +285,7 @@ carried_keeps q s t w h = by (is_shared q.act) h
         (same_then u v t (passed_keeps u v q.act k.0 k.1 done) (passed_keeps v t finish refl refl last))))
 
 all_keep : (qs : List Request) (s t : State) → list_all (λ q. is_write q.act) qs ≡ true → all_carried (map fact_of qs) s ≡ Some t → HasSameRights s t
-all_keep [] s t w h = subst (HasSameRights s) (one_some s t h) (record { rights = refl; catalog = refl })
+all_keep [] s t w h = subst (HasSameRights s) (same-Some s t h) (record { rights = refl; catalog = refl })
 all_keep (q ∷ qs) s t w h = by (λ u all rest. all_keep qs u t all rest) (is_write q.act) refl w
   where
     by : ((u : State) → list_all (λ x. is_write x.act) qs ≡ true → all_carried (map fact_of qs) u ≡ Some t → HasSameRights u t)
@@ -301,7 +302,7 @@ writes_keep qs s o w h = by (all_carried (map fact_of qs) (shared s)) refl h
     by None e h = cc
     by (Some t) e h =
         let k = all_keep qs (shared s) t w e in
-        subst (λ (x : Outcome). HasSameRights s x.state) (one_some (looked_at s (among s t)) o h) (record { rights = k.rights; catalog = k.catalog })
+        subst (λ (x : Outcome). HasSameRights s x.state) (same-Some (looked_at s (among s t)) o h) (record { rights = k.rights; catalog = k.catalog })
 
 same_some : (f g : Frame) (role rel : Name) → g.rights ≡ f.rights → g.catalog ≡ f.catalog → has_some g role rel ≡ has_some f role rel
 same_some f g role rel r k = λ i. if_some (role_of (r i) role) false (λ n. if_some (named (k i) rel) false (λ e. has_any (r i) n e.rel))
@@ -326,8 +327,8 @@ told_as law ns k names e = ap (λ z. cond (length z == 0) k (holding z k)) e ∙
   where
     by : (names : List Name) → cond (length (text_granted names) == 0) k (holding (text_granted names) k) ≡ holding_all (map granted names) k
     by [] = refl
-    by (n ∷ ns) = ap (λ b. cond b k (holding (text_granted (n ∷ ns)) k)) (nonempty (granted n) (text_granted ns) (law (granted n)))
-        ∙ sym (held_all (map granted ns) (told_text (granted n)) k)
+    by (n ∷ ns) = ap (λ b. cond b k (holding (text_granted (n ∷ ns)) k)) (length-told_text (granted n) (text_granted ns) (law (granted n)))
+        ∙ sym (holding_all-holding (map granted ns) (told_text (granted n)) k)
 
 same_there : (f h : Kept → Kept) (places : Places) → ((m : ℕ) (k : Kept) → client_at places m ≡ Some k → f k ≡ h k) → at_all f places ≡ at_all h places
 same_there f h [] w = refl

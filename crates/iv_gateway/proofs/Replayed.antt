@@ -26,27 +26,27 @@ use Rattle.iv_clients.specs.Journal.{Entry, IsEntry, IsRequest, Request, is_shap
 use Rattle.iv_clients.specs.Laws.{ReadsBack}
 use Rattle.iv_clients.specs.Names.{limits}
 use Rattle.iv_clients.specs.Parsed.{record_in}
-use Rattle.iv_clients.proofs.Slots.{one_some, some_is_none}
+use Rattle.iv_clients.proofs.Slots.{same-Some, not_None-Some}
 use Rattle.iv_gate.specs.Arriving.{fact_of, first_known, is_new, not_new, position}
 use Rattle.iv_gate.specs.Gate.{Gate, in_session, is_accepted, known_at, known_by, known_of, names_of, reply_in, shape_text, spent_in}
 use Rattle.iv_gate.specs.Restoring.{IsDamagedAt, LeadOn, Restores, are_rising}
-use Rattle.iv_gate.proofs.Damage.{behind_all, carried_append, facts_append, facts_of, journal_one, journal_pushed, led, lines_of, names_append, push_all, read_one}
-use Rattle.iv_gate.proofs.Granting.{text_well}
+use Rattle.iv_gate.proofs.Damage.{AllByRecursion-append_back, all_carried-append, facts_of-append, facts_of, journal_of-one, journal_of-push, led, lines_of, names_in-append, AllByRecursion-push, record_in-lines_of}
+use Rattle.iv_gate.proofs.Granting.{is_well_message-message_of}
 use Rattle.iv_gateway.specs.Replays.{AreNamesReplayed, IsNew, IsPassed, IsRecordReplayed, IsReplayed, IsReplaying, behind, is_later, part, with_name, with_request}
 use Rattle.iv_gateway.specs.Shaping.{shape_in}
 use Rattle.iv_gateway.specs.Views.{IsAlive}
 use Rattle.iv_gateway.specs.declared.gateway.Gateway.{Gateway}
-use Rattle.iv_gateway.proofs.Entered.{AreKept, one_pushed, position_push}
-use Rattle.iv_gateway.proofs.Refused.{accepted_iff}
-use Rattle.iv_gateway.proofs.Shaped.{shape_more}
+use Rattle.iv_gateway.proofs.Entered.{AreKept, names_by-push, position_of-push}
+use Rattle.iv_gateway.proofs.Refused.{is_accepted-outcome}
+use Rattle.iv_gateway.proofs.Shaped.{shape_text-append}
 
 -- one act: what the first line says is what the machine says
-pub passes : (g : Gate) (act : Act) (is : Bool) (x : Gateway) → is ≡ is_accepted (reply_in (step g.machine (in_session 1 act)).lines)
+pub IsPassed-step : (g : Gate) (act : Act) (is : Bool) (x : Gateway) → is ≡ is_accepted (reply_in (step g.machine (in_session 1 act)).lines)
     → IsAlive (record g { machine = (step g.machine (in_session 1 act)).state }) x → IsPassed g (passed act g.machine) is x
-passes g act is x h a = by (refusal g.machine 1 act) refl
+IsPassed-step g act is x h a = by (refusal g.machine 1 act) refl
   where
     told : is ≡ is_none (refusal g.machine 1 act)
-    told = h ∙ accepted_iff g.machine (in_session 1 act) (refusal g.machine 1 act)
+    told = h ∙ is_accepted-outcome g.machine (in_session 1 act) (refusal g.machine 1 act)
 
     by : (o : Option Refusal) → refusal g.machine 1 act ≡ o → IsPassed g (cond (is_some o) None (Some (step g.machine (in_session 1 act)).state)) is x
     by None e = (told ∙ ap is_none e, a)
@@ -62,9 +62,9 @@ pub record PassesTo (g : Gate) (o : Option State) (x : Gateway) : Type 0 where
   pub is : o ≡ Some state
   pub gate : IsAlive (record g { machine = state }) x
 
-pub some_passed : (g : Gate) (o : Option State) (is : Bool) (x : Gateway) → IsPassed g o is x → is ≡ true → PassesTo g o x
-some_passed g None is x p h = absurd (false≢true (sym p ∙ h))
-some_passed g (Some s) is x p h = record { state = s; is = refl; gate = p.1 }
+pub PassesTo-IsPassed : (g : Gate) (o : Option State) (is : Bool) (x : Gateway) → IsPassed g o is x → is ≡ true → PassesTo g o x
+PassesTo-IsPassed g None is x p h = absurd (false≢true (sym p ∙ h))
+PassesTo-IsPassed g (Some s) is x p h = record { state = s; is = refl; gate = p.1 }
 
 -- ---- one request: a session is begun, the act is done, the session is finished
 
@@ -86,11 +86,11 @@ finishes q s t u h b d =
 -- ---- the parts of an entry
 
 -- a request of the journal is one that the machine may be given
-pub request_well : ReadsWell → (q : Request) → IsRequest q → is_well_act q.act ≡ true
-request_well reads q w = ap is_well_message (sym w.asks) ∙ text_well reads q.line
+pub is_well_act-IsRequest : ReadsWell → (q : Request) → IsRequest q → is_well_act q.act ≡ true
+is_well_act-IsRequest reads q w = ap is_well_message (sym w.asks) ∙ is_well_message-message_of reads q.line
 
 names_last : (es : List Entry) (e : Entry) → names_in (es ++ e ∷ []) ≡ names_in es ++ e.names
-names_last es e = names_append es (e ∷ []) ∙ ap (λ ns. names_in es ++ ns) (append-nil e.names)
+names_last es e = names_in-append es (e ∷ []) ∙ ap (λ ns. names_in es ++ ns) (append-nil e.names)
 
 -- of what is behind an entry these values are kept, where its names, position and shape are so
 kept_behind : (g : Gate) (s t : State) (es fs : List Entry) (x : Gateway) (names : Names) (at : ℕ) (shape : List ℕ) → IsAlive (behind g s es) x
@@ -106,20 +106,20 @@ kept_behind g s t es fs x names at shape b n p h = record {
 }
 
 -- what is settled is where the log stands
-pub settled_here : (g : Gate) (s : State) (es : List Entry) (x : Gateway) → IsAlive (behind g s es) x → x.settled ≡ x.position
-settled_here g s es x b = b.settled ∙ (ap (position_of g.head.position) (take-length es) ∙ sym b.position)
+pub settled-IsAlive : (g : Gate) (s : State) (es : List Entry) (x : Gateway) → IsAlive (behind g s es) x → x.settled ≡ x.position
+settled-IsAlive g s es x b = b.settled ∙ (ap (position_of g.head.position) (take-length es) ∙ sym b.position)
 
 -- ---- its position
 
 same_names : (g : Gate) (s t : State) (es fs : List Entry) → names_in es ≡ names_in fs → names_of (behind g s es) ≡ names_of (behind g t fs)
 same_names g s t es fs h = λ i. record { limits = limits; known = known_by (known_at g.head) (h i); spent = spent_in (h i) }
 
-pub position_more : (g : Gate) (s : State) (es : List Entry) (p : Option ℕ) (at : ℕ) (x : Gateway) → IsAlive (behind g s es) x → at ≡ unwrap_or p x.position
+pub AreKept-position : (g : Gate) (s : State) (es : List Entry) (p : Option ℕ) (at : ℕ) (x : Gateway) → IsAlive (behind g s es) x → at ≡ unwrap_or p x.position
     → AreKept (behind g s (es ++ part [] [] p ∷ [])) (names_in_code x.names) at at x.pending.items x.shape.items
-position_more g s es p at x b h = kept_behind g s s es (es ++ part [] [] p ∷ []) x (names_in_code x.names) at x.shape.items b
+AreKept-position g s es p at x b h = kept_behind g s s es (es ++ part [] [] p ∷ []) x (names_in_code x.names) at x.shape.items b
     (b.names ∙ same_names g s s es (es ++ part [] [] p ∷ []) (sym (names_last es (part [] [] p) ∙ append-nil (names_in es))))
-    (h ∙ (ap (unwrap_or p) b.position ∙ sym (position_push g.head.position es (part [] [] p))))
-    (b.shape ∙ sym (shape_more es (part [] [] p ∷ []) ∙ append-nil (shape_text es)))
+    (h ∙ (ap (unwrap_or p) b.position ∙ sym (position_of-push g.head.position es (part [] [] p))))
+    (b.shape ∙ sym (shape_text-append es (part [] [] p ∷ []) ∙ append-nil (shape_text es)))
 
 -- ---- a request more
 
@@ -137,14 +137,15 @@ shape_pushed es e q =
     shape_as (es ++ with_request e q ∷ [])
     ∙ (ap (λ qs. shape_text (part qs [] None ∷ [])) (with_both es e q)
     ∙ (sym (shape_as ((es ++ e ∷ []) ++ part (q ∷ []) [] None ∷ []) ∙ ap (λ qs. shape_text (part qs [] None ∷ [])) (flat_map-append (λ (x : Entry). x.requests) (es ++ e ∷ []) (part (q ∷ []) [] None ∷ [])))
-    ∙ shape_more (es ++ e ∷ []) (part (q ∷ []) [] None ∷ [])))
+    ∙ shape_text-append (es ++ e ∷ []) (part (q ∷ []) [] None ∷ [])))
 
-pub request_more : (g : Gate) (s : State) (es : List Entry) (e : Entry) (q : Request) (shape : Vec ℕ) (x : Gateway) → IsAlive (behind g s (es ++ e ∷ [])) x
+pub AreKept-with_request : (g : Gate) (s : State) (es : List Entry) (e : Entry) (q : Request) (shape : Vec ℕ) (x : Gateway)
+    → IsAlive (behind g s (es ++ e ∷ [])) x
     → shape.items ≡ x.shape.items ++ shape_in q → IsAlive (behind g s (es ++ with_request e q ∷ [])) (record x { shape = shape })
-request_more g s es e q shape x b h =
+AreKept-with_request g s es e q shape x b h =
     let k = kept_behind g s s (es ++ e ∷ []) (es ++ with_request e q ∷ []) x (names_in_code x.names) x.position shape.items b
     (b.names ∙ same_names g s s (es ++ e ∷ []) (es ++ with_request e q ∷ []) (names_last es e ∙ sym (names_last es (with_request e q))))
-    (b.position ∙ (position_push g.head.position es e ∙ sym (position_push g.head.position es (with_request e q))))
+    (b.position ∙ (position_of-push g.head.position es e ∙ sym (position_of-push g.head.position es (with_request e q))))
     (h ∙ (ap (λ z. z ++ shape_in q) b.shape ∙ sym (shape_pushed es e q))) in record {
       tokens = b.tokens;
       machine = b.machine;
@@ -154,7 +155,7 @@ request_more g s es e q shape x b h =
       names = k.names;
       log = b.log;
       position = k.position;
-      settled = settled_here g s (es ++ e ∷ []) x b ∙ k.settled;
+      settled = settled-IsAlive g s (es ++ e ∷ []) x b ∙ k.settled;
       forgiven = k.forgiven;
       pending = k.pending;
       shape = k.shape;
@@ -162,32 +163,32 @@ request_more g s es e q shape x b h =
 
 -- ---- a name more
 
-pub name_more : (g : Gate) (s : State) (es : List Entry) (e : Entry) (n : Named) (names : Names) (x : Gateway) → IsAlive (behind g s (es ++ e ∷ [])) x
+pub AreKept-with_name : (g : Gate) (s : State) (es : List Entry) (e : Entry) (n : Named) (names : Names) (x : Gateway) → IsAlive (behind g s (es ++ e ∷ [])) x
     → names ≡ once.pushed (names_in_code x.names) (once.named n)
     → AreKept (behind g s (es ++ with_name e n ∷ [])) names x.position x.position x.pending.items x.shape.items
-name_more g s es e n names x b h =
+AreKept-with_name g s es e n names x b h =
     let all : names_in (es ++ with_name e n ∷ []) ≡ names_in (es ++ e ∷ []) ++ n ∷ [] =
     names_last es (with_name e n) ∙ (sym (append_assoc (names_in es) e.names (n ∷ [])) ∙ ap (λ z. z ++ n ∷ []) (sym (names_last es e))) in
     kept_behind g s s (es ++ e ∷ []) (es ++ with_name e n ∷ []) x names x.position x.shape.items b
     (h ∙ (ap (λ z. once.pushed z (once.named n)) b.names
     ∙ sym ((λ i. record { limits = limits; known = known_by (known_at g.head) (all i); spent = spent_in (all i) })
-    ∙ one_pushed g (names_in (es ++ e ∷ [])) (names_in (es ++ e ∷ [])) n)))
-    (b.position ∙ (position_push g.head.position es e ∙ sym (position_push g.head.position es (with_name e n))))
+    ∙ names_by-push g (names_in (es ++ e ∷ [])) (names_in (es ++ e ∷ [])) n)))
+    (b.position ∙ (position_of-push g.head.position es e ∙ sym (position_of-push g.head.position es (with_name e n))))
     (b.shape ∙ (shape_as (es ++ e ∷ []) ∙ (ap (λ qs. shape_text (part qs [] None ∷ []))
     (flat_map-append (λ (y : Entry). y.requests) es (e ∷ []) ∙ sym (flat_map-append (λ (y : Entry). y.requests) es (with_name e n ∷ [])))
     ∙ sym (shape_as (es ++ with_name e n ∷ [])))))
 
-pub name_new : (g : Gate) (s : State) (es : List Entry) (x : Gateway) (ask : once.Ask) (is : Bool) → IsAlive (behind g s es) x
+pub is_new-IsAlive : (g : Gate) (s : State) (es : List Entry) (x : Gateway) (ask : once.Ask) (is : Bool) → IsAlive (behind g s es) x
     → is ≡ once.is_new (names_in_code x.names).limits (names_in_code x.names).known ask → is ≡ is_new (known_of (behind g s es)) ask
-name_new g s es x ask is b h = h ∙ ap (λ (n : Names). once.is_new n.limits n.known ask) b.names
+is_new-IsAlive g s es x ask is b h = h ∙ ap (λ (n : Names). once.is_new n.limits n.known ask) b.names
 
 -- ---- whether it may be so
 
-pub not_later : (q p at : ℕ) → p ≤ at → at ≡ q → false ≡ nat_lt q p
-not_later q p at h e = grind (arith, nat_tests)
+pub nat_lt-not_later : (q p at : ℕ) → p ≤ at → at ≡ q → false ≡ nat_lt q p
+nat_lt-not_later q p at h e = grind (arith, nat_tests)
 
-pub later : (q p at : ℕ) → at < p → at ≡ q → true ≡ nat_lt q p
-later q p at h e = grind (arith, nat_tests)
+pub nat_lt-later : (q p at : ℕ) → at < p → at ≡ q → true ≡ nat_lt q p
+nat_lt-later q p at h e = grind (arith, nat_tests)
 
 passed_as : (g : Gate) (s : State) (o : Option State) (is : Bool) (x : Gateway) → IsPassed (record g { machine = s }) o is x → IsPassed g o is x
 passed_as g s None is x p = p
@@ -197,22 +198,23 @@ never_carried : (g : Gate) (o : Option State) (x : Gateway) → o ≡ None → I
 never_carried g o x e = subst (λ z. IsPassed g z false x) (sym e) refl
 
 -- no session is begun
-pub runs_unbegun : (g : Gate) (q : Request) (is : Bool) (x y : Gateway) → is_shared q.act ≡ true → IsPassed g (passed (begin q.role) g.machine) is x → is ≡ false
+pub IsPassed-not_begun : (g : Gate) (q : Request) (is : Bool) (x y : Gateway) → is_shared q.act ≡ true → IsPassed g (passed (begin q.role) g.machine) is x → is ≡ false
     → IsPassed g (carried (fact_of q) g.machine) false y
-runs_unbegun g q is x y h p e = never_carried g (carried (fact_of q) g.machine) y (unbegun q g.machine h (none_passed g (passed (begin q.role) g.machine) is x p e))
+IsPassed-not_begun g q is x y h p e = never_carried g (carried (fact_of q) g.machine) y (unbegun q g.machine h (none_passed g (passed (begin q.role) g.machine) is x p e))
 
 -- the act is refused
-pub runs_unaccepted : (g : Gate) (q : Request) (is : Bool) (x y z : Gateway) → is_shared q.act ≡ true → (b : PassesTo g (passed (begin q.role) g.machine) x)
+pub IsPassed-not_accepted : (g : Gate) (q : Request) (is : Bool) (x y z : Gateway) → is_shared q.act ≡ true
+    → (b : PassesTo g (passed (begin q.role) g.machine) x)
     → IsPassed (record g { machine = b.state }) (passed q.act b.state) is y → is ≡ false → IsPassed g (carried (fact_of q) g.machine) false z
-runs_unaccepted g q is x y z h b p e =
+IsPassed-not_accepted g q is x y z h b p e =
     never_carried g (carried (fact_of q) g.machine) z
     (unaccepted q g.machine b.state h b.is (none_passed (record g { machine = b.state }) (passed q.act b.state) is y p e))
 
 -- and then the session is finished
-pub runs_out : (g : Gate) (q : Request) (is : Bool) (x y z : Gateway) → is_shared q.act ≡ true → (b : PassesTo g (passed (begin q.role) g.machine) x)
+pub IsPassed-finish : (g : Gate) (q : Request) (is : Bool) (x y z : Gateway) → is_shared q.act ≡ true → (b : PassesTo g (passed (begin q.role) g.machine) x)
     → (d : PassesTo (record g { machine = b.state }) (passed q.act b.state) y) → IsPassed (record g { machine = d.state }) (passed finish d.state) is z
     → IsPassed g (carried (fact_of q) g.machine) is z
-runs_out g q is x y z h b d p =
+IsPassed-finish g q is x y z h b d p =
     subst (λ o. IsPassed g o is z) (sym (finishes q g.machine b.state d.state h b.is d.is)) (passed_as g d.state (passed finish d.state) is z p)
 
 -- ---- all requests, in their order
@@ -225,25 +227,25 @@ pub record GoesOn (g : Gate) (s : State) (es : List Entry) (p : Option ℕ) (eve
   pub carries : all_carried (map fact_of done) s ≡ Some state
   pub gate : IsAlive (behind g state (es ++ part done [] p ∷ [])) x
 
-pub goes_first : (g : Gate) (s : State) (es : List Entry) (p : Option ℕ) (all : List Request) (x : Gateway) → IsAlive (behind g s (es ++ part [] [] p ∷ [])) x
+pub GoesOn-start : (g : Gate) (s : State) (es : List Entry) (p : Option ℕ) (all : List Request) (x : Gateway) → IsAlive (behind g s (es ++ part [] [] p ∷ [])) x
     → GoesOn g s es p all all x
-goes_first g s es p all x b = record { done = []; all = refl; state = s; carries = refl; gate = b }
+GoesOn-start g s es p all x b = record { done = []; all = refl; state = s; carries = refl; gate = b }
 
 one_more_done : (s t : State) (done : List Request) (q : Request) (o : Option State) → all_carried (map fact_of done) s ≡ Some t → carried (fact_of q) t ≡ o
     → all_carried (map fact_of (done ++ q ∷ [])) s ≡ o
 one_more_done s t done q o c h =
     ap (λ fs. all_carried fs s) (map-append fact_of done (q ∷ []))
-    ∙ (carried_append s (map fact_of done) (fact_of q ∷ []) ∙ (ap (option_and_then (all_carried (fact_of q ∷ []))) c ∙ (ap (option_and_then (all_carried [])) h ∙ same o)))
+    ∙ (all_carried-append s (map fact_of done) (fact_of q ∷ []) ∙ (ap (option_and_then (all_carried (fact_of q ∷ []))) c ∙ (ap (option_and_then (all_carried [])) h ∙ same o)))
   where
     same : (o : Option State) → option_and_then (all_carried []) o ≡ o
     same None = refl
     same (Some u) = refl
 
-pub goes_on : (g : Gate) (s : State) (es : List Entry) (p : Option ℕ) (all rest : List Request) (q : Request) (is : Bool) (x y : Gateway)
+pub GoesOn-next : (g : Gate) (s : State) (es : List Entry) (p : Option ℕ) (all rest : List Request) (q : Request) (is : Bool) (x y : Gateway)
     → (w : GoesOn g s es p all (q ∷ rest) x)
     → IsPassed (behind g w.state (es ++ with_request (part w.done [] p) q ∷ [])) (carried (fact_of q) w.state) is y → is ≡ true
     → GoesOn g s es p all rest y
-goes_on g s es p all rest q is x y w r h = by (carried (fact_of q) w.state) refl r
+GoesOn-next g s es p all rest q is x y w r h = by (carried (fact_of q) w.state) refl r
   where
     by : (o : Option State) → carried (fact_of q) w.state ≡ o → IsPassed (behind g w.state (es ++ with_request (part w.done [] p) q ∷ [])) o is y → GoesOn g s es p all rest y
     by None e r = absurd (false≢true (sym r ∙ h))
@@ -255,17 +257,17 @@ goes_on g s es p all rest q is x y w r h = by (carried (fact_of q) w.state) refl
       gate = r.1;
     }
 
-pub goes_no_more : (g : Gate) (s : State) (es : List Entry) (p : Option ℕ) (all rest : List Request) (q : Request) (is : Bool) (x y : Gateway)
+pub IsPassed-all_carried_false : (g : Gate) (s : State) (es : List Entry) (p : Option ℕ) (all rest : List Request) (q : Request) (is : Bool) (x y : Gateway)
     → (w : GoesOn g s es p all (q ∷ rest) x)
     → IsPassed (behind g w.state (es ++ with_request (part w.done [] p) q ∷ [])) (carried (fact_of q) w.state) is y → is ≡ false
     → IsPassed (behind g s (es ++ part all [] p ∷ [])) (all_carried (map fact_of all) s) false y
-goes_no_more g s es p all rest q is x y w r h = by (carried (fact_of q) w.state) refl r
+IsPassed-all_carried_false g s es p all rest q is x y w r h = by (carried (fact_of q) w.state) refl r
   where
     none : carried (fact_of q) w.state ≡ None → all_carried (map fact_of all) s ≡ None
     none e =
         ap (λ qs. all_carried (map fact_of qs) s) (w.all ∙ sym (append_assoc w.done (q ∷ []) rest))
         ∙ (ap (λ fs. all_carried fs s) (map-append fact_of (w.done ++ q ∷ []) rest)
-        ∙ (carried_append s (map fact_of (w.done ++ q ∷ [])) (map fact_of rest)
+        ∙ (all_carried-append s (map fact_of (w.done ++ q ∷ [])) (map fact_of rest)
         ∙ ap (option_and_then (all_carried (map fact_of rest))) (one_more_done s w.state w.done q None w.carries e)))
 
     by : (o : Option State) → carried (fact_of q) w.state ≡ o → IsPassed (behind g w.state (es ++ with_request (part w.done [] p) q ∷ [])) o is y
@@ -273,9 +275,9 @@ goes_no_more g s es p all rest q is x y w r h = by (carried (fact_of q) w.state)
     by None e r = subst (λ o. IsPassed (behind g s (es ++ part all [] p ∷ [])) o false y) (sym (none e)) refl
     by (Some t) e r = absurd (false≢true (sym h ∙ r.0))
 
-pub goes_to_end : (g : Gate) (s : State) (es : List Entry) (p : Option ℕ) (all rest : List Request) (x : Gateway) → rest ≡ [] → GoesOn g s es p all rest x
+pub IsPassed-GoesOn : (g : Gate) (s : State) (es : List Entry) (p : Option ℕ) (all rest : List Request) (x : Gateway) → rest ≡ [] → GoesOn g s es p all rest x
     → IsPassed (behind g s (es ++ part all [] p ∷ [])) (all_carried (map fact_of all) s) true x
-goes_to_end g s es p all rest x e w =
+IsPassed-GoesOn g s es p all rest x e w =
     let same : all ≡ w.done = w.all ∙ (ap (λ z. w.done ++ z) e ∙ append-nil w.done) in
     subst (λ o. IsPassed (behind g s (es ++ part all [] p ∷ [])) o true x) (sym (ap (λ qs. all_carried (map fact_of qs) s) same ∙ w.carries))
     (refl, subst (λ qs. IsAlive (behind g w.state (es ++ part qs [] p ∷ [])) x) (sym same) w.gate)
@@ -317,9 +319,9 @@ pub record AreLearning (g : Gate) (s : State) (es : List Entry) (qs : List Reque
   pub new : are_new done (known_of (behind g s es)) ≡ true
   pub gate : IsAlive (behind g s (es ++ part qs done p ∷ [])) x
 
-pub learns_first : (g : Gate) (s : State) (es : List Entry) (qs : List Request) (p : Option ℕ) (all : List Named) (x : Gateway)
+pub AreLearning-start : (g : Gate) (s : State) (es : List Entry) (qs : List Request) (p : Option ℕ) (all : List Named) (x : Gateway)
     → IsAlive (behind g s (es ++ part qs [] p ∷ [])) x → AreLearning g s es qs p all all x
-learns_first g s es qs p all x b = record { done = []; all = refl; new = refl; gate = b }
+AreLearning-start g s es qs p all x b = record { done = []; all = refl; new = refl; gate = b }
 
 one_more_new : (k : Known) (done : List Named) (n : Named) → are_new done k ≡ true → are_new (done ++ n ∷ []) k ≡ is_new (known_by k done) n.ask
 one_more_new k done n h = new_append done (n ∷ []) k ∙ ((λ i. h i && (is_new (known_by k done) n.ask && true)) ∙ and_true (is_new (known_by k done) n.ask))
@@ -328,29 +330,29 @@ one_more_new k done n h = new_append done (n ∷ []) k ∙ ((λ i. h i && (is_ne
     and_true true = refl
     and_true false = refl
 
-pub learns_on : (g : Gate) (s : State) (es : List Entry) (qs : List Request) (p : Option ℕ) (all rest : List Named) (n : Named) (is : Bool) (x y : Gateway)
+pub AreLearning-next : (g : Gate) (s : State) (es : List Entry) (qs : List Request) (p : Option ℕ) (all rest : List Named) (n : Named) (is : Bool) (x y : Gateway)
     → (w : AreLearning g s es qs p all (n ∷ rest) x) → is ≡ is_new (known_of (behind g s (es ++ part qs w.done p ∷ []))) n.ask → is ≡ true
     → IsAlive (behind g s (es ++ with_name (part qs w.done p) n ∷ [])) y → AreLearning g s es qs p all rest y
-learns_on g s es qs p all rest n is x y w e h b = record {
+AreLearning-next g s es qs p all rest n is x y w e h b = record {
   done = w.done ++ n ∷ [];
   all = w.all ∙ sym (append_assoc w.done (n ∷ []) rest);
   new = one_more_new (known_of (behind g s es)) w.done n w.new ∙ (ap (λ k. is_new k n.ask) (sym (known_part g s s es (part qs w.done p))) ∙ (sym e ∙ h));
   gate = b;
 }
 
-pub learns_no_more : (g : Gate) (s : State) (es : List Entry) (qs : List Request) (p : Option ℕ) (all rest : List Named) (n : Named) (is : Bool) (x y : Gateway)
+pub AreNamesReplayed-not_new : (g : Gate) (s : State) (es : List Entry) (qs : List Request) (p : Option ℕ) (all rest : List Named) (n : Named) (is : Bool) (x y : Gateway)
     → (w : AreLearning g s es qs p all (n ∷ rest) x) → is ≡ is_new (known_of (behind g s (es ++ part qs w.done p ∷ []))) n.ask → is ≡ false
     → AreNamesReplayed g s es qs all p false y
-learns_no_more g s es qs p all rest n is x y w e h =
+AreNamesReplayed-not_new g s es qs p all rest n is x y w e h =
     let k = known_of (behind g s es) in
     let one : are_new (w.done ++ n ∷ []) k ≡ false = one_more_new k w.done n w.new ∙ (ap (λ m. is_new m n.ask) (sym (known_part g s s es (part qs w.done p))) ∙ (sym e ∙ h)) in
     let all_new : are_new all k ≡ false = ap (λ ns. are_new ns k) (w.all ∙ sym (append_assoc w.done (n ∷ []) rest))
     ∙ (new_append (w.done ++ n ∷ []) rest k ∙ ap (λ b. b && are_new rest (known_by k (w.done ++ n ∷ []))) one) in
     (sym (new_by 1 all k ∙ all_new), λ t. absurd (false≢true t))
 
-pub learns_to_end : (g : Gate) (s : State) (es : List Entry) (qs : List Request) (p : Option ℕ) (all rest : List Named) (x : Gateway) → rest ≡ []
+pub AreNamesReplayed-AreLearning : (g : Gate) (s : State) (es : List Entry) (qs : List Request) (p : Option ℕ) (all rest : List Named) (x : Gateway) → rest ≡ []
     → AreLearning g s es qs p all rest x → AreNamesReplayed g s es qs all p true x
-learns_to_end g s es qs p all rest x e w =
+AreNamesReplayed-AreLearning g s es qs p all rest x e w =
     let same : all ≡ w.done = w.all ∙ (ap (λ z. w.done ++ z) e ∙ append-nil w.done) in
     let k = known_of (behind g s es) in
     (sym (new_by 1 all k ∙ (ap (λ ns. are_new ns k) same ∙ w.new)), λ t. subst (λ ns. IsAlive (behind g s (es ++ part qs ns p ∷ [])) x) (sym same) w.gate)
@@ -384,8 +386,8 @@ leads_there g es x w = w.leads.accepted ∙ ap Some (sym (ap (λ (h : Gate). h.m
 carries : (g : Gate) (s : State) (es : List Entry) (e : Entry) → all_carried (facts_of es) g.machine ≡ Some s
     → all_carried (facts_of (es ++ e ∷ [])) g.machine ≡ all_carried (map fact_of e.requests) s
 carries g s es e h =
-    ap (λ fs. all_carried fs g.machine) (facts_append es (e ∷ []) ∙ ap (λ qs. facts_of es ++ map fact_of qs) (append-nil e.requests))
-    ∙ (carried_append g.machine (facts_of es) (map fact_of e.requests) ∙ ap (option_and_then (all_carried (map fact_of e.requests))) h)
+    ap (λ fs. all_carried fs g.machine) (facts_of-append es (e ∷ []) ∙ ap (λ qs. facts_of es ++ map fact_of qs) (append-nil e.requests))
+    ∙ (all_carried-append g.machine (facts_of es) (map fact_of e.requests) ∙ ap (option_and_then (all_carried (map fact_of e.requests))) h)
 
 news : (g : Gate) (s : State) (es : List Entry) (e : Entry) → g.entries ≡ [] → first_known 1 (names_in es) (known_of g) ≡ None
     → not (is_some (first_known 1 (names_in (es ++ e ∷ [])) (known_of g))) ≡ not (is_some (first_known 1 e.names (known_of (behind g s es))))
@@ -402,30 +404,30 @@ none_if None h = refl
 none_if (Some x) h = absurd (false≢true h)
 
 -- its position is not behind the last
-pub stops_at_position : (g : Gate) (es : List Entry) (e : Entry) (x y : Gateway) → IsReplaying g es x → false ≡ is_later (position_of g.head.position es) e.position
+pub IsReplayed-not_later : (g : Gate) (es : List Entry) (e : Entry) (x y : Gateway) → IsReplaying g es x → false ≡ is_later (position_of g.head.position es) e.position
     → IsReplayed g es e false y
-stops_at_position g es e x y w h = λ k l. false≢true (h ∙ (sym (rises g es e w.began w.leads.steps) ∙ l.steps))
+IsReplayed-not_later g es e x y w h = λ k l. false≢true (h ∙ (sym (rises g es e w.began w.leads.steps) ∙ l.steps))
 
 -- a request of it is not accepted
-pub stops_at_request : (g : Gate) (es : List Entry) (e : Entry) (x y z : Gateway) (is : Bool) → (w : IsReplaying g es x)
+pub IsReplayed-not_carried : (g : Gate) (es : List Entry) (e : Entry) (x y z : Gateway) (is : Bool) → (w : IsReplaying g es x)
     → IsPassed (behind g w.state (es ++ part e.requests [] e.position ∷ [])) (all_carried (map fact_of e.requests) w.state) is y → is ≡ false
     → IsReplayed g es e false z
-stops_at_request g es e x y z is w r h = λ k l.
-    some_is_none l.state (sym l.accepted ∙ (carries g w.state es e (leads_there g es x w) ∙ none_passed (behind g w.state (es ++ part e.requests [] e.position ∷ [])) (all_carried (map fact_of e.requests) w.state) is y r h))
+IsReplayed-not_carried g es e x y z is w r h = λ k l.
+    not_None-Some l.state (sym l.accepted ∙ (carries g w.state es e (leads_there g es x w) ∙ none_passed (behind g w.state (es ++ part e.requests [] e.position ∷ [])) (all_carried (map fact_of e.requests) w.state) is y r h))
 
 -- its names decide
-pub ends_with_names : (g : Gate) (es : List Entry) (e : Entry) (x y z : Gateway) (is all : Bool) → IsEntry e → (w : IsReplaying g es x)
+pub IsReplayed-AreNamesReplayed : (g : Gate) (es : List Entry) (e : Entry) (x y z : Gateway) (is all : Bool) → IsEntry e → (w : IsReplaying g es x)
     → is_later (position_of g.head.position es) e.position ≡ true
     → (p : PassesTo (behind g w.state (es ++ part e.requests [] e.position ∷ [])) (all_carried (map fact_of e.requests) w.state) y)
     → AreNamesReplayed g p.state es e.requests e.names e.position all z → IsReplayed g es e all z
-ends_with_names g es e x y z is false well w h p n = λ k l.
+IsReplayed-AreNamesReplayed g es e x y z is false well w h p n = λ k l.
     false≢true (n.0 ∙ (sym (news g p.state es e w.began w.leads.names) ∙ ap (λ f. not (is_some f)) l.names))
-ends_with_names g es e x y z is true well w h p n = record {
+IsReplayed-AreNamesReplayed g es e x y z is true well w h p n = record {
   began = w.began;
   state = p.state;
   leads = record {
     state = p.state;
-    well = push_all IsEntry es e w.leads.well well;
+    well = AllByRecursion-push IsEntry es e w.leads.well well;
     accepted = carries g w.state es e (leads_there g es x w) ∙ p.is;
     names = none_if (first_known 1 (names_in (es ++ e ∷ [])) (known_of g)) (news g p.state es e w.began w.leads.names ∙ sym n.0);
     steps = rises g es e w.began w.leads.steps ∙ h;
@@ -438,27 +440,31 @@ ends_with_names g es e x y z is true well w h p n = record {
 
 reads_this : ReadsBack → (g h : Gate) (es : List Entry) (lines more : List Line) (e : Entry) → lines ≡ journal_of (e ∷ []) ++ more → LeadOn g (es ++ e ∷ []) h
     → record_in lines ≡ Some (e, more)
-reads_this reads g h es lines more e a l = ap record_in (a ∙ journal_one e more) ∙ read_one reads e more (behind_all IsEntry es (e ∷ []) l.well).0
+reads_this reads g h es lines more e a l =
+    ap record_in (a ∙ journal_of-one e more) ∙ record_in-lines_of reads e more (AllByRecursion-append_back IsEntry es (e ∷ []) l.well).0
 
-pub reads_none : ReadsBack → (g : Gate) (es : List Entry) (lines : List Line) (x : Gateway) → None ≡ record_in lines → IsRecordReplayed g es lines None x
-reads_none reads g es lines x n = λ e more h a l. some_is_none {X = Entry × List Line} (e, more) (sym (reads_this reads g h es lines more e a l) ∙ sym n)
+pub IsRecordReplayed-None : ReadsBack → (g : Gate) (es : List Entry) (lines : List Line) (x : Gateway) → None ≡ record_in lines
+    → IsRecordReplayed g es lines None x
+IsRecordReplayed-None reads g es lines x n =
+    λ e more h a l. not_None-Some {X = Entry × List Line} (e, more) (sym (reads_this reads g h es lines more e a l) ∙ sym n)
 
-pub reads_bad : ReadsBack → (g : Gate) (es : List Entry) (lines later : List Line) (entry : Entry) (x y : Gateway) → Some (entry, later) ≡ record_in lines
+pub IsRecordReplayed-false : ReadsBack → (g : Gate) (es : List Entry) (lines later : List Line) (entry : Entry) (x y : Gateway)
+    → Some (entry, later) ≡ record_in lines
     → IsReplayed g es entry false x → IsRecordReplayed g es lines None y
-reads_bad reads g es lines later entry x y r bad = λ e more h a l.
-    let same = one_some {X = Entry × List Line} (e, more) (entry, later) (sym (reads_this reads g h es lines more e a l) ∙ sym r) in
+IsRecordReplayed-false reads g es lines later entry x y r bad = λ e more h a l.
+    let same = same-Some {X = Entry × List Line} (e, more) (entry, later) (sym (reads_this reads g h es lines more e a l) ∙ sym r) in
     bad h (subst (λ z. LeadOn g (es ++ z ∷ []) h) (ap (λ (z : Entry × List Line). z.0) same) l)
 
 -- what was read is an entry
-pub read_entry : ReadsBack → (lines later : List Line) (entry : Entry) → Some (entry, later) ≡ record_in lines → IsEntry entry
-read_entry reads lines later entry r = ((reads lines entry later).0 (sym r)).entry
+pub IsEntry-record_in : ReadsBack → (lines later : List Line) (entry : Entry) → Some (entry, later) ≡ record_in lines → IsEntry entry
+IsEntry-record_in reads lines later entry r = ((reads lines entry later).0 (sym r)).entry
 
-pub reads_good : ReadsBack → (g : Gate) (es : List Entry) (lines : List Line) (entry : Entry) (count : ℕ) (x : Gateway) → Some (entry, drop count lines) ≡ record_in lines
+pub IsRecordReplayed-IsReplayed : ReadsBack → (g : Gate) (es : List Entry) (lines : List Line) (entry : Entry) (count : ℕ) (x : Gateway) → Some (entry, drop count lines) ≡ record_in lines
     → count ≤ length lines → IsReplayed g es entry true x → IsRecordReplayed g es lines (Some count) x
-reads_good reads g es lines entry count x r n w =
+IsRecordReplayed-IsReplayed reads g es lines entry count x r n w =
     let b = (reads lines entry (drop count lines)).0 (sym r) in record {
       entry = entry;
-      lines = b.lines ∙ sym (journal_one entry (drop count lines));
+      lines = b.lines ∙ sym (journal_of-one entry (drop count lines));
       count = of_length (length lines) (length (lines_of entry)) (length (drop count lines))
           (ap length b.lines ∙ length-append (lines_of entry) (drop count lines)) (length-drop count lines) n
           ∙ ap length (sym (append-nil (lines_of entry)));
@@ -477,8 +483,8 @@ pub record HasRead (g : Gate) (journal : List Line) (at : ℕ) (x : Gateway) : T
   pub count : at ≡ length (journal_of entries)
   pub gate : IsReplaying g entries x
 
-pub read_nothing : (g : Gate) (journal : List Line) (x : Gateway) → IsNew g → IsAlive g x → HasRead g journal 0 x
-read_nothing g journal x n b = record {
+pub HasRead-start : (g : Gate) (journal : List Line) (x : Gateway) → IsNew g → IsAlive g x → HasRead g journal 0 x
+HasRead-start g journal x n b = record {
   entries = [];
   lines = refl;
   count = refl;
@@ -490,15 +496,15 @@ read_nothing g journal x n b = record {
   };
 }
 
-pub reads_on : (g : Gate) (journal : List Line) (at count : ℕ) (x y : Gateway) → (w : HasRead g journal at x)
+pub HasRead-next : (g : Gate) (journal : List Line) (at count : ℕ) (x y : Gateway) → (w : HasRead g journal at x)
     → IsRecordReplayed g w.entries (drop at journal) (Some count) y → HasRead g journal (at + count) y
-reads_on g journal at count x y w r =
+HasRead-next g journal at count x y w r =
     let all : length (journal_of (w.entries ++ r.entry ∷ [])) ≡ length (journal_of w.entries) + length (journal_of (r.entry ∷ [])) =
     ap length (flat_map-append lines_of w.entries (r.entry ∷ [])) ∙ length-append (journal_of w.entries) (journal_of (r.entry ∷ [])) in
     record {
       entries = w.entries ++ r.entry ∷ [];
-      lines = w.lines ∙ (ap (λ z. journal_of w.entries ++ z) (r.lines ∙ journal_one r.entry (drop count (drop at journal)))
-          ∙ (journal_pushed w.entries r.entry (drop count (drop at journal))
+      lines = w.lines ∙ (ap (λ z. journal_of w.entries ++ z) (r.lines ∙ journal_of-one r.entry (drop count (drop at journal)))
+          ∙ (journal_of-push w.entries r.entry (drop count (drop at journal))
           ∙ ap (λ z. journal_of (w.entries ++ r.entry ∷ []) ++ z) (drop-drop count at journal)));
       count = both at count (length (journal_of w.entries)) (length (journal_of (r.entry ∷ []))) (length (journal_of (w.entries ++ r.entry ∷ []))) w.count r.count all;
       gate = r.gate;
@@ -507,26 +513,26 @@ reads_on g journal at count x y w r =
     both : (a b c d e : ℕ) → a ≡ c → b ≡ d → e ≡ c + d → a + b ≡ e
     both a b c d e h k l = omega (arith, h, k, l)
 
-pub reads_all : (g : Gate) (journal : List Line) (at : ℕ) (x : Gateway) → (w : HasRead g journal at x) → length journal ≤ at
+pub Restores-HasRead : (g : Gate) (journal : List Line) (at : ℕ) (x : Gateway) → (w : HasRead g journal at x) → length journal ≤ at
     → Restores g journal (led g w.entries w.gate.state)
-reads_all g journal at x w h = record {
+Restores-HasRead g journal at x w h = record {
   all = w.lines ∙ (ap (λ z. journal_of w.entries ++ z) (drop_all at journal h) ∙ append-nil (journal_of w.entries));
   leads = w.gate.leads;
 }
 
 -- all refusals are forgiven
-pub forgiven_here : (g : Gate) (names old : Names) → old ≡ names_of g → names ≡ record old { spent = unspent }
+pub names_of-forgiven : (g : Gate) (names old : Names) → old ≡ names_of g → names ≡ record old { spent = unspent }
     → names ≡ names_of (record g { forgiven = length g.entries })
-forgiven_here g names old b h =
+names_of-forgiven g names old b h =
     h ∙ ((λ i. record (b i) { spent = unspent })
     ∙ (λ i. record (names_of g) { spent = (none ∙ sym (ap (λ z. spent_in (names_in z)) (drop-length g.entries))) i }))
   where
     none : unspent ≡ spent_in []
     none = λ i h. None
 
-pub stops_here : (g : Gate) (journal : List Line) (at : ℕ) (x y : Gateway) → (w : HasRead g journal at x) → at < length journal
+pub IsDamagedAt-IsRecordReplayed : (g : Gate) (journal : List Line) (at : ℕ) (x y : Gateway) → (w : HasRead g journal at x) → at < length journal
     → IsRecordReplayed g w.entries (drop at journal) None y → IsDamagedAt g journal at
-stops_here g journal at x y w h r = record {
+IsDamagedAt-IsRecordReplayed g journal at x y w h r = record {
   entries = w.entries;
   gate = led g w.entries w.gate.state;
   rest = drop at journal;

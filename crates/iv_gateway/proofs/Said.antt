@@ -22,17 +22,17 @@ use Rattle.iv_clients.specs.Clients.{Client, Slots, answered, at_client, client_
 use Rattle.iv_clients.specs.Journal.{Entry, Request, claim_said, is_shared, line_said, said_by}
 use Rattle.iv_clients.specs.Kept.{Kept, Places, answering, kept, kept_slots}
 use Rattle.iv_clients.specs.Names.{Claim}
-use Rattle.iv_clients.proofs.Slots.{at_same, one_some}
+use Rattle.iv_clients.proofs.Slots.{client_at-at_client, same-Some}
 use Rattle.iv_gate.specs.Events.{message}
 use Rattle.iv_gate.specs.Gate.{Gate, acts, done_for, hears, in_session, is_heard, replies_to, reply_in, reply_to, said, shares}
 use Rattle.iv_gate.specs.Gate.{asked_by, by_verdict, carries, decided_elsewhere, decides, done_in, entered, entries_of, has_shape_room, names_of, reply_told, settles, tells}
 use Rattle.iv_gate.specs.Laws.{LeavesMarks}
-use Rattle.iv_gate.proofs.Growing.{Grown, grows}
+use Rattle.iv_gate.proofs.Growing.{Grown, Kit-Grown}
 use Rattle.iv_gate.proofs.Walking.{to_done, to_settles, to_then}
 use Rattle.iv_gateway.specs.Speaking.{Speaking, speaker_in, speaking}
 use Rattle.iv_gateway.specs.Views.{IsAlive, IsRun}
 use Rattle.iv_gateway.specs.declared.gateway.Gateway.{Gateway}
-use Rattle.iv_gateway.proofs.Keeping.{kept_answered, kept_at}
+use Rattle.iv_gateway.proofs.Keeping.{kept-answered, client_at-kept_slots}
 
 -- ---- one client
 
@@ -56,29 +56,30 @@ asked g m text = record g { clients = at_client m (saying text) g.clients }
 abbrev pub did : Gate → ℕ → Client → List ℕ → Gate
 did g m c text = settles (done_for (asked g m text) m c text (said_by text))
 
-pub there_saying : (g : Gate) (m : ℕ) (c : Client) (text : List ℕ) → client_at g.clients m ≡ Some c
+pub client_at-asked : (g : Gate) (m : ℕ) (c : Client) (text : List ℕ) → client_at g.clients m ≡ Some c
     → client_at (asked g m text).clients m ≡ Some (saying text c)
-there_saying g m c text t = at_same m (saying text) g.clients ∙ ap (option_map (saying text)) t
+client_at-asked g m c text t = client_at-at_client m (saying text) g.clients ∙ ap (option_map (saying text)) t
 
 -- of what its client was told before nothing is missing
 grown : (g : Gate) (m : ℕ) (c d : Client) (text : List ℕ) → client_at g.clients m ≡ Some c → client_at (did g m c text).clients m ≡ Some d → Grown c d
 grown g m c d text t e =
     let R : ℕ → Client → Client → Type 0 = λ i x y. Grown x y in
     let done = done_for (asked g m text) m c text (said_by text) in
-    let p = to_then m (λ i x y. Grown x y) (grows m) (asked g m text).clients done.clients (settles done).clients
-    (to_done m (λ i x y. Grown x y) (grows m) (asked g m text) c text (said_by text)) (to_settles m (λ i x y. Grown x y) (grows m) done) m (saying text c)
-    (there_saying g m c text t) in
-    let x : Grown (saying text c) d = subst (Grown (saying text c)) (one_some p.now d (sym p.there ∙ e)) p.so in
+    let p = to_then m (λ i x y. Grown x y) (Kit-Grown m) (asked g m text).clients done.clients (settles done).clients
+    (to_done m (λ i x y. Grown x y) (Kit-Grown m) (asked g m text) c text (said_by text)) (to_settles m (λ i x y. Grown x y) (Kit-Grown m) done) m
+      (saying text c)
+    (client_at-asked g m c text t) in
+    let x : Grown (saying text c) d = subst (Grown (saying text c)) (same-Some p.now d (sym p.there ∙ e)) p.so in
     record { more = x.more; handed = x.handed; sendable = x.sendable; unsynced = x.unsynced }
 
 -- others brought it no more than before
-pub stands_answered : (g : Gate) (m : ℕ) (c : Client) (text : List ℕ) (brought : ℕ) (places : Places) → client_at g.clients m ≡ Some c
+pub at_client-answering : (g : Gate) (m : ℕ) (c : Client) (text : List ℕ) (brought : ℕ) (places : Places) → client_at g.clients m ≡ Some c
     → brought ≡ (kept c).brought → places ≡ kept_slots (did g m c text).clients
     → at_client m (answering brought) places ≡ kept_slots (at_client m (answered c) (did g m c text).clients)
-stands_answered g m c text brought places t e b =
+at_client-answering g m c text brought places t e b =
     (λ i. at_client m (answering (e i)) (b i))
     ∙ keeps_one m (answered c) (answering (kept c).brought) (did g m c text).clients
-    (λ d h. let x = grown g m c d text t h in kept_answered c d x.more x.unsynced)
+    (λ d h. let x = grown g m c d text t h in kept-answered c d x.more x.unsynced)
 
 -- ---- whether it is heard
 
@@ -94,16 +95,18 @@ speaks_by g m s None e h = cc
 speaks_by g m s (Some c) e h = by (may_say c) refl h
   where
     by : (b : Bool) → may_say c ≡ b → Some s ≡ cond b (Some (speaking (kept c))) None → IsSpeaker g m s
-    by true k h = record { client = c; there = e; heard = k; same = one_some s (speaking (kept c)) h }
+    by true k h = record { client = c; there = e; heard = k; same = same-Some s (speaking (kept c)) h }
     by false k h = cc
 
-pub speaks : (g : Gate) (m : ℕ) (s : Speaking) (places : Places) → places ≡ kept_slots g.clients → Some s ≡ speaker_in (client_at places m) → IsSpeaker g m s
-speaks g m s places b h = speaks_by g m s (client_at g.clients m) refl (h ∙ ap speaker_in (ap (λ z. client_at z m) b ∙ kept_at g.clients m))
+pub IsSpeaker-speaker_in : (g : Gate) (m : ℕ) (s : Speaking) (places : Places) → places ≡ kept_slots g.clients → Some s ≡ speaker_in (client_at places m)
+    → IsSpeaker g m s
+IsSpeaker-speaker_in g m s places b h =
+    speaks_by g m s (client_at g.clients m) refl (h ∙ ap speaker_in (ap (λ z. client_at z m) b ∙ client_at-kept_slots g.clients m))
 
 -- what is done is done where it is heard
-pub said_heard : (g : Gate) (m : ℕ) (text : List ℕ) (s : Speaking) (x : Gateway) (w : IsSpeaker g m s) → IsAlive (hears g m w.client text) x
+pub IsAlive-said : (g : Gate) (m : ℕ) (text : List ℕ) (s : Speaking) (x : Gateway) (w : IsSpeaker g m s) → IsAlive (hears g m w.client text) x
     → (true ≡ is_heard g m) × IsAlive (said g m text) x
-said_heard g m text s x w a = (
+IsAlive-said g m text s x w a = (
   sym (ap (λ o. if_some o false may_say) w.there ∙ w.heard),
   subst (λ o. IsAlive (if_some o g (λ c. cond (may_say c) (hears g m c text) g)) x) (sym w.there)
       (subst (λ b. IsAlive (cond b (hears g m w.client text) g) x) (sym w.heard) a),
@@ -119,13 +122,15 @@ quiet_by g m text x (Some c) h a = by (may_say c) h
     by false h = (refl, a)
 
 -- and nothing else is
-pub said_unheard : (g : Gate) (m : ℕ) (text : List ℕ) (places : Places) (x : Gateway) → places ≡ kept_slots g.clients → None ≡ speaker_in (client_at places m)
+pub IsAlive-said_unheard : (g : Gate) (m : ℕ) (text : List ℕ) (places : Places) (x : Gateway) → places ≡ kept_slots g.clients
+    → None ≡ speaker_in (client_at places m)
     → IsAlive g x → (false ≡ is_heard g m) × IsAlive (said g m text) x
-said_unheard g m text places x b h a = quiet_by g m text x (client_at g.clients m) (h ∙ ap speaker_in (ap (λ z. client_at z m) b ∙ kept_at g.clients m)) a
+IsAlive-said_unheard g m text places x b h a =
+    quiet_by g m text x (client_at g.clients m) (h ∙ ap speaker_in (ap (λ z. client_at z m) b ∙ client_at-kept_slots g.clients m)) a
 
 -- a message kills nothing
-pub message_lives : (g : Gate) (m : ℕ) (text : List ℕ) → g.dead ≡ false → LeavesMarks g (message m text) → (said g m text).dead ≡ g.dead
-message_lives g m text h law = subst (λ b. (cond b g (said g m text)).dead ≡ g.dead) h (ap (λ (z : Gate). z.dead) law.marks)
+pub dead-said : (g : Gate) (m : ℕ) (text : List ℕ) → g.dead ≡ false → LeavesMarks g (message m text) → (said g m text).dead ≡ g.dead
+dead-said g m text h law = subst (λ b. (cond b g (said g m text)).dead ≡ g.dead) h (ap (λ (z : Gate). z.dead) law.marks)
 
 -- ---- acts
 
@@ -137,20 +142,20 @@ done_shared g m c id text act x h a =
     subst (λ b. IsAlive (cond (b || not (is_some (claim_said text))) (acts g m c id text act) (tells g m (unasked id (unknown (codes "once"))))) x) (sym h) a
 
 -- and nothing else may
-pub done_own : (g : Gate) (m : ℕ) (c : Client) (id : Option Data) (text : List ℕ) (act : Act) (x : Gateway) → is_some (claim_said text) ≡ false
+pub IsAlive-acts : (g : Gate) (m : ℕ) (c : Client) (id : Option Data) (text : List ℕ) (act : Act) (x : Gateway) → is_some (claim_said text) ≡ false
     → IsAlive (acts g m c id text act) x
     → IsAlive (done_for g m c text (request id act)) x
-done_own g m c id text act x h a =
+IsAlive-acts g m c id text act x h a =
     subst (λ b. IsAlive (cond b (acts g m c id text act) (tells g m (unasked id (unknown (codes "once"))))) x) (sym ((λ i. is_shared act || not (h i)) ∙ or_true (is_shared act))) a
   where
     or_true : (b : Bool) → (b || true) ≡ true
     or_true true = refl
     or_true false = refl
 
-pub done_named : (g : Gate) (m : ℕ) (c : Client) (id : Option Data) (text : List ℕ) (act : Act) (x : Gateway) → is_shared act ≡ false → is_some (claim_said text) ≡ true
+pub IsAlive-claim_not_shared : (g : Gate) (m : ℕ) (c : Client) (id : Option Data) (text : List ℕ) (act : Act) (x : Gateway) → is_shared act ≡ false → is_some (claim_said text) ≡ true
     → IsAlive (tells g m (unasked id (unknown (codes "once")))) x
     → IsAlive (done_for g m c text (request id act)) x
-done_named g m c id text act x h k a =
+IsAlive-claim_not_shared g m c id text act x h k a =
     subst (λ b. IsAlive (cond b (acts g m c id text act) (tells g m (unasked id (unknown (codes "once"))))) x) (sym (λ i. h i || not (k i))) a
 
 pub acts_shared : (g : Gate) (m : ℕ) (c : Client) (id : Option Data) (text : List ℕ) (act : Act) → is_shared act ≡ true
@@ -172,10 +177,10 @@ acts_shared g m c id text (drop_policy rel name) h = refl
 acts_shared g m c id text (write entries) h = refl
 
 -- by its name, in its client's role
-pub shares_as : (g : Gate) (m : ℕ) (c : Client) (id : Option Data) (text line : List ℕ) (role : Name) (claim : Option Claim) (act : Act) (x : Gateway)
+pub IsAlive-shares : (g : Gate) (m : ℕ) (c : Client) (id : Option Data) (text line : List ℕ) (role : Name) (claim : Option Claim) (act : Act) (x : Gateway)
     → is_shared act ≡ true → role ≡ c.role → line_said text ≡ line → claim_said text ≡ claim
     → IsAlive (shares g m c id (record { role = role; line = line; act = act }) claim) x → IsAlive (done_for g m c text (request id act)) x
-shares_as g m c id text line role claim act x s r l k a =
+IsAlive-shares g m c id text line role claim act x s r l k a =
     done_shared g m c id text act x s (subst (λ z. IsAlive z x)
     ((λ i. shares g m c id (record { role = r i; line = sym l i; act = act }) (sym k i)) ∙ acts_shared g m c id text act s) a)
 
@@ -208,11 +213,11 @@ told_the_same g t es id None r = refl
 told_the_same g t es id (Some a) r = refl
 
 -- the machine has answered; what the journal is to have waits for it, and the reply is told
-pub replied_first : (g : Gate) (m : ℕ) (id : Option Data) (q : Request) (name : Option Ask) (n : ℕ) (ls : List Line) (x : Gateway)
+pub IsRun-replies_to : (g : Gate) (m : ℕ) (id : Option Data) (q : Request) (name : Option Ask) (n : ℕ) (ls : List Line) (x : Gateway)
     → ls ≡ (step g.machine (in_session n q.act)).lines
     → IsAlive (replies_to (record g { machine = (step g.machine (in_session n q.act)).state }) m id q name (reply_in ls)) x
     → IsRun (replies_to g m id q name (reply_to g (in_session n q.act))) (in_session n q.act) ls x
-replied_first g m id q name n ls x l h =
+IsRun-replies_to g m id q name n ls x l h =
     let s = (step g.machine (in_session n q.act)).state in
     let r = reply_to g (in_session n q.act) in
     let es = entries_of q name (reply_to g (in_session n q.act)) in
@@ -224,9 +229,9 @@ replied_first g m id q name n ls x l h =
 
 -- ---- how it is shared
 
-pub carries_no_room : (g : Gate) (m : ℕ) (id : Option Data) (q : Request) (name : Option Ask) (x : Gateway) → has_shape_room g q.act ≡ false
+pub IsAlive-carries_no_room : (g : Gate) (m : ℕ) (id : Option Data) (q : Request) (name : Option Ask) (x : Gateway) → has_shape_room g q.act ≡ false
     → IsAlive (replies_to g m id q name (refused limit)) x → IsAlive (carries g m id q name) x
-carries_no_room g m id q name x h a =
+IsAlive-carries_no_room g m id q name x h a =
     subst (λ b. IsAlive (cond b (if_some (seat_of g.seats q.role) (replies_to g m id q name (refused no_session)) (done_in g m id q name)) (replies_to g m id q name (refused limit))) x) (sym h) a
 
 carries_by : (g : Gate) (m : ℕ) (id : Option Data) (q : Request) (name : Option Ask) (seat : Option ℕ) (x : Gateway) → has_shape_room g q.act ≡ true → seat_of g.seats q.role ≡ seat
@@ -234,38 +239,39 @@ carries_by : (g : Gate) (m : ℕ) (id : Option Data) (q : Request) (name : Optio
 carries_by g m id q name seat x h e a =
     subst (λ z. IsAlive z x) (λ i. cond (sym h i) (if_some (sym e i) (replies_to g m id q name (refused no_session)) (done_in g m id q name)) (replies_to g m id q name (refused limit))) a
 
-pub carries_no_session : (g : Gate) (m : ℕ) (id : Option Data) (q : Request) (name : Option Ask) (x : Gateway) → has_shape_room g q.act ≡ true → seat_of g.seats q.role ≡ None
+pub IsAlive-carries_no_session : (g : Gate) (m : ℕ) (id : Option Data) (q : Request) (name : Option Ask) (x : Gateway) → has_shape_room g q.act ≡ true → seat_of g.seats q.role ≡ None
     → IsAlive (replies_to g m id q name (refused no_session)) x → IsAlive (carries g m id q name) x
-carries_no_session g m id q name x h e a = carries_by g m id q name None x h e a
+IsAlive-carries_no_session g m id q name x h e a = carries_by g m id q name None x h e a
 
-pub carries_in : (g : Gate) (m : ℕ) (id : Option Data) (q : Request) (name : Option Ask) (n : ℕ) (x : Gateway) → has_shape_room g q.act ≡ true → seat_of g.seats q.role ≡ Some n
+pub IsAlive-carries : (g : Gate) (m : ℕ) (id : Option Data) (q : Request) (name : Option Ask) (n : ℕ) (x : Gateway) → has_shape_room g q.act ≡ true → seat_of g.seats q.role ≡ Some n
     → IsAlive (done_in g m id q name n) x → IsAlive (carries g m id q name) x
-carries_in g m id q name n x h e a = carries_by g m id q name (Some n) x h e a
+IsAlive-carries g m id q name n x h e a = carries_by g m id q name (Some n) x h e a
 
 -- no log is followed
-pub decides_here : (g : Gate) (m : ℕ) (id : Option Data) (q : Request) (name : Option Ask) (x : Gateway) → is_some g.head.log ≡ false
+pub IsAlive-decides : (g : Gate) (m : ℕ) (id : Option Data) (q : Request) (name : Option Ask) (x : Gateway) → is_some g.head.log ≡ false
     → IsAlive (carries g m id q name) x → IsAlive (decides g m id q name) x
-decides_here g m id q name x h a = subst (λ b. IsAlive (cond b (tells g m (decided_elsewhere id name)) (carries g m id q name)) x) (sym h) a
+IsAlive-decides g m id q name x h a = subst (λ b. IsAlive (cond b (tells g m (decided_elsewhere id name)) (carries g m id q name)) x) (sym h) a
 
-pub decides_there : (g : Gate) (m : ℕ) (id : Option Data) (q : Request) (name : Option Ask) (x : Gateway) → is_some g.head.log ≡ true
+pub IsAlive-decided_elsewhere : (g : Gate) (m : ℕ) (id : Option Data) (q : Request) (name : Option Ask) (x : Gateway) → is_some g.head.log ≡ true
     → IsAlive (tells g m (decided_elsewhere id name)) x → IsAlive (decides g m id q name) x
-decides_there g m id q name x h a = subst (λ b. IsAlive (cond b (tells g m (decided_elsewhere id name)) (carries g m id q name)) x) (sym h) a
+IsAlive-decided_elsewhere g m id q name x h a = subst (λ b. IsAlive (cond b (tells g m (decided_elsewhere id name)) (carries g m id q name)) x) (sym h) a
 
 -- a verdict of the code is the gateway's
-pub judged : (g : Gate) (a : Ask) (v w : code_once.Verdict) (x : Gateway) → v ≡ w → verdict_of v ≡ verdict (names_in_code x.names) a → IsAlive g x
+pub verdict_of-IsAlive : (g : Gate) (a : Ask) (v w : code_once.Verdict) (x : Gateway) → v ≡ w → verdict_of v ≡ verdict (names_in_code x.names) a → IsAlive g x
     → verdict_of w ≡ verdict (names_of g) a
-judged g a v w x e h b = ap verdict_of (sym e) ∙ (h ∙ ap (λ n. verdict n a) b.names)
+verdict_of-IsAlive g a v w x e h b = ap verdict_of (sym e) ∙ (h ∙ ap (λ n. verdict n a) b.names)
 
-pub decided_so : (g : Gate) (m : ℕ) (id : Option Data) (q : Request) (a : Ask) (v : Verdict) (x : Gateway) → v ≡ verdict (names_of g) a
+pub IsAlive-by_verdict : (g : Gate) (m : ℕ) (id : Option Data) (q : Request) (a : Ask) (v : Verdict) (x : Gateway) → v ≡ verdict (names_of g) a
     → IsAlive (by_verdict g m id q a v) x → IsAlive (by_verdict g m id q a (verdict (names_of g) a)) x
-decided_so g m id q a v x e b = subst (λ z. IsAlive (by_verdict g m id q a z) x) e b
+IsAlive-by_verdict g m id q a v x e b = subst (λ z. IsAlive (by_verdict g m id q a z) x) e b
 
 -- with a name, and without
-pub shares_plain : (g : Gate) (m : ℕ) (c : Client) (id : Option Data) (q : Request) (claim : Option Claim) (x : Gateway) → claim ≡ None
+pub IsAlive-shares_plain : (g : Gate) (m : ℕ) (c : Client) (id : Option Data) (q : Request) (claim : Option Claim) (x : Gateway) → claim ≡ None
     → IsAlive (decides g m id q None) x → IsAlive (shares g m c id q claim) x
-shares_plain g m c id q claim x e a = subst (λ k. IsAlive (shares g m c id q k) x) (sym e) a
+IsAlive-shares_plain g m c id q claim x e a = subst (λ k. IsAlive (shares g m c id q k) x) (sym e) a
 
-pub shares_named : (g : Gate) (m : ℕ) (c : Client) (id : Option Data) (q : Request) (claim : Option Claim) (k : Claim) (a : Ask) (x : Gateway) → claim ≡ Some k
+pub IsAlive-shares_named : (g : Gate) (m : ℕ) (c : Client) (id : Option Data) (q : Request) (claim : Option Claim) (k : Claim) (a : Ask) (x : Gateway)
+    → claim ≡ Some k
     → a ≡ asked_by c q.line k → IsAlive (by_verdict g m id q a (verdict (names_of g) a)) x → IsAlive (shares g m c id q claim) x
-shares_named g m c id q claim k a x e s h =
+IsAlive-shares_named g m c id q claim k a x e s h =
     subst (λ z. IsAlive (shares g m c id q z) x) (sym e) (subst (λ z. IsAlive (by_verdict g m id q z (verdict (names_of g) z)) x) s h)

@@ -11,29 +11,30 @@ use Rattle.iv_clients.specs.Kept.{Places, has_role_in, kept_slots}
 use Rattle.iv_gate.specs.Gate.{Gate, all_rested, begun_for, has_session, in_session, is_accepted, is_needed, reply_to, rested, seated, with_session}
 use Rattle.iv_gateway.specs.Views.{IsAlive, IsSeated}
 use Rattle.iv_gateway.specs.declared.gateway.Gateway.{Gateway}
-use Rattle.iv_gateway.proofs.Keeping.{has_role_kept}
+use Rattle.iv_gateway.proofs.Keeping.{has_role_in-kept_slots}
 
 -- ---- which are there
 
-pub session_there : (g : Gate) (role : Name) (o : Option ℕ) (x : Gateway) → o ≡ seat_of g.seats role → is_some o ≡ true → IsAlive g x
+pub IsAlive-with_session_there : (g : Gate) (role : Name) (o : Option ℕ) (x : Gateway) → o ≡ seat_of g.seats role → is_some o ≡ true → IsAlive g x
     → (true ≡ has_session g role) × IsAlive (with_session g role) x
-session_there g role (Some n) x e h b =
+IsAlive-with_session_there g role (Some n) x e h b =
     (ap (λ z. is_some z || is_some (begun_for g role)) e, subst (λ z. IsAlive (if_some z (if_some (begun_for g role) g (λ k. seated g k role)) (λ k. g)) x) e b)
-session_there g role None x e h b = cc
+IsAlive-with_session_there g role None x e h b = cc
 
-pub session_none : (g : Gate) (role : Name) (o : Option ℕ) (x : Gateway) → o ≡ seat_of g.seats role → is_some o ≡ false → IsSeated g role None x
+pub IsAlive-not_seated : (g : Gate) (role : Name) (o : Option ℕ) (x : Gateway) → o ≡ seat_of g.seats role → is_some o ≡ false → IsSeated g role None x
     → (false ≡ has_session g role) × IsAlive (with_session g role) x
-session_none g role (Some n) x e h s = cc
-session_none g role None x e h s = (
+IsAlive-not_seated g role (Some n) x e h s = cc
+IsAlive-not_seated g role None x e h s = (
   λ i. is_some (e i) || is_some (sym s.0 i),
   subst (λ z. IsAlive (if_some z (if_some (begun_for g role) g (λ k. seated g k role)) (λ k. g)) x) e
       (subst (λ z. IsAlive (if_some z g (λ k. seated g k role)) x) (sym s.0) s.1),
 )
 
-pub session_some : (g : Gate) (role : Name) (o : Option ℕ) (n : ℕ) (x : Gateway) → o ≡ seat_of g.seats role → is_some o ≡ false → IsSeated g role (Some n) x
+pub IsAlive-with_session_seated : (g : Gate) (role : Name) (o : Option ℕ) (n : ℕ) (x : Gateway) → o ≡ seat_of g.seats role → is_some o ≡ false
+    → IsSeated g role (Some n) x
     → (true ≡ has_session g role) × IsAlive (with_session g role) x
-session_some g role (Some k) n x e h s = cc
-session_some g role None n x e h s = (
+IsAlive-with_session_seated g role (Some k) n x e h s = cc
+IsAlive-with_session_seated g role None n x e h s = (
   λ i. is_some (e i) || is_some (sym s.0 i),
   subst (λ z. IsAlive (if_some z (if_some (begun_for g role) g (λ k. seated g k role)) (λ k. g)) x) e
       (subst (λ z. IsAlive (if_some z g (λ k. seated g k role)) x) (sym s.0) s.1),
@@ -42,24 +43,26 @@ session_some g role None n x e h s = (
 pub begun_none : (g : Gate) (role : Name) → next_seat g.seats ≡ None → begun_for g role ≡ None
 begun_none g role e = ap (option_and_then (λ n. cond (is_accepted (reply_to g (in_session n (begin role)))) (Some n) None)) e
 
-pub begun_by : (g : Gate) (role : Name) (n : ℕ) (b : Bool) → next_seat g.seats ≡ Some n → is_accepted (reply_to g (in_session n (begin role))) ≡ b
+pub begun_for-next_seat : (g : Gate) (role : Name) (n : ℕ) (b : Bool) → next_seat g.seats ≡ Some n → is_accepted (reply_to g (in_session n (begin role))) ≡ b
     → begun_for g role ≡ cond b (Some n) None
-begun_by g role n b e h = ap (option_and_then (λ n. cond (is_accepted (reply_to g (in_session n (begin role)))) (Some n) None)) e
+begun_for-next_seat g role n b e h = ap (option_and_then (λ n. cond (is_accepted (reply_to g (in_session n (begin role)))) (Some n) None)) e
     ∙ ap (λ z. cond z (Some n) None) h
 
 -- ---- which are needed
 
-pub needed_yes : (g : Gate) (s : Seat) (places : Places) (a : Bool) → places ≡ kept_slots g.clients → a ≡ has_role_in s.role places → a ≡ true
+pub is_needed-has_role : (g : Gate) (s : Seat) (places : Places) (a : Bool) → places ≡ kept_slots g.clients → a ≡ has_role_in s.role places → a ≡ true
     → a ≡ is_needed g s
-needed_yes g s places a b e h =
-    h ∙ ap (λ z. z || list_any (λ (f : Feed). s.session == f.session) g.feeds) (sym h ∙ (e ∙ (ap (has_role_in s.role) b ∙ has_role_kept s.role g.clients)))
+is_needed-has_role g s places a b e h =
+    h ∙ ap (λ z. z || list_any (λ (f : Feed). s.session == f.session) g.feeds)
+      (sym h ∙ (e ∙ (ap (has_role_in s.role) b ∙ has_role_in-kept_slots s.role g.clients)))
 
-pub needed_no : (g : Gate) (s : Seat) (places : Places) (feeds : List Feed) (a r : Bool) → places ≡ kept_slots g.clients → feeds ≡ g.feeds
+pub is_needed-no_role : (g : Gate) (s : Seat) (places : Places) (feeds : List Feed) (a r : Bool) → places ≡ kept_slots g.clients → feeds ≡ g.feeds
     → a ≡ has_role_in s.role places → a ≡ false
     → r ≡ list_any (λ (f : Feed). s.session == f.session) feeds → r ≡ is_needed g s
-needed_no g s places feeds a r b d e h k =
+is_needed-no_role g s places feeds a r b d e h k =
     k ∙ (ap (list_any (λ (f : Feed). s.session == f.session)) d
-    ∙ ap (λ z. z || list_any (λ (f : Feed). s.session == f.session) g.feeds) (sym h ∙ (e ∙ (ap (has_role_in s.role) b ∙ has_role_kept s.role g.clients))))
+    ∙ ap (λ z. z || list_any (λ (f : Feed). s.session == f.session) g.feeds)
+      (sym h ∙ (e ∙ (ap (has_role_in s.role) b ∙ has_role_in-kept_slots s.role g.clients))))
 
 -- behind the code stands a gateway that the rest of the sessions leads to where all lead
 pub record IsResting (g : Gate) (ss rest : List Seat) (x : Gateway) : Type 0 where
@@ -67,10 +70,10 @@ pub record IsResting (g : Gate) (ss rest : List Seat) (x : Gateway) : Type 0 whe
   pub gate : IsAlive now x
   pub leads : all_rested now rest ≡ all_rested g ss
 
-pub rest_next : (g : Gate) (ss : List Seat) (i : ℕ) (s : Seat) (x y : Gateway) → i < length ss → s ≡ get_or ss i s → IsResting g ss (drop i ss) x
+pub IsResting-next : (g : Gate) (ss : List Seat) (i : ℕ) (s : Seat) (x y : Gateway) → i < length ss → s ≡ get_or ss i s → IsResting g ss (drop i ss) x
     → ((h : Gate) → IsAlive h x → IsAlive (rested h s) y)
     → IsResting g ss (drop (i + 1) ss) y
-rest_next g ss i s x y lt is w step = record {
+IsResting-next g ss i s x y lt is w step = record {
   now = rested w.now s;
   gate = step w.now w.gate;
   leads =
@@ -78,5 +81,5 @@ rest_next g ss i s x y lt is w step = record {
       ap (all_rested w.now) (sym cut) ∙ w.leads;
 }
 
-pub rest_end : (g : Gate) (ss : List Seat) (i : ℕ) (x : Gateway) → drop i ss ≡ [] → IsResting g ss (drop i ss) x → IsAlive (all_rested g ss) x
-rest_end g ss i x e w = subst (λ z. IsAlive z x) (ap (all_rested w.now) (sym e) ∙ w.leads) w.gate
+pub IsAlive-all_rested : (g : Gate) (ss : List Seat) (i : ℕ) (x : Gateway) → drop i ss ≡ [] → IsResting g ss (drop i ss) x → IsAlive (all_rested g ss) x
+IsAlive-all_rested g ss i x e w = subst (λ z. IsAlive z x) (ap (all_rested w.now) (sym e) ∙ w.leads) w.gate

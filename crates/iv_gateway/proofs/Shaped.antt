@@ -11,16 +11,16 @@ use Rattle.iv_clients.specs.Journal.{Entry, Request, is_shape, shape_for, shape_
 use Rattle.iv_clients.specs.Kept.{Kept, Places, coming, holding, holding_all, kept, kept_slots}
 use Rattle.iv_clients.specs.Tokens.{Token}
 use Rattle.iv_gate.specs.Gate.{Gate, informs, shape_text}
-use Rattle.iv_gate.proofs.Shaping.{shape_both, told_itself}
+use Rattle.iv_gate.proofs.Shaping.{shape_of-append, told_itself}
 use Rattle.iv_gateway.specs.Granting.{holding_for}
 use Rattle.iv_gateway.specs.Shaping.{greeting_text, is_admin, shape_in}
-use Rattle.iv_gateway.proofs.Granted.{held_all, same_all, still_all}
-use Rattle.iv_gateway.proofs.Keeping.{keeps_all, kept_telling, nonempty}
+use Rattle.iv_gateway.proofs.Granted.{holding_all-holding, at_all-same, at_all-identity}
+use Rattle.iv_gateway.proofs.Keeping.{at_all-kept_slots, kept-telling, length-told_text}
 
 -- ---- text
 
-pub shape_more : (es fs : List Entry) → shape_text (es ++ fs) ≡ shape_text es ++ shape_text fs
-shape_more es fs = ap (flat_map told_text) (shape_both es fs) ∙ flat_map-append told_text (shape_of es) (shape_of fs)
+pub shape_text-append : (es fs : List Entry) → shape_text (es ++ fs) ≡ shape_text es ++ shape_text fs
+shape_text-append es fs = ap (flat_map told_text) (shape_of-append es fs) ∙ flat_map-append told_text (shape_of es) (shape_of fs)
 
 pub one_shape : (q : Request) → is_shape q.act ≡ true → told_text (made q.role q.line) ≡ shape_in q
 one_shape q h = sym (append-nil (told_text (made q.role q.line))) ∙ ap (λ b. flat_map told_text (map (λ (x : Request). made x.role x.line) (cond b (q ∷ []) [])))
@@ -51,8 +51,8 @@ greeting_is es role at =
     ap (λ z. told_text (welcome role) ++ (told_text (placed at) ++ z))
     (flat_map-append told_text (shape_for role es) (settled ∷ []) ∙ (λ i. shape_for_text role es i ++ append-nil (told_text settled) i))
 
-pub kept_fresh : (es : List Entry) (t : Token) (at : List ℕ) → kept (fresh es t at) ≡ coming t.role t.user t.digest (greeting_text t.role at (shape_text es))
-kept_fresh es t at i = record (coming t.role t.user t.digest (greeting_text t.role at (shape_text es))) {
+pub kept-fresh : (es : List Entry) (t : Token) (at : List ℕ) → kept (fresh es t at) ≡ coming t.role t.user t.digest (greeting_text t.role at (shape_text es))
+kept-fresh es t at i = record (coming t.role t.user t.digest (greeting_text t.role at (shape_text es))) {
   unsynced = (itself_text es (greeting es t.role at) ∙ greeting_is es t.role at) i;
   brought = length (text_shown (itself_brought es (greeting es t.role at) i));
 }
@@ -61,7 +61,7 @@ kept_fresh es t at i = record (coming t.role t.user t.digest (greeting_text t.ro
 
 -- what it makes is told to those whose role it is for
 one_told : (ts : List Told) (b : Bool) (t : Told) (k : Kept) → cond b (holding (flat_map told_text (t ∷ ts)) k) k ≡ holding_all (cond b (t ∷ ts) []) k
-one_told ts true t k = sym (held_all ts (told_text t) k)
+one_told ts true t k = sym (holding_all-holding ts (told_text t) k)
 one_told ts false t k = refl
 
 none_told : (b : Bool) (k : Kept) → k ≡ holding_all (cond b [] []) k
@@ -80,26 +80,29 @@ some_shape (t ∷ ts) h b k = one_told ts b t k
 empty_shape : ((t : Told) → IsLine (told_text t)) → (ts : List Told) → (length (flat_map told_text ts) == 0) ≡ true → (b : Bool) (k : Kept)
     → k ≡ holding_all (cond b ts []) k
 empty_shape law [] h b k = none_told b k
-empty_shape law (t ∷ ts) h b k = absurd (false≢true (sym (nonempty t (flat_map told_text ts) (law t)) ∙ h))
+empty_shape law (t ∷ ts) h b k = absurd (false≢true (sym (length-told_text t (flat_map told_text ts) (law t)) ∙ h))
 
-pub informs_some : (es : List Entry) (places : Places) → (length (shape_text es) == 0) ≡ false
+pub at_all-told_shape : (es : List Entry) (places : Places) → (length (shape_text es) == 0) ≡ false
     → at_all (holding_for is_admin (shape_text es)) places ≡ at_all (told_shape es) places
-informs_some es places h = same_all (holding_for is_admin (shape_text es)) (told_shape es) (λ k. some_shape (shape_of es) h (is_admin k.role) k) places
+at_all-told_shape es places h = at_all-same (holding_for is_admin (shape_text es)) (told_shape es) (λ k. some_shape (shape_of es) h (is_admin k.role) k) places
 
-pub informs_empty : ((t : Told) → IsLine (told_text t)) → (es : List Entry) (places : Places) → (length (shape_text es) == 0) ≡ true
+pub at_all-told_shape_empty : ((t : Told) → IsLine (told_text t)) → (es : List Entry) (places : Places) → (length (shape_text es) == 0) ≡ true
     → places ≡ at_all (told_shape es) places
-informs_empty law es places h = still_all places ∙ same_all (λ k. k) (told_shape es) (λ k. empty_shape law (shape_of es) h (is_admin k.role) k) places
+at_all-told_shape_empty law es places h =
+    at_all-identity places ∙ at_all-same (λ k. k) (told_shape es) (λ k. empty_shape law (shape_of es) h (is_admin k.role) k) places
 
 pub stands_informed : (all es : List Entry) (slots : Slots) (places : Places) → places ≡ kept_slots slots
     → at_all (told_shape es) places ≡ kept_slots (at_all (λ c. telling all (shape_for c.role es) c) slots)
 stands_informed all es slots places b =
-    ap (at_all (told_shape es)) b ∙ keeps_all (λ c. telling all (shape_for c.role es) c) (told_shape es) (λ c. kept_telling all (shape_for c.role es) c) slots
+    ap (at_all (told_shape es)) b ∙ at_all-kept_slots (λ c. telling all (shape_for c.role es) c) (told_shape es)
+      (λ c. kept-telling all (shape_for c.role es) c) slots
 
-pub stands_as : (g : Gate) (es : List Entry) (places now : Places) → places ≡ kept_slots g.clients → now ≡ at_all (told_shape es) places
+pub kept_slots-informs : (g : Gate) (es : List Entry) (places now : Places) → places ≡ kept_slots g.clients → now ≡ at_all (told_shape es) places
     → now ≡ kept_slots (informs g es).clients
-stands_as g es places now b n = n ∙ stands_informed g.entries es g.clients places b
+kept_slots-informs g es places now b n = n ∙ stands_informed g.entries es g.clients places b
 
 -- ---- what the code keeps of it
 
-pub shape_added : (es fs : List Entry) (old new text : List ℕ) → old ≡ shape_text es → text ≡ shape_text fs → new ≡ old ++ text → new ≡ shape_text (es ++ fs)
-shape_added es fs old new text o t n = n ∙ ((λ i. o i ++ t i) ∙ sym (shape_more es fs))
+pub shape_text-added : (es fs : List Entry) (old new text : List ℕ) → old ≡ shape_text es → text ≡ shape_text fs → new ≡ old ++ text
+    → new ≡ shape_text (es ++ fs)
+shape_text-added es fs old new text o t n = n ∙ ((λ i. o i ++ t i) ∙ sym (shape_text-append es fs))

@@ -8,19 +8,19 @@ use Rattle.iv_clients.specs.Feeds.{Feed}
 use Rattle.iv_clients.specs.Journal.{Entry}
 use Rattle.iv_clients.specs.Kept.{Places, holding, holding_all, holding_owed, keeping_on, kept, kept_slots}
 use Rattle.iv_hall.specs.Hearing.{hearing_lines}
-use Rattle.iv_gateway.proofs.Keeping.{keeps_all, keeps_at, kept_one, kept_settling, kept_telling}
+use Rattle.iv_gateway.proofs.Keeping.{at_all-kept_slots, at_client-kept_slots, kept-told_one, kept-settling, kept-telling}
 
-pub stands_told : (es : List Entry) (slots : Slots) (places : Places) (m : ℕ) (t : Told) (text : List ℕ) → told_text t ≡ text → places ≡ kept_slots slots
+pub at_client-told_one : (es : List Entry) (slots : Slots) (places : Places) (m : ℕ) (t : Told) (text : List ℕ) → told_text t ≡ text → places ≡ kept_slots slots
     → at_client m (holding text) places ≡ kept_slots (at_client m (told_one es t) slots)
-stands_told es slots places m t text e b =
+at_client-told_one es slots places m t text e b =
     ap (λ z. at_client m (holding z) places) (sym e) ∙ (ap (at_client m (holding (told_text t))) b
-    ∙ keeps_at m (told_one es t) (holding (told_text t)) (kept_one es t) slots)
+    ∙ at_client-kept_slots m (told_one es t) (holding (told_text t)) (kept-told_one es t) slots)
 
-pub stands_settled : (es : List Entry) (slots : Slots) (places : Places) (text : List ℕ) → text ≡ told_text settled → places ≡ kept_slots slots
+pub at_all-settling : (es : List Entry) (slots : Slots) (places : Places) (text : List ℕ) → text ≡ told_text settled → places ≡ kept_slots slots
     → at_all (holding_owed text) places ≡ kept_slots (at_all (settling es) slots)
-stands_settled es slots places text e b =
+at_all-settling es slots places text e b =
     ap (λ z. at_all (holding_owed z) places) e ∙ (ap (at_all (holding_owed (told_text settled))) b
-    ∙ keeps_all (settling es) (holding_owed (told_text settled)) (kept_settling es) slots)
+    ∙ at_all-kept_slots (settling es) (holding_owed (told_text settled)) (kept-settling es) slots)
 
 -- ---- lines
 
@@ -32,22 +32,22 @@ twice : (f h : Client → Client) (slots : Slots) → at_all f (at_all h slots) 
 twice f h [] = refl
 twice f h (o ∷ os) = λ i. twice_slot f h o i ∷ twice f h os i
 
-pub no_grants : (b : Bool) (names : List Name) → names ≡ [] → cond b (map granted names) [] ≡ []
-no_grants true names e = ap (map granted) e
-no_grants false names e = refl
+pub cond-no_grants : (b : Bool) (names : List Name) → names ≡ [] → cond b (map granted names) [] ≡ []
+cond-no_grants true names e = ap (map granted) e
+cond-no_grants false names e = refl
 
-pub stands_heard : (es : List Entry) (feeds : List Feed) (ls : List Line) (more : Client → List Told) → ((c : Client) → more c ≡ [])
+pub kept_slots-heard : (es : List Entry) (feeds : List Feed) (ls : List Line) (more : Client → List Told) → ((c : Client) → more c ≡ [])
     → (slots : Slots) (places : Places) → places ≡ kept_slots slots
     → at_all (keeping_on ls) (at_all (hearing_lines feeds ls) places) ≡ kept_slots
     (at_all (λ c. staying ls (telling es (own_lines feeds ls c.subs ++ more c) c)) slots)
-stands_heard es feeds ls more none slots places b =
+kept_slots-heard es feeds ls more none slots places b =
     ap (λ z. at_all (keeping_on ls) (at_all (hearing_lines feeds ls) z)) b
-    ∙ (ap (at_all (keeping_on ls)) (keeps_all tells_all (hearing_lines feeds ls) one slots)
-    ∙ (keeps_all (staying ls) (keeping_on ls) (λ c. refl) (at_all tells_all slots) ∙ ap kept_slots (twice (staying ls) tells_all slots)))
+    ∙ (ap (at_all (keeping_on ls)) (at_all-kept_slots tells_all (hearing_lines feeds ls) one slots)
+    ∙ (at_all-kept_slots (staying ls) (keeping_on ls) (λ c. refl) (at_all tells_all slots) ∙ ap kept_slots (twice (staying ls) tells_all slots)))
   where
     tells_all : Client → Client
     tells_all c = telling es (own_lines feeds ls c.subs ++ more c) c
 
     one : (c : Client) → kept (tells_all c) ≡ hearing_lines feeds ls (kept c)
-    one c = kept_telling es (own_lines feeds ls c.subs ++ more c) c
+    one c = kept-telling es (own_lines feeds ls c.subs ++ more c) c
         ∙ ap (λ z. holding_all z (kept c)) (ap (λ z. own_lines feeds ls c.subs ++ z) (none c) ∙ append-nil (own_lines feeds ls c.subs))

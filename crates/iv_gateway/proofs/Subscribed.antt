@@ -21,13 +21,14 @@ use Rattle.iv_gateway.specs.Reading.{Double, doubled, own_next, reads_further}
 use Rattle.iv_gateway.specs.Views.{IsAlive, IsRun, opening_of}
 use Rattle.iv_gateway.specs.declared.gateway.Gateway.{Gateway}
 use Rattle.iv_gateway.specs.declared.seats.Opening.TheVariants as opening
-use Rattle.iv_gateway.proofs.Keeping.{kept_at}
-use Rattle.iv_gateway.proofs.Swept.{same_some}
+use Rattle.iv_gateway.proofs.Keeping.{client_at-kept_slots}
+use Rattle.iv_gateway.proofs.Swept.{same-Some}
 
 -- ---- its next number
 
-pub next_kept : (g : Gate) (m : ℕ) (places : Places) → places ≡ kept_slots g.clients → own_next places m ≡ next_own g m
-next_kept g m places b = ap (λ z. own_next z m) b ∙ (ap (λ o. if_some o 0 (λ (k : Kept). k.given + 1)) (kept_at g.clients m) ∙ by (client_at g.clients m))
+pub own_next-next_own : (g : Gate) (m : ℕ) (places : Places) → places ≡ kept_slots g.clients → own_next places m ≡ next_own g m
+own_next-next_own g m places b =
+    ap (λ z. own_next z m) b ∙ (ap (λ o. if_some o 0 (λ (k : Kept). k.given + 1)) (client_at-kept_slots g.clients m) ∙ by (client_at g.clients m))
   where
     by : (o : Option Client) → if_some (option_map kept o) 0 (λ (k : Kept). k.given + 1) ≡ if_some o 0 (λ (c : Client). c.given + 1)
     by None = refl
@@ -45,13 +46,13 @@ columns_left s n rel = ap (λ catalog. columns_in (record s { frame = record s.f
     (catalog_by s n rel (refusal s n (subscribe rel)))
 
 -- the machine has answered, and the feed is begun: so it is begun, and the machine has answered
-pub begun_run : (g : Gate) (m : ℕ) (id : Option Data) (n : ℕ) (role rel : Name) (r : Reply) (ls : List Line) (x : Gateway)
+pub IsRun-feed_begun : (g : Gate) (m : ℕ) (id : Option Data) (n : ℕ) (role rel : Name) (r : Reply) (ls : List Line) (x : Gateway)
     → ls ≡ (step g.machine (in_session n (subscribe rel))).lines
     → IsAlive (feed_begun (record g { machine = (step g.machine (in_session n (subscribe rel))).state }) m id n role rel r) x
     → IsRun (feed_begun g m id n role rel r) (in_session n (subscribe rel)) ls x
-begun_run g m id n role rel done ls x e a = record { lines = e; gate = a }
-begun_run g m id n role rel (refused r) ls x e a = record { lines = e; gate = a }
-begun_run g m id n role rel (subscribed t) ls x e a = record {
+IsRun-feed_begun g m id n role rel done ls x e a = record { lines = e; gate = a }
+IsRun-feed_begun g m id n role rel (refused r) ls x e a = record { lines = e; gate = a }
+IsRun-feed_begun g m id n role rel (subscribed t) ls x e a = record {
   lines = e;
   gate = subst
       (λ (columns : List Column). IsAlive (record g {
@@ -62,11 +63,11 @@ begun_run g m id n role rel (subscribed t) ls x e a = record {
       (columns_left g.machine n rel) a;
 }
 
-pub begins_some : (g : Gate) (m : ℕ) (id : Option Data) (n : ℕ) (role rel : Name) (t : ℕ) (r : Reply) (x : Gateway) → opening_of r ≡ opening.Subscribed t
+pub IsAlive-feed_begun : (g : Gate) (m : ℕ) (id : Option Data) (n : ℕ) (role rel : Name) (t : ℕ) (r : Reply) (x : Gateway) → opening_of r ≡ opening.Subscribed t
     → IsAlive (feed_begun g m id n role rel (subscribed t)) x → IsAlive (feed_begun g m id n role rel r) x
-begins_some g m id n role rel t done x e a = cc
-begins_some g m id n role rel t (refused r) x e a = cc
-begins_some g m id n role rel t (subscribed k) x e a = let same : k ≡ t = cc in
+IsAlive-feed_begun g m id n role rel t done x e a = cc
+IsAlive-feed_begun g m id n role rel t (refused r) x e a = cc
+IsAlive-feed_begun g m id n role rel t (subscribed k) x e a = let same : k ≡ t = cc in
     subst (λ z. IsAlive (feed_begun g m id n role rel (subscribed z)) x) (sym same) a
 
 pub begins_done : (g : Gate) (m : ℕ) (id : Option Data) (n : ℕ) (role rel : Name) (r : Reply) (x : Gateway) → opening_of r ≡ opening.Done
@@ -100,58 +101,60 @@ joins_two g m None p x d e none some = none (sym e)
 joins_two g m (Some t) None x d e none some = none (sym e)
 joins_two g m (Some t) (Some k) x d e none some = joined_by_pair g m t k x (is_reading t.role t.rel k && not (t.number == k.number)) d e none some
 
-pub joins_none : (g : Gate) (m : ℕ) (o p : Option Feed) (x : Gateway) → doubled o p ≡ None → IsAlive g x → IsAlive (joined g m o p) x
-joins_none g m o p x e a = joins_two g m o p x None e (λ z. a) (λ n i j f z s q. cc)
+pub IsAlive-joined_none : (g : Gate) (m : ℕ) (o p : Option Feed) (x : Gateway) → doubled o p ≡ None → IsAlive g x → IsAlive (joined g m o p) x
+IsAlive-joined_none g m o p x e a = joins_two g m o p x None e (λ z. a) (λ n i j f z s q. cc)
 
-pub joins_some : (g : Gate) (m : ℕ) (o p : Option Feed) (x : Gateway) (n i j : ℕ) → doubled o p ≡ Some (n, i, j)
+pub IsAlive-joined : (g : Gate) (m : ℕ) (o p : Option Feed) (x : Gateway) (n i j : ℕ) → doubled o p ≡ Some (n, i, j)
     → ((f : Feed) → f.session ≡ n → f.number ≡ i → IsAlive (shut (record g { clients = at_client m (moved i j) g.clients }) f) x) → IsAlive (joined g m o p) x
-joins_some g m o p x n i j e a = joins_two g m o p x (Some (n, i, j)) e (λ z. cc) some
+IsAlive-joined g m o p x n i j e a = joins_two g m o p x (Some (n, i, j)) e (λ z. cc) some
   where
     some : (n' i' j' : ℕ) (f : Feed) → ◌≡◌ {A = Option Double} (Some (n, i, j)) (Some (n', i', j')) → f.session ≡ n' → f.number ≡ i'
         → IsAlive (shut (record g { clients = at_client m (moved i' j') g.clients }) f) x
     some n' i' j' f z s q =
-        let same : ◌≡◌ {A = Double} (n, i, j) (n', i', j') = same_some {X = Double} (n, i, j) (n', i', j') z in
+        let same : ◌≡◌ {A = Double} (n, i, j) (n', i', j') = same-Some {X = Double} (n, i, j) (n', i', j') z in
         subst (λ (d : Double). IsAlive (shut (record g { clients = at_client m (moved d.1 d.2) g.clients }) f) x) same
         (a f (s ∙ sym (ap (λ (d : Double). d.0) same)) (q ∙ sym (ap (λ (d : Double). d.1) same)))
 
-pub joins_opened : (g : Gate) (m k t : ℕ) (r : Reply) (x : Gateway) → opening.Subscribed t ≡ opening_of r
+pub IsAlive-joined_by_Subscribed : (g : Gate) (m k t : ℕ) (r : Reply) (x : Gateway) → opening.Subscribed t ≡ opening_of r
     → IsAlive (joined g m (feed_of g.feeds t) (feed_of g.feeds k)) x → IsAlive (joined_by g m k r) x
-joins_opened g m k t done x e a = cc
-joins_opened g m k t (refused r) x e a = cc
-joins_opened g m k t (subscribed j) x e a = let same : t ≡ j = cc in subst (λ z. IsAlive (joined g m (feed_of g.feeds z) (feed_of g.feeds k)) x) same a
+IsAlive-joined_by_Subscribed g m k t done x e a = cc
+IsAlive-joined_by_Subscribed g m k t (refused r) x e a = cc
+IsAlive-joined_by_Subscribed g m k t (subscribed j) x e a =
+    let same : t ≡ j = cc in subst (λ z. IsAlive (joined g m (feed_of g.feeds z) (feed_of g.feeds k)) x) same a
 
-pub joins_done : (g : Gate) (m k : ℕ) (r : Reply) (x : Gateway) → opening.Done ≡ opening_of r → IsAlive g x → IsAlive (joined_by g m k r) x
-joins_done g m k done x e a = a
-joins_done g m k (refused r) x e a = a
-joins_done g m k (subscribed j) x e a = cc
+pub IsAlive-joined_by_Done : (g : Gate) (m k : ℕ) (r : Reply) (x : Gateway) → opening.Done ≡ opening_of r → IsAlive g x → IsAlive (joined_by g m k r) x
+IsAlive-joined_by_Done g m k done x e a = a
+IsAlive-joined_by_Done g m k (refused r) x e a = a
+IsAlive-joined_by_Done g m k (subscribed j) x e a = cc
 
-pub joins_refused : (g : Gate) (m k : ℕ) (r : Reply) (x : Gateway) → opening.Refused ≡ opening_of r → IsAlive g x → IsAlive (joined_by g m k r) x
-joins_refused g m k done x e a = a
-joins_refused g m k (refused r) x e a = a
-joins_refused g m k (subscribed j) x e a = cc
+pub IsAlive-joined_by_Refused : (g : Gate) (m k : ℕ) (r : Reply) (x : Gateway) → opening.Refused ≡ opening_of r → IsAlive g x → IsAlive (joined_by g m k r) x
+IsAlive-joined_by_Refused g m k done x e a = a
+IsAlive-joined_by_Refused g m k (refused r) x e a = a
+IsAlive-joined_by_Refused g m k (subscribed j) x e a = cc
 
 -- ---- where it is opened
 
-pub reads_in_room : (g : Gate) (m : ℕ) (id : Option Data) (role rel : Name) (n : ℕ) (x : Gateway) → room_for g.seats g.feeds role ≡ Some n
+pub IsAlive-reads_first : (g : Gate) (m : ℕ) (id : Option Data) (role rel : Name) (n : ℕ) (x : Gateway) → room_for g.seats g.feeds role ≡ Some n
     → IsAlive (subscribes g m id n role rel) x
     → IsAlive (reads_first g m id role rel) x
-reads_in_room g m id role rel n x e a = subst (λ o. IsAlive (if_some o (reads_further g m id role rel) (λ k. subscribes g m id k role rel)) x) (sym e) a
+IsAlive-reads_first g m id role rel n x e a = subst (λ o. IsAlive (if_some o (reads_further g m id role rel) (λ k. subscribes g m id k role rel)) x) (sym e) a
 
-pub reads_no_room : (g : Gate) (m : ℕ) (id : Option Data) (role rel : Name) (x : Gateway) → room_for g.seats g.feeds role ≡ None
+pub IsAlive-reads_first_no_room : (g : Gate) (m : ℕ) (id : Option Data) (role rel : Name) (x : Gateway) → room_for g.seats g.feeds role ≡ None
     → IsAlive (reads_further g m id role rel) x
     → IsAlive (reads_first g m id role rel) x
-reads_no_room g m id role rel x e a = subst (λ o. IsAlive (if_some o (reads_further g m id role rel) (λ k. subscribes g m id k role rel)) x) (sym e) a
+IsAlive-reads_first_no_room g m id role rel x e a =
+    subst (λ o. IsAlive (if_some o (reads_further g m id role rel) (λ k. subscribes g m id k role rel)) x) (sym e) a
 
-pub reads_seated : (g : Gate) (m : ℕ) (id : Option Data) (role rel : Name) (n : ℕ) (x : Gateway) → begun_for g role ≡ Some n
+pub IsAlive-reads_further : (g : Gate) (m : ℕ) (id : Option Data) (role rel : Name) (n : ℕ) (x : Gateway) → begun_for g role ≡ Some n
     → IsAlive (subscribes (seated g n role) m id n role rel) x
     → IsAlive (reads_further g m id role rel) x
-reads_seated g m id role rel n x e a =
+IsAlive-reads_further g m id role rel n x e a =
     subst (λ o. IsAlive (if_some o (tells g m (replied id (refused too_many))) (λ k. subscribes (seated g k role) m id k role rel)) x) (sym e) a
 
-pub reads_unseated : (g : Gate) (m : ℕ) (id : Option Data) (role rel : Name) (x : Gateway) → begun_for g role ≡ None
+pub IsAlive-reads_further_unseated : (g : Gate) (m : ℕ) (id : Option Data) (role rel : Name) (x : Gateway) → begun_for g role ≡ None
     → IsAlive (tells g m (replied id (refused too_many))) x
     → IsAlive (reads_further g m id role rel) x
-reads_unseated g m id role rel x e a =
+IsAlive-reads_further_unseated g m id role rel x e a =
     subst (λ o. IsAlive (if_some o (tells g m (replied id (refused too_many))) (λ k. subscribes (seated g k role) m id k role rel)) x) (sym e) a
 
 -- ---- what a client asks
@@ -166,10 +169,10 @@ reads_by : (g : Gate) (m : ℕ) (c : Client) (id : Option Data) (subs : ℕ) (ro
     → IsAlive (reads g m c id rel) x
 reads_by g m c id subs role rel x e l a = subst (λ h. IsAlive h x) (λ i. reading g m id (sym l i) (sym e i) rel) a
 
-pub reads_full : (g : Gate) (m : ℕ) (c : Client) (id : Option Data) (subs : ℕ) (role rel : Name) (x : Gateway) → c.role ≡ role → length c.subs ≡ subs
+pub IsAlive-reads_full : (g : Gate) (m : ℕ) (c : Client) (id : Option Data) (subs : ℕ) (role rel : Name) (x : Gateway) → c.role ≡ role → length c.subs ≡ subs
     → nat_lt subs most_subs ≡ false
     → IsAlive (tells g m (replied id (refused too_many))) x → IsAlive (reads g m c id rel) x
-reads_full g m c id subs role rel x e l h a =
+IsAlive-reads_full g m c id subs role rel x e l h a =
     reads_by g m c id subs role rel x e l
     (subst (λ b. IsAlive (cond b (if_some (feed_for g.feeds role rel) (reads_first g m id role rel) (joins g m id)) (tells g m (replied id (refused too_many))))
     x) (sym h) a)
@@ -189,10 +192,10 @@ none_there : (o : Option Feed) → option_map {U = ℕ × ℕ} place o ≡ None 
 none_there None h = refl
 none_there (Some f) h = cc
 
-pub reads_new : (g : Gate) (m : ℕ) (c : Client) (id : Option Data) (subs : ℕ) (role rel : Name) (x : Gateway) → c.role ≡ role → length c.subs ≡ subs
+pub IsAlive-reads_new : (g : Gate) (m : ℕ) (c : Client) (id : Option Data) (subs : ℕ) (role rel : Name) (x : Gateway) → c.role ≡ role → length c.subs ≡ subs
     → nat_lt subs most_subs ≡ true
     → option_map {U = ℕ × ℕ} place (feed_for g.feeds role rel) ≡ None → IsAlive (reads_first g m id role rel) x → IsAlive (reads g m c id rel) x
-reads_new g m c id subs role rel x e l h f a =
+IsAlive-reads_new g m c id subs role rel x e l h f a =
     reads_placed g m c id subs role rel x e l h
     (subst (λ o. IsAlive (if_some o (reads_first g m id role rel) (joins g m id)) x) (sym (none_there (feed_for g.feeds role rel) f)) a)
 
@@ -201,7 +204,7 @@ passes_found p [] x h = cc
 passes_found p (y ∷ ys) x h = by (p y) refl h (passes_found p ys x)
   where
     by : (b : Bool) → p y ≡ b → cond b (Some y) (find p ys) ≡ Some x → (find p ys ≡ Some x → p x ≡ true) → p x ≡ true
-    by true e f more = ap p (sym (same_some y x f)) ∙ e
+    by true e f more = ap p (sym (same-Some y x f)) ∙ e
     by false e f more = more f
 
 and_first : (b c : Bool) → (b && c) ≡ true → b ≡ true
@@ -227,13 +230,13 @@ joins_found : (g : Gate) (m : ℕ) (id : Option Data) (role rel : Name) (n k : �
     → IsAlive (if_some o (reads_first g m id role rel) (joins g m id)) x
 joins_found g m id role rel n k x None e h a = cc
 joins_found g m id role rel n k x (Some f) e h a =
-    let same : place f ≡ (n, k) = same_some (place f) (n, k) h in
+    let same : place f ≡ (n, k) = same-Some (place f) (n, k) h in
     joins_feed g m id role rel n k x f (passes_found (is_reading role rel) g.feeds f e) (ap (λ (p : ℕ × ℕ). p.0) same) (ap (λ (p : ℕ × ℕ). p.1) same) a
 
-pub reads_shared : (g : Gate) (m : ℕ) (c : Client) (id : Option Data) (subs : ℕ) (role rel : Name) (n k : ℕ) (x : Gateway) → c.role ≡ role
+pub IsAlive-reads_shared : (g : Gate) (m : ℕ) (c : Client) (id : Option Data) (subs : ℕ) (role rel : Name) (n k : ℕ) (x : Gateway) → c.role ≡ role
     → length c.subs ≡ subs → nat_lt subs most_subs ≡ true
     → option_map {U = ℕ × ℕ} place (feed_for g.feeds role rel) ≡ Some (n, k)
     → IsAlive (joined_by (subscribes g m id n role rel) m k (reply_to g (in_session n (subscribe rel)))) x
     → IsAlive (reads g m c id rel) x
-reads_shared g m c id subs role rel n k x e l h f a =
+IsAlive-reads_shared g m c id subs role rel n k x e l h f a =
     reads_placed g m c id subs role rel x e l h (joins_found g m id role rel n k x (feed_for g.feeds role rel) refl f a)

@@ -8,8 +8,8 @@ use Rattle.iv_gate.specs.Gate.{Gate, all_swept, shut, swept}
 use Rattle.iv_gateway.specs.Views.{IsAlive}
 use Rattle.iv_gateway.specs.declared.gateway.Gateway.{Gateway}
 
-pub swept_followed : (g : Gate) (k : ℕ) (x : Gateway) (b : Bool) → b ≡ is_followed k g.clients → b ≡ true → IsAlive g x → IsAlive (swept g k) x
-swept_followed g k x b e h a = subst (λ z. IsAlive (cond z g (if_some (feed_of g.feeds k) g (shut g))) x) (sym h ∙ e) a
+pub IsAlive-swept_followed : (g : Gate) (k : ℕ) (x : Gateway) (b : Bool) → b ≡ is_followed k g.clients → b ≡ true → IsAlive g x → IsAlive (swept g k) x
+IsAlive-swept_followed g k x b e h a = subst (λ z. IsAlive (cond z g (if_some (feed_of g.feeds k) g (shut g))) x) (sym h ∙ e) a
 
 swept_by : (g : Gate) (k : ℕ) (x : Gateway) (b : Bool) → b ≡ is_followed k g.clients → b ≡ false → (o : Option Feed) → o ≡ feed_of g.feeds k
     → IsAlive (if_some o g (shut g)) x → IsAlive (swept g k) x
@@ -21,15 +21,15 @@ pub swept_none : (g : Gate) (k : ℕ) (x : Gateway) (b : Bool) → b ≡ is_foll
 swept_none g k x b e h None d p a = swept_by g k x b e h None d a
 swept_none g k x b e h (Some f) d p a = cc
 
-pub same_some : {X : Type 0} (a b : X) → Some a ≡ Some b → a ≡ b
-same_some a b h = cc
+pub same-Some : {X : Type 0} (a b : X) → Some a ≡ Some b → a ≡ b
+same-Some a b h = cc
 
-pub swept_shut : (g : Gate) (k : ℕ) (x : Gateway) (b : Bool) (n j : ℕ) → b ≡ is_followed k g.clients → b ≡ false → (o : Option Feed) → o ≡ feed_of g.feeds k
+pub IsAlive-swept : (g : Gate) (k : ℕ) (x : Gateway) (b : Bool) (n j : ℕ) → b ≡ is_followed k g.clients → b ≡ false → (o : Option Feed) → o ≡ feed_of g.feeds k
     → option_map {U = ℕ × ℕ} (λ f. (f.session, f.number)) o ≡ Some (n, j) → ((f : Feed) → f.session ≡ n → f.number ≡ j → IsAlive (shut g f) x)
     → IsAlive (swept g k) x
-swept_shut g k x b n j e h None d p a = cc
-swept_shut g k x b n j e h (Some f) d p a =
-    let q = same_some (f.session, f.number) (n, j) p in
+IsAlive-swept g k x b n j e h None d p a = cc
+IsAlive-swept g k x b n j e h (Some f) d p a =
+    let q = same-Some (f.session, f.number) (n, j) p in
     swept_by g k x b e h (Some f) d (a f (ap (λ (z : ℕ × ℕ). z.0) q) (ap (λ (z : ℕ × ℕ). z.1) q))
 
 -- behind the code stands a gateway that the rest of the numbers leads to where all lead
@@ -38,10 +38,10 @@ pub record IsSweeping (g : Gate) (ks rest : List ℕ) (x : Gateway) : Type 0 whe
   pub gate : IsAlive now x
   pub leads : all_swept now rest ≡ all_swept g ks
 
-pub sweep_next : (g : Gate) (ks : List ℕ) (i : ℕ) (x y : Gateway) → i < length ks → IsSweeping g ks (drop i ks) x
+pub IsSweeping-next : (g : Gate) (ks : List ℕ) (i : ℕ) (x y : Gateway) → i < length ks → IsSweeping g ks (drop i ks) x
     → ((h : Gate) → IsAlive h x → IsAlive (swept h (get_or ks i 0)) y)
     → IsSweeping g ks (drop (i + 1) ks) y
-sweep_next g ks i x y lt w step = record {
+IsSweeping-next g ks i x y lt w step = record {
   now = swept w.now (get_or ks i 0);
   gate = step w.now w.gate;
   leads =
@@ -49,5 +49,5 @@ sweep_next g ks i x y lt w step = record {
       ap (all_swept w.now) (sym cut) ∙ w.leads;
 }
 
-pub sweep_end : (g : Gate) (ks : List ℕ) (i : ℕ) (x : Gateway) → drop i ks ≡ [] → IsSweeping g ks (drop i ks) x → IsAlive (all_swept g ks) x
-sweep_end g ks i x e w = subst (λ z. IsAlive z x) (ap (all_swept w.now) (sym e) ∙ w.leads) w.gate
+pub IsAlive-all_swept : (g : Gate) (ks : List ℕ) (i : ℕ) (x : Gateway) → drop i ks ≡ [] → IsSweeping g ks (drop i ks) x → IsAlive (all_swept g ks) x
+IsAlive-all_swept g ks i x e w = subst (λ z. IsAlive z x) (ap (all_swept w.now) (sym e) ∙ w.leads) w.gate

@@ -14,10 +14,10 @@ use Rattle.std.proofs.lemmas.Map.Views.{Contains-from_any}
 use Rattle.iv_rows.specs.Options.{if_some}
 use Rattle.iv_clients.specs.Clients.{Sub, client_at}
 use Rattle.iv_clients.specs.Kept.{Kept, Places, is_following}
-use Rattle.iv_clients.proofs.Slots.{any_there, one_there}
+use Rattle.iv_clients.proofs.Slots.{list_any-client_at, IsThere-list_any}
 use Rattle.iv_hall.specs.Listing.{AreThose, is_so_at}
 use Rattle.iv_hall.specs.Readers.{HasAll, HasJoined, HasKept, HasLeft, HasQuit, IsReader, Readers, readers_of}
-use Rattle.iv_hall.proofs.Walked.{found}
+use Rattle.iv_hall.proofs.Walked.{list_any-get_or}
 
 -- ---- one list of numbers
 
@@ -66,7 +66,7 @@ found_kept q (n ∷ ns) m h k = by (cases_Bool (q n)) (or_cases (eqb m n) (list_
 -- others than n are there without n
 pub still_there : (n : ℕ) (ns : List ℕ) (m : ℕ) → (m ≡ n → ⊥) → Contains ns m → Contains (filter (λ z. not (n == z)) ns) m
 still_there n ns m ne c = Contains-from_any eqb-true m (filter (λ z. not (n == z)) ns)
-    (found_kept (λ z. not (n == z)) ns m (found m ns c.0 c.1 c.2) (ap not (ne_eqb n m (λ e. ne (sym e)))))
+    (found_kept (λ z. not (n == z)) ns m (list_any-get_or m ns c.0 c.1 c.2) (ap not (ne_eqb n m (λ e. ne (sym e)))))
 
 found_left : (q : ℕ → Bool) (ns : List ℕ) (m : ℕ) → list_any (eqb m) (filter q ns) ≡ true → (list_any (eqb m) ns ≡ true) × (q m ≡ true)
 found_left q [] m h = absurd (false≢true h)
@@ -87,11 +87,11 @@ found_left q (n ∷ ns) m h = by (cases_Bool (q n)) (λ x. found_left q ns m x)
 
 -- those without n were there before, and n is not
 pub there_before : (n : ℕ) (ns : List ℕ) (m : ℕ) → Contains (filter (λ z. not (n == z)) ns) m → Contains ns m
-there_before n ns m c = Contains-from_any eqb-true m ns (found_left (λ z. not (n == z)) ns m (found m (filter (λ z. not (n == z)) ns) c.0 c.1 c.2)).0
+there_before n ns m c = Contains-from_any eqb-true m ns (found_left (λ z. not (n == z)) ns m (list_any-get_or m (filter (λ z. not (n == z)) ns) c.0 c.1 c.2)).0
 
 pub not_there : (n : ℕ) (ns : List ℕ) → Contains (filter (λ z. not (n == z)) ns) n → ⊥
 not_there n ns c =
-    let k = (found_left (λ z. not (n == z)) ns n (found n (filter (λ z. not (n == z)) ns) c.0 c.1 c.2)).1 in
+    let k = (found_left (λ z. not (n == z)) ns n (list_any-get_or n (filter (λ z. not (n == z)) ns) c.0 c.1 c.2)).1 in
     false≢true (sym (ap not (eq-eqb n n refl)) ∙ k)
 
 -- numbers by their test
@@ -107,27 +107,27 @@ number_laws = record {
     flips x y (inr ne) = ne_eqb x y ne ∙ sym (ne_eqb y x (λ e. ne (sym e)))
 
 -- one number more, which is not there, leaves each once
-pub once_more : (ns : List ℕ) (n : ℕ) → IsDistinct eqb ns → list_any (eqb n) ns ≡ false → IsDistinct eqb (ns ++ n ∷ [])
-once_more ns n d h = IsDistinct-push number_laws ns n d h
+pub IsDistinct-push_number : (ns : List ℕ) (n : ℕ) → IsDistinct eqb ns → list_any (eqb n) ns ≡ false → IsDistinct eqb (ns ++ n ∷ [])
+IsDistinct-push_number ns n d h = IsDistinct-push number_laws ns n d h
 
-pub all_filter : {X : Type 0} (P : X → Type 0) (q : X → Bool) (ns : List X) → AllByRecursion P ns → AllByRecursion P (filter q ns)
-all_filter P q [] h = h
-all_filter P q (n ∷ ns) h = by (q n) (all_filter P q ns h.1)
+pub AllByRecursion-filter : {X : Type 0} (P : X → Type 0) (q : X → Bool) (ns : List X) → AllByRecursion P ns → AllByRecursion P (filter q ns)
+AllByRecursion-filter P q [] h = h
+AllByRecursion-filter P q (n ∷ ns) h = by (q n) (AllByRecursion-filter P q ns h.1)
   where
     by : (b : Bool) → AllByRecursion P (filter q ns) → AllByRecursion P (cond b (n ∷ filter q ns) (filter q ns))
     by true rest = (h.0, rest)
     by false rest = rest
 
-pub once_left : (q : ℕ → Bool) (ns : List ℕ) → IsDistinct eqb ns → IsDistinct eqb (filter q ns)
-once_left q [] d = d
-once_left q (n ∷ ns) d = by (q n) (once_left q ns (IsDistinct-tail eqb n ns d))
+pub IsDistinct-filter : (q : ℕ → Bool) (ns : List ℕ) → IsDistinct eqb ns → IsDistinct eqb (filter q ns)
+IsDistinct-filter q [] d = d
+IsDistinct-filter q (n ∷ ns) d = by (q n) (IsDistinct-filter q ns (IsDistinct-tail eqb n ns d))
   where
     by : (b : Bool) → IsDistinct eqb (filter q ns) → IsDistinct eqb (cond b (n ∷ filter q ns) (filter q ns))
-    by true rest = IsDistinct-cons eqb n (filter q ns) (all_filter (λ y. eqb n y ≡ false) q ns (IsDistinct-head eqb n ns d)) rest
+    by true rest = IsDistinct-cons eqb n (filter q ns) (AllByRecursion-filter (λ y. eqb n y ≡ false) q ns (IsDistinct-head eqb n ns d)) rest
     by false rest = rest
 
-pub once_none : IsDistinct eqb []
-once_none = IsDistinct-from_apart eqb [] (λ i j d lt h. absurd (let none : ⊥ = omega (arith, h) in none))
+pub IsDistinct-none : IsDistinct eqb []
+IsDistinct-none = IsDistinct-from_apart eqb [] (λ i j d lt h. absurd (let none : ⊥ = omega (arith, h) in none))
 
 -- ---- lists by feeds
 
@@ -180,9 +180,9 @@ of_other_set rs feed at r now k e is same ne =
     ap (λ o. if_some o [] (λ (x : Readers). x.numbers)) (find_past (λ (x : Readers). k == x.feed) rs at now r
     (ap (λ (x : Readers). k == x.feed) (sym is) ∙ ne_eqb k r.feed (λ x. ne (x ∙ sym f))) (ne_eqb k now.feed (λ x. ne (x ∙ (same ∙ sym f)))))
 
-pub joins_at : (rs : List Readers) (feed at n : ℕ) (r now : Readers) → position (λ x. feed == x.feed) rs ≡ Some at → r ≡ get_or rs at r
+pub HasJoined-set : (rs : List Readers) (feed at n : ℕ) (r now : Readers) → position (λ x. feed == x.feed) rs ≡ Some at → r ≡ get_or rs at r
     → now ≡ record { feed = r.feed; numbers = with_number n r.numbers } → HasJoined feed n rs (set rs at now)
-joins_at rs feed at n r now e is same = record {
+HasJoined-set rs feed at n r now e is same = record {
   joined = subst (λ ns. Contains ns n) (sym after) (has_number n r.numbers);
   kept = λ k m c. kept k m c (cases_eq k feed);
   only = λ k m c. only k m c (cases_eq k feed);
@@ -207,8 +207,8 @@ joins_at rs feed at n r now e is same = record {
         by (inl h) = inl (subst (λ ns. Contains ns m) (sym (ap (readers_of rs) x ∙ of_feed rs feed at r e is)) h)
         by (inr h) = inr (x, h)
 
-pub nobody : (m : ℕ) → Contains [] m → ⊥
-nobody m c = let h = c.1 in omega (arith, h)
+pub not_Contains-none : (m : ℕ) → Contains [] m → ⊥
+not_Contains-none m c = let h = c.1 in omega (arith, h)
 
 -- who has no list has no readers
 pub none_of : (rs : List Readers) (feed : ℕ) → position (λ x. feed == x.feed) rs ≡ None → readers_of rs feed ≡ []
@@ -219,9 +219,9 @@ none_of rs feed e =
     (of_none (nat_lt (position_or_len p rs) (length rs)) (position_or_len p rs) e)))
 
 -- where the feed has no list yet
-pub joins_new : (rs : List Readers) (feed n : ℕ) (now : Readers) → position (λ x. feed == x.feed) rs ≡ None → now ≡ record { feed = feed; numbers = n ∷ [] }
+pub HasJoined-new : (rs : List Readers) (feed n : ℕ) (now : Readers) → position (λ x. feed == x.feed) rs ≡ None → now ≡ record { feed = feed; numbers = n ∷ [] }
     → HasJoined feed n rs (now ∷ rs)
-joins_new rs feed n now e same = record {
+HasJoined-new rs feed n now e same = record {
   joined = subst (λ ns. Contains ns n) (sym after) (zero, omega arith, refl);
   kept = λ k m c. kept k m c (cases_eq k feed);
   only = λ k m c. only k m c (cases_eq k feed);
@@ -238,7 +238,7 @@ joins_new rs feed n now e same = record {
         (ne_eqb k now.feed (λ z. x (z ∙ ap (λ (y : Readers). y.feed) same)))
 
     kept : (k m : ℕ) → Contains (readers_of rs k) m → (k ≡ feed) ⊎ (k ≡ feed → ⊥) → Contains (readers_of (now ∷ rs) k) m
-    kept k m c (inl x) = absurd (nobody m (subst (λ ns. Contains ns m) (ap (readers_of rs) x ∙ none_of rs feed e) c))
+    kept k m c (inl x) = absurd (not_Contains-none m (subst (λ ns. Contains ns m) (ap (readers_of rs) x ∙ none_of rs feed e) c))
     kept k m c (inr x) = subst (λ ns. Contains ns m) (sym (other k x)) c
 
     only : (k m : ℕ) → Contains (readers_of (now ∷ rs) k) m → (k ≡ feed) ⊎ (k ≡ feed → ⊥) → Contains (readers_of rs k) m ⊎ ((k ≡ feed) × (m ≡ n))
@@ -252,9 +252,9 @@ joins_new rs feed n now e same = record {
         sole : (p : ℕ) → Contains (n ∷ []) p → p ≡ n
         sole p h = at p h.0 h.1 h.2
 
-pub quits_at : (rs : List Readers) (feed at n : ℕ) (r now : Readers) → position (λ x. feed == x.feed) rs ≡ Some at → r ≡ get_or rs at r
+pub HasQuit-set : (rs : List Readers) (feed at n : ℕ) (r now : Readers) → position (λ x. feed == x.feed) rs ≡ Some at → r ≡ get_or rs at r
     → now ≡ record { feed = r.feed; numbers = filter (λ m. not (n == m)) r.numbers } → HasQuit feed n rs (set rs at now)
-quits_at rs feed at n r now e is same = record {
+HasQuit-set rs feed at n r now e is same = record {
   gone = λ c. not_there n r.numbers (subst (λ ns. Contains ns n) after c);
   kept = λ k m ne c. kept k m ne c (cases_eq k feed);
   only = λ k m c. only k m c (cases_eq k feed);
@@ -280,16 +280,16 @@ quits_at rs feed at n r now e is same = record {
         (there_before n r.numbers m (subst (λ ns. Contains ns m) (ap (readers_of (set rs at now)) x ∙ after) c))
     only k m c (inr x) = subst (λ ns. Contains ns m) (other k x) c
 
--- who has no list has nobody who could go
-pub quits_none : (rs : List Readers) (feed n : ℕ) → position (λ x. feed == x.feed) rs ≡ None → HasQuit feed n rs rs
-quits_none rs feed n e = record {
-  gone = λ c. nobody n (subst (λ ns. Contains ns n) (none_of rs feed e) c);
+-- who has no list has not_Contains-none who could go
+pub HasQuit-none : (rs : List Readers) (feed n : ℕ) → position (λ x. feed == x.feed) rs ≡ None → HasQuit feed n rs rs
+HasQuit-none rs feed n e = record {
+  gone = λ c. not_Contains-none n (subst (λ ns. Contains ns n) (none_of rs feed e) c);
   kept = λ k m ne c. c;
   only = λ k m c. c;
 }
 
-pub quits_then : (feed n : ℕ) (rs mid left : List Readers) → HasQuit feed n rs mid → HasAll mid left → HasQuit feed n rs left
-quits_then feed n rs mid left q a = record {
+pub HasQuit-HasAll : (feed n : ℕ) (rs mid left : List Readers) → HasQuit feed n rs mid → HasAll mid left → HasQuit feed n rs left
+HasQuit-HasAll feed n rs mid left q a = record {
   gone = λ c. q.gone (a.only feed n c);
   kept = λ k m ne c. a.kept k m (q.kept k m ne c);
   only = λ k m c. q.only k m (a.only k m c);
@@ -297,14 +297,14 @@ quits_then feed n rs mid left q a = record {
 
 -- ---- of some feeds
 
-pub left_none : (n : ℕ) (rs : List Readers) → HasLeft n (λ k. list_any (λ (s : Sub). k == s.feed) []) rs rs
-left_none n rs = record { gone = λ k h. absurd (false≢true h); kept = λ k m ne c. c; only = λ k m c. c }
+pub HasLeft-none : (n : ℕ) (rs : List Readers) → HasLeft n (λ k. list_any (λ (s : Sub). k == s.feed) []) rs rs
+HasLeft-none n rs = record { gone = λ k h. absurd (false≢true h); kept = λ k m ne c. c; only = λ k m c. c }
 
 -- one feed more
-pub left_next : (n : ℕ) (subs : List Sub) (i : ℕ) (s : Sub) (feed : ℕ) (rs mid left : List Readers) → i < length subs → s ≡ get_or subs i s → feed ≡ s.feed
+pub HasLeft-next : (n : ℕ) (subs : List Sub) (i : ℕ) (s : Sub) (feed : ℕ) (rs mid left : List Readers) → i < length subs → s ≡ get_or subs i s → feed ≡ s.feed
     → HasLeft n (λ k. list_any (λ (x : Sub). k == x.feed) (take i subs)) rs mid → HasQuit feed n mid left
     → HasLeft n (λ k. list_any (λ (x : Sub). k == x.feed) (take (i + 1) subs)) rs left
-left_next n subs i s feed rs mid left lt is of l q = record {
+HasLeft-next n subs i s feed rs mid left lt is of l q = record {
   gone = λ k h c. gone k (or_cases (list_any (λ (x : Sub). k == x.feed) (take i subs)) ((k == s.feed) || false) (sym (parts k) ∙ h)) c;
   kept = λ k m ne c. q.kept k m (λ p. ne p.1) (l.kept k m ne c);
   only = λ k m c. l.only k m (q.only k m c);
@@ -324,9 +324,9 @@ left_next n subs i s feed rs mid left lt is of l q = record {
     gone k (inr h) c = q.gone (subst (λ z. Contains (readers_of left z) n) (last k (or_cases (k == s.feed) false h)) c)
 
 -- of all feeds that a client follows
-pub left_of : (n : ℕ) (xs : Places) (subs : List Sub) (rs left : List Readers) → subs ≡ if_some (client_at xs n) [] (λ (k : Kept). k.subs)
+pub HasLeft-is_so_at : (n : ℕ) (xs : Places) (subs : List Sub) (rs left : List Readers) → subs ≡ if_some (client_at xs n) [] (λ (k : Kept). k.subs)
     → HasLeft n (λ k. list_any (λ (s : Sub). k == s.feed) subs) rs left → HasLeft n (λ k. is_so_at (is_following k) xs n) rs left
-left_of n xs subs rs left e l = record {
+HasLeft-is_so_at n xs subs rs left e l = record {
   gone = λ k h. l.gone k (ap (list_any (λ (s : Sub). k == s.feed)) e ∙ (any k (client_at xs n) ∙ h));
   kept = l.kept;
   only = l.only;
@@ -338,9 +338,9 @@ left_of n xs subs rs left e l = record {
 
 -- ---- whether one reads a feed
 
-pub reads_then : (feed n : ℕ) (xs : Places) (rs left : List Readers) → is_so_at (is_following feed) xs n ≡ true → HasJoined feed n rs left
+pub IsReader-HasJoined : (feed n : ℕ) (xs : Places) (rs left : List Readers) → is_so_at (is_following feed) xs n ≡ true → HasJoined feed n rs left
     → IsReader n feed xs rs left
-reads_then feed n xs rs left is j = record {
+IsReader-HasJoined feed n xs rs left is j = record {
   put = λ h. j.joined;
   only = λ c. is;
   kept = λ k m ne c. j.kept k m c;
@@ -351,9 +351,9 @@ reads_then feed n xs rs left is j = record {
     by k m ne (inl c) = c
     by k m ne (inr p) = absurd (ne p)
 
-pub keeps_but : (n feed : ℕ) (xs : Places) (rs left : List Readers) → is_so_at (is_following feed) xs n ≡ false → HasQuit feed n rs left
+pub HasKept-HasQuit : (n feed : ℕ) (xs : Places) (rs left : List Readers) → is_so_at (is_following feed) xs n ≡ false → HasQuit feed n rs left
     → HasKept n (Some feed) xs rs left
-keeps_but n feed xs rs left is q = record {
+HasKept-HasQuit n feed xs rs left is q = record {
   gone = λ k e h c. q.gone (let same : feed ≡ k = cc in subst (λ z. Contains (readers_of left z) n) (sym same) c);
   kept = λ k m ne c. q.kept k m (λ p. ne (p.1, ap (λ z. is_so_at (is_following z) xs n) p.0 ∙ is)) c;
   only = q.only;
@@ -364,9 +364,9 @@ none_in [] h = refl
 none_in (n ∷ ns) h = absurd (let e : suc (length ns) ≡ 0 = eqb-true (suc (length ns)) 0 h in let none : ⊥ = omega (arith, e) in none)
 
 -- without a feed all others are as before
-pub others_left : (rs : List Readers) (feed k : ℕ) → (k ≡ feed → ⊥) → readers_of (filter (λ r. not (feed == r.feed)) rs) k ≡ readers_of rs k
-others_left [] feed k ne = refl
-others_left (r ∷ rs) feed k ne = by (cases_Bool (feed == r.feed)) (others_left rs feed k ne)
+pub readers_of-filter_other : (rs : List Readers) (feed k : ℕ) → (k ≡ feed → ⊥) → readers_of (filter (λ r. not (feed == r.feed)) rs) k ≡ readers_of rs k
+readers_of-filter_other [] feed k ne = refl
+readers_of-filter_other (r ∷ rs) feed k ne = by (cases_Bool (feed == r.feed)) (readers_of-filter_other rs feed k ne)
   where
     one : (b : Bool) → readers_of (filter (λ x. not (feed == x.feed)) rs) k ≡ readers_of rs k
         → if_some (cond b (Some r) (find (λ (x : Readers). k == x.feed) (filter (λ x. not (feed == x.feed)) rs))) [] (λ (x : Readers). x.numbers) ≡ if_some
@@ -385,10 +385,10 @@ others_left (r ∷ rs) feed k ne = by (cases_Bool (feed == r.feed)) (others_left
         ap (λ b. readers_of (cond (not b) (r ∷ filter (λ x. not (feed == x.feed)) rs) (filter (λ x. not (feed == x.feed)) rs)) k) e
         ∙ one (k == r.feed) rest
 
--- and nobody reads that one
-pub none_left : (rs : List Readers) (feed : ℕ) → readers_of (filter (λ r. not (feed == r.feed)) rs) feed ≡ []
-none_left [] feed = refl
-none_left (r ∷ rs) feed = by (cases_Bool (feed == r.feed)) (none_left rs feed)
+-- and not_Contains-none reads that one
+pub readers_of-filter_own : (rs : List Readers) (feed : ℕ) → readers_of (filter (λ r. not (feed == r.feed)) rs) feed ≡ []
+readers_of-filter_own [] feed = refl
+readers_of-filter_own (r ∷ rs) feed = by (cases_Bool (feed == r.feed)) (readers_of-filter_own rs feed)
   where
     by : ((feed == r.feed) ≡ true) ⊎ ((feed == r.feed) ≡ false) → readers_of (filter (λ x. not (feed == x.feed)) rs) feed ≡ []
         → readers_of (cond (not (feed == r.feed)) (r ∷ filter (λ x. not (feed == x.feed)) rs) (filter (λ x. not (feed == x.feed)) rs)) feed ≡ []
@@ -401,20 +401,21 @@ none_left (r ∷ rs) feed = by (cases_Bool (feed == r.feed)) (none_left rs feed)
         ∙ rest)
 
 -- a feed with no readers may go
-pub without_empty : (rs left : List Readers) (feed : ℕ) → (length (readers_of rs feed) == 0) ≡ true → left ≡ filter (λ r. not (feed == r.feed)) rs
+pub HasAll-filter : (rs left : List Readers) (feed : ℕ) → (length (readers_of rs feed) == 0) ≡ true → left ≡ filter (λ r. not (feed == r.feed)) rs
     → HasAll rs left
-without_empty rs left feed e gone = subst (λ z. HasAll rs z) (sym gone) (record {
+HasAll-filter rs left feed e gone = subst (λ z. HasAll rs z) (sym gone) (record {
   kept = λ k m c. kept k m c (cases_eq k feed);
   only = λ k m c. only k m c (cases_eq k feed);
 })
   where
     kept : (k m : ℕ) → Contains (readers_of rs k) m → (k ≡ feed) ⊎ (k ≡ feed → ⊥) → Contains (readers_of (filter (λ r. not (feed == r.feed)) rs) k) m
-    kept k m c (inl x) = absurd (nobody m (subst (λ ns. Contains ns m) (ap (readers_of rs) x ∙ none_in (readers_of rs feed) e) c))
-    kept k m c (inr x) = subst (λ ns. Contains ns m) (sym (others_left rs feed k x)) c
+    kept k m c (inl x) = absurd (not_Contains-none m (subst (λ ns. Contains ns m) (ap (readers_of rs) x ∙ none_in (readers_of rs feed) e) c))
+    kept k m c (inr x) = subst (λ ns. Contains ns m) (sym (readers_of-filter_other rs feed k x)) c
 
     only : (k m : ℕ) → Contains (readers_of (filter (λ r. not (feed == r.feed)) rs) k) m → (k ≡ feed) ⊎ (k ≡ feed → ⊥) → Contains (readers_of rs k) m
-    only k m c (inl x) = absurd (nobody m (subst (λ ns. Contains ns m) (ap (readers_of (filter (λ r. not (feed == r.feed)) rs)) x ∙ none_left rs feed) c))
-    only k m c (inr x) = subst (λ ns. Contains ns m) (others_left rs feed k x) c
+    only k m c (inl x) =
+      absurd (not_Contains-none m (subst (λ ns. Contains ns m) (ap (readers_of (filter (λ r. not (feed == r.feed)) rs)) x ∙ readers_of-filter_own rs feed) c))
+    only k m c (inr x) = subst (λ ns. Contains ns m) (readers_of-filter_other rs feed k x) c
 
 -- ---- whether somebody follows
 
@@ -427,7 +428,7 @@ any_numbers p xs (n ∷ ns) h = by (or_cases (if_some (client_at xs n) false p) 
     by : (if_some (client_at xs n) false p ≡ true) ⊎ (list_any (λ m. if_some (client_at xs m) false p) ns ≡ true)
         → (list_any (λ m. if_some (client_at xs m) false p) ns ≡ true → list_any (λ x. if_some x false p) xs ≡ true)
         → list_any (λ x. if_some x false p) xs ≡ true
-    by (inl e) rest = any_there p xs n e
+    by (inl e) rest = list_any-client_at p xs n e
     by (inr e) rest = rest e
 
 in_numbers : (q : ℕ → Bool) (ns : List ℕ) (m : ℕ) → list_any (eqb m) ns ≡ true → q m ≡ true → list_any q ns ≡ true
@@ -439,8 +440,8 @@ in_numbers q (n ∷ ns) m h k = by (or_cases (eqb m n) (list_any (eqb m) ns) h) 
     by (inr e) rest = or_right (q n) (list_any q ns) (rest e)
 
 -- where those of whom it is so are listed, it is so of some listed one if it is so of some
-pub any_listed : (p : Kept → Bool) (ns : List ℕ) (xs : Places) → AreThose p ns xs → list_any (is_so_at p xs) ns ≡ list_any (λ x. if_some x false p) xs
-any_listed p ns xs those = by (cases_Bool (list_any (is_so_at p xs) ns)) (cases_Bool (list_any (λ x. if_some x false p) xs))
+pub list_any-AreThose : (p : Kept → Bool) (ns : List ℕ) (xs : Places) → AreThose p ns xs → list_any (is_so_at p xs) ns ≡ list_any (λ x. if_some x false p) xs
+list_any-AreThose p ns xs those = by (cases_Bool (list_any (is_so_at p xs) ns)) (cases_Bool (list_any (λ x. if_some x false p) xs))
   where
     by : (list_any (is_so_at p xs) ns ≡ true) ⊎ (list_any (is_so_at p xs) ns ≡ false)
         → (list_any (λ x. if_some x false p) xs ≡ true) ⊎ (list_any (λ x. if_some x false p) xs ≡ false)
@@ -448,7 +449,7 @@ any_listed p ns xs those = by (cases_Bool (list_any (is_so_at p xs) ns)) (cases_
     by (inl e) d = e ∙ sym (any_numbers p xs ns e)
     by (inr e) (inr d) = e ∙ sym d
     by (inr e) (inl d) =
-        let w = one_there p xs d in
+        let w = IsThere-list_any p xs d in
         let so : is_so_at p xs w.number ≡ true = ap (λ o. if_some o false p) w.there ∙ w.so in
         let c = those.all w.number so in
-        absurd (false≢true (sym e ∙ in_numbers (is_so_at p xs) ns w.number (found w.number ns c.0 c.1 c.2) so))
+        absurd (false≢true (sym e ∙ in_numbers (is_so_at p xs) ns w.number (list_any-get_or w.number ns c.0 c.1 c.2) so))

@@ -8,19 +8,19 @@ use Rattle.std.proofs.lemmas.Bool.{cases_Bool, cases_eq, eqb-true, false≢true,
 use Rattle.iv_rows.specs.Options.{if_some}
 use Rattle.iv_clients.specs.Clients.{Sub, at_all, at_client, client_at, followed_by, moved_sub}
 use Rattle.iv_clients.specs.Kept.{Kept, Places, is_following, keeping_closed}
-use Rattle.iv_clients.proofs.Slots.{at_every, at_same, from}
+use Rattle.iv_clients.proofs.Slots.{client_at-at_all, client_at-at_client, IsFrom-option_map}
 use Rattle.iv_hall.specs.Hall.{AreAllNumbered, AreNumbered}
-use Rattle.iv_hall.proofs.Joined.{all_filter}
-use Rattle.iv_hall.proofs.Those.{others_at}
+use Rattle.iv_hall.proofs.Joined.{AllByRecursion-filter}
+use Rattle.iv_hall.proofs.Those.{client_at-at_client_apart}
 
 -- ---- the numbers of one client
 
-pub numbered_left : (q : Sub → Bool) (given : ℕ) (subs : List Sub) → AreNumbered given subs → AreNumbered given (filter q subs)
-numbered_left q given [] a = a
-numbered_left q given (s ∷ ss) a = by (q s) (numbered_left q given ss a.1.1)
+pub AreNumbered-filter : (q : Sub → Bool) (given : ℕ) (subs : List Sub) → AreNumbered given subs → AreNumbered given (filter q subs)
+AreNumbered-filter q given [] a = a
+AreNumbered-filter q given (s ∷ ss) a = by (q s) (AreNumbered-filter q given ss a.1.1)
   where
     by : (b : Bool) → AreNumbered given (filter q ss) → AreNumbered given (cond b (s ∷ filter q ss) (filter q ss))
-    by true rest = (a.0, (all_filter (λ (t : Sub). s.own < t.own) q ss a.1.0, rest))
+    by true rest = (a.0, (AllByRecursion-filter (λ (t : Sub). s.own < t.own) q ss a.1.0, rest))
     by false rest = rest
 
 all_new : (x given : ℕ) (feed : ℕ) (subs : List Sub) → x ≤ given → AllByRecursion (λ (t : Sub). x < t.own) subs
@@ -28,10 +28,10 @@ all_new : (x given : ℕ) (feed : ℕ) (subs : List Sub) → x ≤ given → All
 all_new x given feed [] l a = (omega (arith, l), tt)
 all_new x given feed (s ∷ ss) l a = (a.0, all_new x given feed ss l a.1)
 
-pub numbered_new : (given feed : ℕ) (subs : List Sub) → AreNumbered given subs
+pub AreNumbered-push_own : (given feed : ℕ) (subs : List Sub) → AreNumbered given subs
     → AreNumbered (given + 1) (subs ++ record { own = given + 1; feed = feed } ∷ [])
-numbered_new given feed [] a = (omega arith, (tt, tt))
-numbered_new given feed (s ∷ ss) a = (omega (arith, a.0), (all_new s.own given feed ss a.0 a.1.0, numbered_new given feed ss a.1.1))
+AreNumbered-push_own given feed [] a = (omega arith, (tt, tt))
+AreNumbered-push_own given feed (s ∷ ss) a = (omega (arith, a.0), (all_new s.own given feed ss a.0 a.1.0, AreNumbered-push_own given feed ss a.1.1))
 
 moved_own : (from to : ℕ) (s : Sub) → (moved_sub from to s).own ≡ s.own
 moved_own from to s = by (from == s.feed)
@@ -45,33 +45,33 @@ all_moved : (x from to : ℕ) (subs : List Sub) → AllByRecursion (λ (t : Sub)
 all_moved x from to [] a = a
 all_moved x from to (s ∷ ss) a = (subst (λ z. x < z) (sym (moved_own from to s)) a.0, all_moved x from to ss a.1)
 
-pub numbered_moved : (from to given : ℕ) (subs : List Sub) → AreNumbered given subs → AreNumbered given (map (moved_sub from to) subs)
-numbered_moved from to given [] a = a
-numbered_moved from to given (s ∷ ss) a =
+pub AreNumbered-moved_sub : (from to given : ℕ) (subs : List Sub) → AreNumbered given subs → AreNumbered given (map (moved_sub from to) subs)
+AreNumbered-moved_sub from to given [] a = a
+AreNumbered-moved_sub from to given (s ∷ ss) a =
     let own = sym (moved_own from to s) in (
       subst (λ z. z ≤ given) own a.0,
       (
         subst (λ z. AllByRecursion (λ (t : Sub). z < t.own) (map (moved_sub from to) ss)) own (all_moved s.own from to ss a.1.0),
-        numbered_moved from to given ss a.1.1,
+        AreNumbered-moved_sub from to given ss a.1.1,
       ),
     )
 
 -- ---- of all clients
 
-pub numbered_at : (n : ℕ) (f : Kept → Kept) (xs : Places) → ((k : Kept) → AreNumbered k.given k.subs → AreNumbered (f k).given (f k).subs)
+pub AreAllNumbered-at_client : (n : ℕ) (f : Kept → Kept) (xs : Places) → ((k : Kept) → AreNumbered k.given k.subs → AreNumbered (f k).given (f k).subs)
     → AreAllNumbered xs → AreAllNumbered (at_client n f xs)
-numbered_at n f xs keeps a = λ m k there. by m k there (cases_eq m n)
+AreAllNumbered-at_client n f xs keeps a = λ m k there. by m k there (cases_eq m n)
   where
     by : (m : ℕ) (k : Kept) → client_at (at_client n f xs) m ≡ Some k → (m ≡ n) ⊎ (m ≡ n → ⊥) → AreNumbered k.given k.subs
     by m k there (inl e) =
-        let w = from f (client_at xs n) k (sym (at_same n f xs) ∙ (ap (client_at (at_client n f xs)) (sym e) ∙ there)) in
+        let w = IsFrom-option_map f (client_at xs n) k (sym (client_at-at_client n f xs) ∙ (ap (client_at (at_client n f xs)) (sym e) ∙ there)) in
         subst (λ (z : Kept). AreNumbered z.given z.subs) w.same (keeps w.old (a n w.old w.there))
-    by m k there (inr ne) = a m k (sym (others_at n f xs m ne) ∙ there)
+    by m k there (inr ne) = a m k (sym (client_at-at_client_apart n f xs m ne) ∙ there)
 
-pub numbered_all : (f : Kept → Kept) (xs : Places) → ((k : Kept) → AreNumbered k.given k.subs → AreNumbered (f k).given (f k).subs)
+pub AreAllNumbered-at_all : (f : Kept → Kept) (xs : Places) → ((k : Kept) → AreNumbered k.given k.subs → AreNumbered (f k).given (f k).subs)
     → AreAllNumbered xs → AreAllNumbered (at_all f xs)
-numbered_all f xs keeps a = λ m k there.
-    let w = from f (client_at xs m) k (sym (at_every f xs m) ∙ there) in
+AreAllNumbered-at_all f xs keeps a = λ m k there.
+    let w = IsFrom-option_map f (client_at xs m) k (sym (client_at-at_all f xs m) ∙ there) in
     subst (λ (z : Kept). AreNumbered z.given z.subs) w.same (keeps w.old (a m w.old w.there))
 
 -- ---- what a number followed
@@ -119,7 +119,8 @@ closed_by feed own given (s ∷ ss) a h out = by (cases_Bool (own == s.own)) (ca
         ap (λ b. option_map (λ (t : Sub). t.feed) (cond b (Some s) (find (λ (t : Sub). own == t.own) ss))) e
         ∙ further (later x) (ap (λ b. b || follows feed (all_but own ss)) (sym x) ∙ left e)
 
-pub closed_at : (feed own : ℕ) (o : Option Kept) → ((k : Kept) → o ≡ Some k → AreNumbered k.given k.subs) → if_some o false (is_following feed) ≡ true
+pub followed_by-keeping_closed : (feed own : ℕ) (o : Option Kept) → ((k : Kept) → o ≡ Some k → AreNumbered k.given k.subs)
+    → if_some o false (is_following feed) ≡ true
     → if_some (option_map (keeping_closed own) o) false (is_following feed) ≡ false → option_and_then (λ (k : Kept). followed_by k.subs own) o ≡ Some feed
-closed_at feed own None a h out = absurd (false≢true h)
-closed_at feed own (Some k) a h out = closed_by feed own k.given k.subs (a k refl) h out
+followed_by-keeping_closed feed own None a h out = absurd (false≢true h)
+followed_by-keeping_closed feed own (Some k) a h out = closed_by feed own k.given k.subs (a k refl) h out

@@ -21,9 +21,9 @@ front_place order places count m w lc c =
     let h = w.numbered k lo in
     (omega (arith, h.0, is), omega (arith, lk, sym (ap (λ z. get_or places z 0) is) ∙ h.1))
 
-pub place_front : (order places : List ℕ) (count m : ℕ) → IsOrder order places → count ≤ length order → m < length order → get_or places m 0 < count
+pub Contains-IsOrder : (order places : List ℕ) (count m : ℕ) → IsOrder order places → count ≤ length order → m < length order → get_or places m 0 < count
     → Contains (take count order) m
-place_front order places count m w lc lm lp =
+Contains-IsOrder order places count m w lc lm lp =
     let h = w.placed m lm in (
       get_or places m 0,
       omega (arith, lp, length-take-le count order lc),
@@ -31,8 +31,8 @@ place_front order places count m w lc lm lp =
           ∙ (get_or_default order (get_or places m 0) m 0 h.0 ∙ h.1),
     )
 
-pub listed_once : (order places : List ℕ) (count : ℕ) → IsOrder order places → count ≤ length order → IsDistinct eqb (take count order)
-listed_once order places count w lc = IsDistinct-from_apart eqb (take count order) (λ i j d lt lj.
+pub IsDistinct-IsOrder : (order places : List ℕ) (count : ℕ) → IsOrder order places → count ≤ length order → IsDistinct eqb (take count order)
+IsDistinct-IsOrder order places count w lc = IsDistinct-from_apart eqb (take count order) (λ i j d lt lj.
     let hj : j < count = omega (arith, lj, length-take-le count order lc) in
     let hi : i < count = omega (arith, lt, hj) in
     let li : i < length order = omega (arith, hi, lc) in
@@ -45,10 +45,11 @@ listed_once order places count w lc = IsDistinct-from_apart eqb (take count orde
 
 -- ---- one comes in, or leaves
 
-pub gained : (order places now after : List ℕ) (count n : ℕ) → IsOrder order places → count < length order → n < length order → count ≤ get_or places n 0
+pub HasGained-IsExchanged : (order places now after : List ℕ) (count n : ℕ) → IsOrder order places → count < length order → n < length order
+    → count ≤ get_or places n 0
     → IsExchanged n count order places now after
     → HasGained n (record { list = take count order; size = length order }) (record { list = take (count + 1) now; size = length now })
-gained order places now after count n w lc ln above x = record {
+HasGained-IsExchanged order places now after count n w lc ln above x = record {
   size = x.size;
   put = λ h. come n ln (omega (arith, x.here));
   kept = λ m c. let p = front_place order places count m w (omega (arith, lc)) c in
@@ -58,7 +59,7 @@ gained order places now after count n w lc ln above x = record {
 }
   where
     come : (m : ℕ) → m < length order → get_or after m 0 < count + 1 → Contains (take (count + 1) now) m
-    come m l p = place_front now after (count + 1) m x.whole (omega (arith, lc, x.size)) (omega (arith, l, x.size)) p
+    come m l p = Contains-IsOrder now after (count + 1) m x.whole (omega (arith, lc, x.size)) (omega (arith, l, x.size)) p
 
     stays : (m : ℕ) → m < length order → get_or places m 0 < count → (m ≡ n) ⊎ (m ≡ n → ⊥) → (m ≡ get_or order count 0) ⊎ (m ≡ get_or order count 0 → ⊥)
         → get_or after m 0 < count + 1
@@ -75,19 +76,21 @@ gained order places now after count n w lc ln above x = record {
     from m l p (inr ne) (inr nx) =
         let h = x.others m ne nx in
         let not : get_or places m 0 ≡ count → ⊥ = λ s. nx (sym (w.placed m l).1 ∙ ap (λ z. get_or order z 0) s) in
-        inl (place_front order places count m w (omega (arith, lc)) l (omega (arith, h, p, not)))
+        inl (Contains-IsOrder order places count m w (omega (arith, lc)) l (omega (arith, h, p, not)))
 
-pub lost : (order places now after : List ℕ) (count n : ℕ) → IsOrder order places → count < length order → n < length order → get_or places n 0 < count + 1
+pub HasLost-IsExchanged : (order places now after : List ℕ) (count n : ℕ) → IsOrder order places → count < length order → n < length order
+    → get_or places n 0 < count + 1
     → IsExchanged n count order places now after
     → HasLost n (record { list = take (count + 1) order; size = length order }) (record { list = take count now; size = length now })
-lost order places now after count n w lc ln below x = record {
+HasLost-IsExchanged order places now after count n w lc ln below x = record {
   size = x.size;
   gone = λ c. let p = front_place now after count n x.whole (omega (arith, lc, x.size)) c in omega (arith, p.1, x.here);
   kept = λ m ne c. let p = front_place order places (count + 1) m w (omega (arith, lc)) c in
-      place_front now after count m x.whole (omega (arith, lc, x.size)) (omega (arith, p.0, x.size)) (stays m p.0 p.1 ne (cases_eq m (get_or order count 0)));
+      Contains-IsOrder now after count m x.whole (omega (arith, lc, x.size)) (omega (arith, p.0, x.size))
+        (stays m p.0 p.1 ne (cases_eq m (get_or order count 0)));
   only = λ m c. let p = front_place now after count m x.whole (omega (arith, lc, x.size)) c in
       let l : m < length order = omega (arith, p.0, x.size) in
-      place_front order places (count + 1) m w (omega (arith, lc)) l (was m l p.1 (cases_eq m n) (cases_eq m (get_or order count 0)));
+      Contains-IsOrder order places (count + 1) m w (omega (arith, lc)) l (was m l p.1 (cases_eq m n) (cases_eq m (get_or order count 0)));
 }
   where
     stays : (m : ℕ) → m < length order → get_or places m 0 < count + 1 → (m ≡ n → ⊥) → (m ≡ get_or order count 0) ⊎ (m ≡ get_or order count 0 → ⊥)
@@ -106,14 +109,14 @@ lost order places now after count n w lc ln below x = record {
     was m l p (inr ne) (inr nx) = omega (arith, x.others m ne nx, p)
 
 -- a number that is not in front is not in the list
-pub not_in : (order places : List ℕ) (count n : ℕ) → IsOrder order places → count ≤ length order → (n < length order → count ≤ get_or places n 0)
+pub not_Contains-IsOrder : (order places : List ℕ) (count n : ℕ) → IsOrder order places → count ≤ length order → (n < length order → count ≤ get_or places n 0)
     → Contains (take count order) n → ⊥
-not_in order places count n w lc above c = let p = front_place order places count n w lc c in let h = above p.0 in omega (arith, p.1, h)
+not_Contains-IsOrder order places count n w lc above c = let p = front_place order places count n w lc c in let h = above p.0 in omega (arith, p.1, h)
 
 -- ---- one is set, or each of some
 
-pub set_in : (n : ℕ) (is : Bool) (old new : Numbers) → is ≡ true → HasGained n old new → AreSet (λ m. m ≡ n) (λ m. is) old new
-set_in n is old new e g = record {
+pub AreSet-HasGained : (n : ℕ) (is : Bool) (old new : Numbers) → is ≡ true → HasGained n old new → AreSet (λ m. m ≡ n) (λ m. is) old new
+AreSet-HasGained n is old new e g = record {
   size = g.size;
   put = λ m same t l. subst (Contains new.list) (sym same) (g.put (omega (arith, same, l)));
   only = λ m same c. e;
@@ -125,8 +128,8 @@ set_in n is old new e g = record {
     by m ne (inl c) = c
     by m ne (inr same) = absurd (ne same)
 
-pub set_out : (n : ℕ) (is : Bool) (old new : Numbers) → is ≡ false → HasLost n old new → AreSet (λ m. m ≡ n) (λ m. is) old new
-set_out n is old new e g = record {
+pub AreSet-HasLost : (n : ℕ) (is : Bool) (old new : Numbers) → is ≡ false → HasLost n old new → AreSet (λ m. m ≡ n) (λ m. is) old new
+AreSet-HasLost n is old new e g = record {
   size = g.size;
   put = λ m same t l. absurd (false≢true (sym e ∙ t));
   only = λ m same c. absurd (g.gone (subst (Contains new.list) same c));
@@ -135,8 +138,8 @@ set_out n is old new e g = record {
 }
 
 -- by a test of the number
-pub set_by : (n : ℕ) (b : Bool) (is : ℕ → Bool) (old new : Numbers) → b ≡ is n → AreSet (λ m. m ≡ n) (λ m. b) old new → AreSet (λ m. m ≡ n) is old new
-set_by n b is old new e s = record {
+pub AreSet-by : (n : ℕ) (b : Bool) (is : ℕ → Bool) (old new : Numbers) → b ≡ is n → AreSet (λ m. m ≡ n) (λ m. b) old new → AreSet (λ m. m ≡ n) is old new
+AreSet-by n b is old new e s = record {
   size = s.size;
   put = λ m same t l. s.put m same (e ∙ (ap is (sym same) ∙ t)) l;
   only = λ m same c. ap is same ∙ (sym e ∙ s.only m same c);
@@ -144,8 +147,8 @@ set_by n b is old new e s = record {
   others = s.others;
 }
 
-pub set_none : (W : ℕ → Type 0) (is : ℕ → Bool) (old : Numbers) → ((m : ℕ) → W m → ⊥) → AreSet W is old old
-set_none W is old never = record {
+pub AreSet-none : (W : ℕ → Type 0) (is : ℕ → Bool) (old : Numbers) → ((m : ℕ) → W m → ⊥) → AreSet W is old old
+AreSet-none W is old never = record {
   size = refl;
   put = λ m w t l. absurd (never m w);
   only = λ m w c. absurd (never m w);
@@ -175,9 +178,9 @@ set_more W X n is old mid new parts first last a b = record {
     only m c (inl w) (inr ne) = a.only m w (b.others m ne c)
     only m c (inr e) (inr ne) = absurd (ne e)
 
-pub set_next : (ns : List ℕ) (i : ℕ) (is : ℕ → Bool) (old before now : Numbers) → i < length ns → AreSet (Contains (take i ns)) is old before
+pub AreSet-next : (ns : List ℕ) (i : ℕ) (is : ℕ → Bool) (old before now : Numbers) → i < length ns → AreSet (Contains (take i ns)) is old before
     → AreSet (λ m. m ≡ get_or ns i 0) is before now → AreSet (Contains (take (i + 1) ns)) is old now
-set_next ns i is old before now lt a b =
+AreSet-next ns i is old before now lt a b =
     set_more (Contains (take i ns)) (Contains (take (i + 1) ns)) (get_or ns i 0) is old before now
     (λ m c. by m (Contains-push_cases (take i ns) (get_or ns i 0) m (subst (λ z. Contains z m) (take_more ns i 0 lt) c)))
     (λ m c. subst (λ z. Contains z m) (sym (take_more ns i 0 lt)) (Contains-append_left (take i ns) (get_or ns i 0 ∷ []) m c))
@@ -187,9 +190,9 @@ set_next ns i is old before now lt a b =
     by m (inl c) = inl c
     by m (inr e) = inr (sym e)
 
-pub set_below : (n : ℕ) (is : ℕ → Bool) (old before now : Numbers) → AreSet (λ m. m < n) is old before → AreSet (λ m. m ≡ n) is before now
+pub AreSet-below : (n : ℕ) (is : ℕ → Bool) (old before now : Numbers) → AreSet (λ m. m < n) is old before → AreSet (λ m. m ≡ n) is before now
     → AreSet (λ m. m < (n + 1)) is old now
-set_below n is old before now a b = set_more (λ m. m < n) (λ m. m < (n + 1)) n is old before now (λ m l. by m l (cases_lt m n)) (λ m l. omega (arith, l))
+AreSet-below n is old before now a b = set_more (λ m. m < n) (λ m. m < (n + 1)) n is old before now (λ m l. by m l (cases_lt m n)) (λ m l. omega (arith, l))
     (omega arith) a b
   where
     by : (m : ℕ) → m < (n + 1) → (m < n) ⊎ (n ≤ m) → (m < n) ⊎ (m ≡ n)
@@ -198,13 +201,15 @@ set_below n is old before now a b = set_more (λ m. m < n) (λ m. m < (n + 1)) n
 
 -- ---- a list of them comes in
 
-pub gained_none : (old : Numbers) → HasGainedAll [] old old
-gained_none old = record { size = refl; put = λ m h c. absurd (let l = c.1 in let none : ⊥ = omega (arith, l) in none); kept = λ m c. c; only = λ m c. inl c }
+pub HasGainedAll-none : (old : Numbers) → HasGainedAll [] old old
+HasGainedAll-none old =
+    record { size = refl; put = λ m h c. absurd (let l = c.1 in let none : ⊥ = omega (arith, l) in none); kept = λ m c. c; only = λ m c. inl c }
 
 -- one number more of a list
-pub gained_next : (ns : List ℕ) (i : ℕ) (old before now : Numbers) → i < length ns → HasGainedAll (take i ns) old before → HasGained (get_or ns i 0) before now
+pub HasGainedAll-next : (ns : List ℕ) (i : ℕ) (old before now : Numbers) → i < length ns → HasGainedAll (take i ns) old before
+    → HasGained (get_or ns i 0) before now
     → HasGainedAll (take (i + 1) ns) old now
-gained_next ns i old before now lt g h = record {
+HasGainedAll-next ns i old before now lt g h = record {
   size = h.size ∙ g.size;
   put = λ m l c. put m l (Contains-push_cases (take i ns) (get_or ns i 0) m (subst (λ z. Contains z m) more c));
   kept = λ m c. h.kept m (g.kept m c);

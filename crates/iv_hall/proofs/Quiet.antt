@@ -50,8 +50,8 @@ quiet k h =
     }
 
 -- who was told nothing has nothing released
-pub released_quiet : (k : Kept) → is_told k ≡ false → releasing k ≡ k
-released_quiet k h =
+pub releasing-not_told : (k : Kept) → is_told k ≡ false → releasing k ≡ k
+releasing-not_told k h =
     let q = quiet k h in
     (λ i. cond (q.dropped i || nat_lt most_piled (q.piled i)) (letting_go k)
     (record k { unsynced = []; sendable = k.sendable ++ k.unsynced; brought = 0; piled = k.piled + k.brought }))
@@ -105,83 +105,83 @@ released_told k h = by (k.dropped || nat_lt most_piled k.piled) refl
         kept d (waits k.dropped (not (length k.sendable == 0)) (not (length k.unsynced == 0)) (not (k.brought == 0)) (not (k.piled == 0)) d h)
 
 -- who is told something then was told something before, and the other way round
-pub released_same : (k : Kept) → is_told (releasing k) ≡ is_told k
-released_same k = by (cases_Bool (is_told k))
+pub is_told-releasing : (k : Kept) → is_told (releasing k) ≡ is_told k
+is_told-releasing k = by (cases_Bool (is_told k))
   where
     by : (is_told k ≡ true) ⊎ (is_told k ≡ false) → is_told (releasing k) ≡ is_told k
     by (inl e) = released_told k e ∙ sym e
-    by (inr e) = ap is_told (released_quiet k e)
+    by (inr e) = ap is_told (releasing-not_told k e)
 
 -- who was told nothing has nothing to take
 pub emptied_quiet : (k : Kept) → is_told k ≡ false → emptied k ≡ k
 emptied_quiet k h = ap (λ z. cond (length z == 0) k (record k { sendable = []; asked = 0; piled = 0 })) (quiet k h).sendable
 
 -- who has something that may be sent was told something
-pub due_told : (k : Kept) → is_due k ≡ true → is_told k ≡ true
-due_told k h = or_left (is_due k) (not (length k.unsynced == 0) || (not (k.brought == 0) || not (k.piled == 0))) h
+pub is_told-is_due : (k : Kept) → is_due k ≡ true → is_told k ≡ true
+is_told-is_due k h = or_left (is_due k) (not (length k.unsynced == 0) || (not (k.brought == 0) || not (k.piled == 0))) h
 
 emptied_by : (b : Bool) (k : Kept) → (cond b k (record k { sendable = []; asked = 0; piled = 0 })).owed ≡ k.owed
 emptied_by true k = refl
 emptied_by false k = refl
 
-pub emptied_owed : (k : Kept) → (emptied k).owed ≡ k.owed
-emptied_owed k = emptied_by (length k.sendable == 0) k
+pub owed-emptied : (k : Kept) → (emptied k).owed ≡ k.owed
+owed-emptied k = emptied_by (length k.sendable == 0) k
 
 emptied_with : (b : Bool) (k : Kept) → FollowsAlike k (cond b k (record k { sendable = []; asked = 0; piled = 0 }))
 emptied_with true k = record { given = refl; subs = refl }
 emptied_with false k = record { given = refl; subs = refl }
 
-pub emptied_alike : (k : Kept) → FollowsAlike k (emptied k)
-emptied_alike k = emptied_with (length k.sendable == 0) k
+pub FollowsAlike-emptied : (k : Kept) → FollowsAlike k (emptied k)
+FollowsAlike-emptied k = emptied_with (length k.sendable == 0) k
 
 released_by : (b : Bool) (k : Kept) → (cond b (letting_go k) (record k
     { unsynced = []; sendable = k.sendable ++ k.unsynced; brought = 0; piled = k.piled + k.brought })).owed ≡ k.owed
 released_by true k = refl
 released_by false k = refl
 
-pub released_owed : (k : Kept) → (releasing k).owed ≡ k.owed
-released_owed k = released_by (k.dropped || nat_lt most_piled k.piled) k
+pub owed-releasing : (k : Kept) → (releasing k).owed ≡ k.owed
+owed-releasing k = released_by (k.dropped || nat_lt most_piled k.piled) k
 
 released_with : (b : Bool) (k : Kept) → FollowsAlike k (cond b (letting_go k) (record k
     { unsynced = []; sendable = k.sendable ++ k.unsynced; brought = 0; piled = k.piled + k.brought }))
 released_with true k = record { given = refl; subs = refl }
 released_with false k = record { given = refl; subs = refl }
 
-pub released_alike : (k : Kept) → FollowsAlike k (releasing k)
-released_alike k = released_with (k.dropped || nat_lt most_piled k.piled) k
+pub FollowsAlike-releasing : (k : Kept) → FollowsAlike k (releasing k)
+FollowsAlike-releasing k = released_with (k.dropped || nat_lt most_piled k.piled) k
 
 checked_by : (b : Bool) (k : Kept) → (cond b k (letting_go k)).owed ≡ k.owed
 checked_by true k = refl
 checked_by false k = refl
 
-pub checked_owed : (tokens : List Token) (k : Kept) → (checking tokens k).owed ≡ k.owed
-checked_owed tokens k = checked_by (if_some (token_of tokens k.digest) false (λ (t : Token). bytes_eq k.role t.role && bytes_eq k.user t.user)) k
+pub owed-checking : (tokens : List Token) (k : Kept) → (checking tokens k).owed ≡ k.owed
+owed-checking tokens k = checked_by (if_some (token_of tokens k.digest) false (λ (t : Token). bytes_eq k.role t.role && bytes_eq k.user t.user)) k
 
 checked_with : (b : Bool) (k : Kept) → FollowsAlike k (cond b k (letting_go k))
 checked_with true k = record { given = refl; subs = refl }
 checked_with false k = record { given = refl; subs = refl }
 
-pub checked_alike : (tokens : List Token) (k : Kept) → FollowsAlike k (checking tokens k)
-checked_alike tokens k = checked_with (if_some (token_of tokens k.digest) false (λ (t : Token). bytes_eq k.role t.role && bytes_eq k.user t.user)) k
+pub FollowsAlike-checking : (tokens : List Token) (k : Kept) → FollowsAlike k (checking tokens k)
+FollowsAlike-checking tokens k = checked_with (if_some (token_of tokens k.digest) false (λ (t : Token). bytes_eq k.role t.role && bytes_eq k.user t.user)) k
 
 -- ---- owed
 
-pub settled_still : (text : List ℕ) (k : Kept) → k.owed ≡ false → holding_owed text k ≡ k
-settled_still text k h = ap (λ b. cond b (record (holding text k) { owed = false }) k) h
+pub holding_owed-not_owed : (text : List ℕ) (k : Kept) → k.owed ≡ false → holding_owed text k ≡ k
+holding_owed-not_owed text k h = ap (λ b. cond b (record (holding text k) { owed = false }) k) h
 
 settled_by : (text : List ℕ) (b : Bool) (k : Kept) → k.owed ≡ b → (cond b (record (holding text k) { owed = false }) k).owed ≡ false
 settled_by text true k h = refl
 settled_by text false k h = h
 
-pub settled_owed : (text : List ℕ) (k : Kept) → (holding_owed text k).owed ≡ false
-settled_owed text k = settled_by text k.owed k refl
+pub owed-holding_owed : (text : List ℕ) (k : Kept) → (holding_owed text k).owed ≡ false
+owed-holding_owed text k = settled_by text k.owed k refl
 
 settled_with : (text : List ℕ) (b : Bool) (k : Kept) → FollowsAlike k (cond b (record (holding text k) { owed = false }) k)
 settled_with text true k = record { given = refl; subs = refl }
 settled_with text false k = record { given = refl; subs = refl }
 
-pub settled_alike : (text : List ℕ) (k : Kept) → FollowsAlike k (holding_owed text k)
-settled_alike text k = settled_with text k.owed k
+pub FollowsAlike-holding_owed : (text : List ℕ) (k : Kept) → FollowsAlike k (holding_owed text k)
+FollowsAlike-holding_owed text k = settled_with text k.owed k
 
 -- ---- follows
 
@@ -199,14 +199,14 @@ any_filter p q (x ∷ xs) h = by (q x) h (λ e. any_filter p q xs e)
     by false h rest = or_right (p x) (list_any p xs) (rest h)
 
 -- who closed a number, or stayed behind lines, follows no more than before
-pub follows_fewer : (feed : ℕ) (q : Sub → Bool) (subs : List Sub) → list_any (λ (s : Sub). feed == s.feed) (filter q subs) ≡ true
+pub list_any-filter_feeds : (feed : ℕ) (q : Sub → Bool) (subs : List Sub) → list_any (λ (s : Sub). feed == s.feed) (filter q subs) ≡ true
     → list_any (λ (s : Sub). feed == s.feed) subs ≡ true
-follows_fewer feed q subs h = any_filter (λ s. feed == s.feed) q subs h
+list_any-filter_feeds feed q subs h = any_filter (λ s. feed == s.feed) q subs h
 
 -- who follows one feed more follows that one, or did before
-pub follows_new : (feed new own : ℕ) (subs : List Sub) → list_any (λ (s : Sub). feed == s.feed) (subs ++ record { own = own; feed = new } ∷ []) ≡ true
+pub list_any-push_feed : (feed new own : ℕ) (subs : List Sub) → list_any (λ (s : Sub). feed == s.feed) (subs ++ record { own = own; feed = new } ∷ []) ≡ true
     → (feed ≡ new) ⊎ (list_any (λ (s : Sub). feed == s.feed) subs ≡ true)
-follows_new feed new own subs h = from (or_cases (list_any (λ (s : Sub). feed == s.feed) subs) ((feed == new) || false)
+list_any-push_feed feed new own subs h = from (or_cases (list_any (λ (s : Sub). feed == s.feed) subs) ((feed == new) || false)
     (sym (list_any-append (λ (s : Sub). feed == s.feed) subs (record { own = own; feed = new } ∷ [])) ∙ h))
   where
     from : (list_any (λ (s : Sub). feed == s.feed) subs ≡ true) ⊎ (((feed == new) || false) ≡ true)
@@ -219,18 +219,18 @@ follows_new feed new own subs h = from (or_cases (list_any (λ (s : Sub). feed =
         last (inr x) = absurd (false≢true x)
 
 -- who follows one feed more follows all others on
-pub follows_on : (feed new own : ℕ) (subs : List Sub) → list_any (λ (s : Sub). feed == s.feed) subs ≡ true
+pub list_any-push_on : (feed new own : ℕ) (subs : List Sub) → list_any (λ (s : Sub). feed == s.feed) subs ≡ true
     → list_any (λ (s : Sub). feed == s.feed) (subs ++ record { own = own; feed = new } ∷ []) ≡ true
-follows_on feed new own subs h =
+list_any-push_on feed new own subs h =
     list_any-append (λ (s : Sub). feed == s.feed) subs (record { own = own; feed = new } ∷ [])
     ∙ or_left (list_any (λ (s : Sub). feed == s.feed) subs) ((feed == new) || false) h
 
 -- who is led from one feed to another follows all others on
-pub follows_led : (feed from to : ℕ) (subs : List Sub) → (feed ≡ from → ⊥) → list_any (λ (s : Sub). feed == s.feed) subs ≡ true
+pub list_any-moved_other : (feed from to : ℕ) (subs : List Sub) → (feed ≡ from → ⊥) → list_any (λ (s : Sub). feed == s.feed) subs ≡ true
     → list_any (λ (s : Sub). feed == s.feed) (map (moved_sub from to) subs) ≡ true
-follows_led feed from to [] ne h = h
-follows_led feed from to (s ∷ ss) ne h = by (cases_Bool (from == s.feed)) (or_cases (feed == s.feed) (list_any (λ (x : Sub). feed == x.feed) ss) h)
-    (λ e. follows_led feed from to ss ne e)
+list_any-moved_other feed from to [] ne h = h
+list_any-moved_other feed from to (s ∷ ss) ne h = by (cases_Bool (from == s.feed)) (or_cases (feed == s.feed) (list_any (λ (x : Sub). feed == x.feed) ss) h)
+    (λ e. list_any-moved_other feed from to ss ne e)
   where
     by : ((from == s.feed) ≡ true) ⊎ ((from == s.feed) ≡ false) → ((feed == s.feed) ≡ true) ⊎ (list_any (λ (x : Sub). feed == x.feed) ss ≡ true)
         → (list_any (λ (x : Sub). feed == x.feed) ss ≡ true → list_any (λ (x : Sub). feed == x.feed) (map (moved_sub from to) ss) ≡ true)
@@ -241,10 +241,10 @@ follows_led feed from to (s ∷ ss) ne h = by (cases_Bool (from == s.feed)) (or_
         (ap (λ b. feed == (cond b (record s { feed = to }) s).feed) a ∙ e)
 
 -- who is led from one feed to another follows that one, or the same as before
-pub follows_moved : (feed from to : ℕ) (subs : List Sub) → list_any (λ (s : Sub). feed == s.feed) (map (moved_sub from to) subs) ≡ true
+pub list_any-moved_either : (feed from to : ℕ) (subs : List Sub) → list_any (λ (s : Sub). feed == s.feed) (map (moved_sub from to) subs) ≡ true
     → (feed ≡ to) ⊎ (list_any (λ (s : Sub). feed == s.feed) subs ≡ true)
-follows_moved feed from to [] h = inr h
-follows_moved feed from to (s ∷ ss) h = by (from == s.feed) h (λ e. follows_moved feed from to ss e)
+list_any-moved_either feed from to [] h = inr h
+list_any-moved_either feed from to (s ∷ ss) h = by (from == s.feed) h (λ e. list_any-moved_either feed from to ss e)
   where
     one : (feed ≡ to) ⊎ ((feed == s.feed) ≡ true) → (feed ≡ to) ⊎ (((feed == s.feed) || list_any (λ (x : Sub). feed == x.feed) ss) ≡ true)
     one (inl x) = inl x
@@ -279,5 +279,5 @@ untold feed rel l (s ∷ ss) h =
     ap (λ b. cond b (told_as rel l s.own) [] ++ flat_map (told_for feed rel l) ss) p.0 ∙ untold feed rel l ss p.1
 
 -- who does not follow a feed is told nothing of it
-pub hears_nothing : (feed : ℕ) (rel : Name) (l : Line) (k : Kept) → is_following feed k ≡ false → hearing_for feed rel l k ≡ k
-hears_nothing feed rel l k h = ap (λ (ts : List Told). holding_all ts k) (untold feed rel l k.subs h)
+pub hearing_for-not_following : (feed : ℕ) (rel : Name) (l : Line) (k : Kept) → is_following feed k ≡ false → hearing_for feed rel l k ≡ k
+hearing_for-not_following feed rel l k h = ap (λ (ts : List Told). holding_all ts k) (untold feed rel l k.subs h)

@@ -11,17 +11,17 @@ use Rattle.iv_rows.specs.Options.{if_some}
 use Rattle.iv_clients.specs.Clients.{Sub, at_all, client_at}
 use Rattle.iv_clients.specs.Feeds.{ends_in, is_end}
 use Rattle.iv_clients.specs.Kept.{Kept, Places, is_following, is_told, keeping_on}
-use Rattle.iv_clients.proofs.Slots.{length_all}
+use Rattle.iv_clients.proofs.Slots.{length-at_all}
 use Rattle.iv_hall.specs.Hall.{IsHall, is_owed}
 use Rattle.iv_hall.specs.Hearing.{feed_ended}
 use Rattle.iv_hall.specs.Listing.{AreThose, walked}
 use Rattle.iv_hall.specs.Numbers.{Numbers}
 use Rattle.iv_hall.specs.Readers.{Readers, readers_of}
-use Rattle.iv_hall.proofs.Each.{both_all, same_all, still_all}
-use Rattle.iv_hall.proofs.Joined.{none_left, others_left}
-use Rattle.iv_hall.proofs.Numbered.{numbered_all, numbered_left}
-use Rattle.iv_hall.proofs.Those.{so_all, so_every, those_none, those_same}
-use Rattle.iv_hall.proofs.Walked.{walked_all}
+use Rattle.iv_hall.proofs.Each.{at_all-at_all, at_all-same, at_all-itself}
+use Rattle.iv_hall.proofs.Joined.{readers_of-filter_own, readers_of-filter_other}
+use Rattle.iv_hall.proofs.Numbered.{AreAllNumbered-at_all, AreNumbered-filter}
+use Rattle.iv_hall.proofs.Those.{is_so_at-at_all_same, is_so_at-at_all, AreThose-none, AreThose-same}
+use Rattle.iv_hall.proofs.Walked.{walked-AreThose}
 
 -- the line ends this feed
 abbrev pub IsEnding : ℕ → Line → Type 0
@@ -44,7 +44,7 @@ unfollowed k l (s ∷ ss) e h =
     ap (λ b. cond (not (b || false)) (s ∷ filter (λ (x : Sub). not (ends_in (l ∷ []) x.feed)) ss) (filter (λ (x : Sub). not (ends_in (l ∷ []) x.feed)) ss)) off
     ∙ ap (λ z. s ∷ z) (unfollowed k l ss e p.1)
 
--- who does not follow what a line ends stays as it is
+-- who does not follow what a line ends IsHall-keeping_on as it is
 pub stays_still : (k : ℕ) (l : Line) (c : Kept) → IsEnding k l → is_following k c ≡ false → keeping_on (l ∷ []) c ≡ c
 stays_still k l c e h i = record c { subs = unfollowed k l c.subs e h i }
 
@@ -86,23 +86,25 @@ others_follow k feed l (s ∷ ss) e ne = by (cases_eq s.feed k) (others_follow k
         ap (λ b. list_any (λ (y : Sub). feed == y.feed) (cond (not (b || false)) (s ∷ followed_on l ss) (followed_on l ss))) (e s.feed ∙ ne_eqb s.feed k x)
         ∙ ap (λ b. (feed == s.feed) || b) rest
 
-pub stayed_all : (xs : Places) (most : ℕ) (owing telling : Numbers) (reading : List Readers) (ns : List ℕ) (k : ℕ) (l : Line)
+pub walked-keeping_on : (xs : Places) (most : ℕ) (owing telling : Numbers) (reading : List Readers) (ns : List ℕ) (k : ℕ) (l : Line)
     → IsHall most xs owing telling reading → IsEnding k l → ns ≡ readers_of reading k → IsDistinct eqb ns
     → walked (keeping_on (l ∷ [])) ns xs ≡ at_all (keeping_on (l ∷ [])) xs
-stayed_all xs most owing telling reading ns k l h e is d =
-    walked_all (is_following k) (keeping_on (l ∷ [])) ns xs d (subst (λ z. AreThose (is_following k) z xs) (sym is) (h.readers k)) (λ c. stays_still k l c e)
+walked-keeping_on xs most owing telling reading ns k l h e is d =
+    walked-AreThose (is_following k) (keeping_on (l ∷ [])) ns xs d (subst (λ z. AreThose (is_following k) z xs) (sym is) (h.readers k))
+      (λ c. stays_still k l c e)
 
-pub stays : (most : ℕ) (xs ys : Places) (owing telling : Numbers) (reading left : List Readers) (k : ℕ) (l : Line) → IsHall most xs owing telling reading
+pub IsHall-keeping_on : (most : ℕ) (xs ys : Places) (owing telling : Numbers) (reading left : List Readers) (k : ℕ) (l : Line)
+    → IsHall most xs owing telling reading
     → IsEnding k l → ys ≡ at_all (keeping_on (l ∷ [])) xs
     → left ≡ filter (λ r. not (k == r.feed)) reading → IsHall most ys owing telling left
-stays most xs ys owing telling reading left k l h e is gone = subst (λ z. IsHall most z owing telling left) (sym is) (record {
-  within = omega (arith, h.within, length_all (keeping_on (l ∷ [])) xs);
+IsHall-keeping_on most xs ys owing telling reading left k l h e is gone = subst (λ z. IsHall most z owing telling left) (sym is) (record {
+  within = omega (arith, h.within, length-at_all (keeping_on (l ∷ [])) xs);
   owed_size = h.owed_size;
   told_size = h.told_size;
-  owed = those_same is_owed owing.list xs (at_all (keeping_on (l ∷ [])) xs) (so_all is_owed (keeping_on (l ∷ [])) xs (λ c. refl)) h.owed;
-  told = those_same is_told telling.list xs (at_all (keeping_on (l ∷ [])) xs) (so_all is_told (keeping_on (l ∷ [])) xs (λ c. refl)) h.told;
+  owed = AreThose-same is_owed owing.list xs (at_all (keeping_on (l ∷ [])) xs) (is_so_at-at_all_same is_owed (keeping_on (l ∷ [])) xs (λ c. refl)) h.owed;
+  told = AreThose-same is_told telling.list xs (at_all (keeping_on (l ∷ [])) xs) (is_so_at-at_all_same is_told (keeping_on (l ∷ [])) xs (λ c. refl)) h.told;
   readers = λ feed. by feed (cases_eq feed k);
-  numbered = numbered_all (keeping_on (l ∷ [])) xs (λ c a. numbered_left (λ s. not (ends_in (l ∷ []) s.feed)) c.given c.subs a) h.numbered;
+  numbered = AreAllNumbered-at_all (keeping_on (l ∷ [])) xs (λ c a. AreNumbered-filter (λ s. not (ends_in (l ∷ []) s.feed)) c.given c.subs a) h.numbered;
 })
   where
     none : (feed : ℕ) → feed ≡ k → (o : Option Kept) → if_some (option_map (keeping_on (l ∷ [])) o) false (is_following feed) ≡ false
@@ -110,35 +112,36 @@ stays most xs ys owing telling reading left k l h e is gone = subst (λ z. IsHal
     none feed x (Some c) = ap (λ z. list_any (λ (s : Sub). z == s.feed) (followed_on l c.subs)) x ∙ none_follow k l c.subs e
 
     by : (feed : ℕ) → (feed ≡ k) ⊎ (feed ≡ k → ⊥) → AreThose (is_following feed) (readers_of left feed) (at_all (keeping_on (l ∷ [])) xs)
-    by feed (inl x) = those_none (is_following feed) (readers_of left feed) (at_all (keeping_on (l ∷ [])) xs)
-        ((λ i. readers_of (gone i) (x i)) ∙ none_left reading k)
-        (λ m. so_every (is_following feed) (keeping_on (l ∷ [])) xs m ∙ none feed x (client_at xs m))
+    by feed (inl x) = AreThose-none (is_following feed) (readers_of left feed) (at_all (keeping_on (l ∷ [])) xs)
+        ((λ i. readers_of (gone i) (x i)) ∙ readers_of-filter_own reading k)
+        (λ m. is_so_at-at_all (is_following feed) (keeping_on (l ∷ [])) xs m ∙ none feed x (client_at xs m))
     by feed (inr ne) = subst (λ ns. AreThose (is_following feed) ns (at_all (keeping_on (l ∷ [])) xs)) (sym (ap (λ z. readers_of z feed) gone
-        ∙ others_left reading k feed ne))
-        (those_same (is_following feed) (readers_of reading feed) xs (at_all (keeping_on (l ∷ [])) xs)
-        (so_all (is_following feed) (keeping_on (l ∷ [])) xs (λ c. others_follow k feed l c.subs e ne)) (h.readers feed))
+        ∙ readers_of-filter_other reading k feed ne))
+        (AreThose-same (is_following feed) (readers_of reading feed) xs (at_all (keeping_on (l ∷ [])) xs)
+        (is_so_at-at_all_same (is_following feed) (keeping_on (l ∷ [])) xs (λ c. others_follow k feed l c.subs e ne)) (h.readers feed))
 
 -- which lines end a feed
-pub ending : (l : Line) (k : ℕ) → Some k ≡ feed_ended l → IsEnding k l
-ending (reply n r) k e = cc
-ending (change n j rows) k e = cc
-ending (ended n j why rows) k e = let same : k ≡ j = cc in λ f. ap (λ z. f == z) (sym same)
+pub IsEnding-feed_ended : (l : Line) (k : ℕ) → Some k ≡ feed_ended l → IsEnding k l
+IsEnding-feed_ended (reply n r) k e = cc
+IsEnding-feed_ended (change n j rows) k e = cc
+IsEnding-feed_ended (ended n j why rows) k e = let same : k ≡ j = cc in λ f. ap (λ z. f == z) (sym same)
 
-pub not_ending : (l : Line) → None ≡ feed_ended l → IsNoEnd l
-not_ending (reply n r) e = λ f. refl
-not_ending (change n j rows) e = λ f. refl
-not_ending (ended n j why rows) e = cc
+pub IsNoEnd-feed_ended : (l : Line) → None ≡ feed_ended l → IsNoEnd l
+IsNoEnd-feed_ended (reply n r) e = λ f. refl
+IsNoEnd-feed_ended (change n j rows) e = λ f. refl
+IsNoEnd-feed_ended (ended n j why rows) e = cc
 
 -- ---- lines
 
-pub no_end : (l : Line) (xs : Places) → IsNoEnd l → xs ≡ at_all (keeping_on (l ∷ [])) xs
-no_end l xs e = still_all (keeping_on (l ∷ [])) (λ c i. record c {
+pub at_all-keeping_on_IsNoEnd : (l : Line) (xs : Places) → IsNoEnd l → xs ≡ at_all (keeping_on (l ∷ [])) xs
+at_all-keeping_on_IsNoEnd l xs e = at_all-itself (keeping_on (l ∷ [])) (λ c i. record c {
   subs =
       sym (filter_whole (λ (s : Sub). not (ends_in (l ∷ []) s.feed)) c.subs (λ s. ap (λ b. not (b || false)) (e s.feed))) i;
 }) xs
 
-pub no_lines : (xs : Places) → xs ≡ at_all (keeping_on []) xs
-no_lines xs = still_all (keeping_on []) (λ c i. record c { subs = sym (filter_whole (λ (s : Sub). not (ends_in [] s.feed)) c.subs (λ s. refl)) i }) xs
+pub at_all-keeping_on_none : (xs : Places) → xs ≡ at_all (keeping_on []) xs
+at_all-keeping_on_none xs =
+    at_all-itself (keeping_on []) (λ c i. record c { subs = sym (filter_whole (λ (s : Sub). not (ends_in [] s.feed)) c.subs (λ s. refl)) i }) xs
 
 filter_twice : (p q r : Sub → Bool) → ((s : Sub) → r s ≡ (p s || q s)) → (subs : List Sub)
     → filter (λ s. not (q s)) (filter (λ s. not (p s)) subs) ≡ filter (λ s. not (r s)) subs
@@ -165,13 +168,13 @@ line_more ls l c i = record c {
 }
 
 all_more : (ls : List Line) (l : Line) (xs : Places) → at_all (keeping_on (l ∷ [])) (at_all (keeping_on ls) xs) ≡ at_all (keeping_on (ls ++ l ∷ [])) xs
-all_more ls l xs = both_all (keeping_on (l ∷ [])) (keeping_on ls) xs ∙ same_all (λ c. keeping_on (l ∷ []) (keeping_on ls c)) (keeping_on (ls ++ l ∷ []))
+all_more ls l xs = at_all-at_all (keeping_on (l ∷ [])) (keeping_on ls) xs ∙ at_all-same (λ c. keeping_on (l ∷ []) (keeping_on ls c)) (keeping_on (ls ++ l ∷ []))
     (line_more ls l) xs
 
 -- one line more of a list
-pub stay_next : {A : Type 0} (read : A → Line) (xs : List A) (i : ℕ) (x : A) (places before now : Places) → i < length xs → x ≡ get_or xs i x
+pub at_all-keeping_on_next : {A : Type 0} (read : A → Line) (xs : List A) (i : ℕ) (x : A) (places before now : Places) → i < length xs → x ≡ get_or xs i x
     → before ≡ at_all (keeping_on (map read (take i xs))) places → now ≡ at_all (keeping_on (read x ∷ [])) before
     → now ≡ at_all (keeping_on (map read (take (i + 1) xs))) places
-stay_next read xs i x places before now lt is e g =
+at_all-keeping_on_next read xs i x places before now lt is e g =
     g ∙ (ap (at_all (keeping_on (read x ∷ []))) e ∙ (all_more (map read (take i xs)) (read x) places
     ∙ ap (λ ls. at_all (keeping_on ls) places) (ap (λ y. map read (take i xs) ++ read y ∷ []) is ∙ sym (map_more read xs i x lt))))

@@ -22,20 +22,21 @@ raises bytes waiting more product result e f h = λ lt. omega arith
 pub fewer : (a b counted : ℕ) → b ≤ a → AreCounted a counted → AreCounted b counted
 fewer a b counted l h = λ lt. let k = h lt in omega arith
 
-pub on_and_on : (a b c w v u : ℕ) → CountsOn a w b v → CountsOn b v c u → CountsOn a w c u
-on_and_on a b c w v u f g = λ others h. g others (f others h)
+pub CountsOn-trans : (a b c w v u : ℕ) → CountsOn a w b v → CountsOn b v c u → CountsOn a w c u
+CountsOn-trans a b c w v u f g = λ others h. g others (f others h)
 
-pub from_there : (a b w u v : ℕ) → w ≡ u → CountsOn a w b v → CountsOn a u b v
-from_there a b w u v e c = subst (λ z. CountsOn a z b v) e c
+pub CountsOn-same : (a b w u v : ℕ) → w ≡ u → CountsOn a w b v → CountsOn a u b v
+CountsOn-same a b w u v e c = subst (λ z. CountsOn a z b v) e c
 
-pub on_slot : (o p : Option Kept) (k l : Kept) (w v : ℕ) → o ≡ Some k → p ≡ Some l → CountsOn (length k.unsynced) w (length l.unsynced) v
+pub CountsOn-bytes_of : (o p : Option Kept) (k l : Kept) (w v : ℕ) → o ≡ Some k → p ≡ Some l → CountsOn (length k.unsynced) w (length l.unsynced) v
     → CountsOn (bytes_of o) w (bytes_of p) v
-on_slot o p k l w v e f c = subst (λ z. CountsOn (bytes_of z) w (bytes_of p) v) (sym e) (subst (λ z. CountsOn (length k.unsynced) w (bytes_of z) v) (sym f) c)
+CountsOn-bytes_of o p k l w v e f c =
+    subst (λ z. CountsOn (bytes_of z) w (bytes_of p) v) (sym e) (subst (λ z. CountsOn (length k.unsynced) w (bytes_of z) v) (sym f) c)
 
-pub tells : (text : List ℕ) (before after : Kept) (w v n : ℕ) → after ≡ holding text before → n ≡ length text
+pub CountsOn-holding : (text : List ℕ) (before after : Kept) (w v n : ℕ) → after ≡ holding text before → n ≡ length text
     → ((bytes : ℕ) → AreCounted bytes w → AreCounted (bytes + 1 * n) v)
     → CountsOn (length before.unsynced) w (length after.unsynced) v
-tells text before after w v n e l raised = λ others h.
+CountsOn-holding text before after w v n e l raised = λ others h.
     let more : length after.unsynced ≡ length before.unsynced + n = ap (λ (k : Kept). length k.unsynced) e
     ∙ (length-append before.unsynced text ∙ ap (λ z. length before.unsynced + z) (sym l)) in
     fewer ((others + length before.unsynced) + 1 * n) (others + length after.unsynced) v (omega arith) (raised (others + length before.unsynced) h)
@@ -70,9 +71,9 @@ put_apart n [] y l = absurd (let no : ⊥ = omega (arith, l) in no)
 put_apart zero (x ∷ xs) y l = omega arith
 put_apart (suc n) (x ∷ xs) y l = let s = put_apart n xs y (omega (arith, l)) in omega arith
 
-pub on_at : (n : ℕ) (xs : Places) (x y : Option Kept) (w v : ℕ) → n < length xs → x ≡ get_or xs n x → CountsOn (bytes_of x) w (bytes_of y) v
+pub CountsOn-set : (n : ℕ) (xs : Places) (x y : Option Kept) (w v : ℕ) → n < length xs → x ≡ get_or xs n x → CountsOn (bytes_of x) w (bytes_of y) v
     → CountsOn (bytes_waiting xs) w (bytes_waiting (set xs n y)) v
-on_at n xs x y w v l e c = λ o h.
+CountsOn-set n xs x y w v l e c = λ o h.
     let a = apart n xs x l e in
     let b = put_apart n xs y l in
     fewer ((o + others n xs) + bytes_of y) (o + bytes_waiting (set xs n y)) v (omega arith)
@@ -100,7 +101,7 @@ all_as_before f [] h = omega arith
 all_as_before f (None ∷ xs) h = let l = all_as_before f xs h in omega arith
 all_as_before f (Some k ∷ xs) h = let l = all_as_before f xs h in let g = h k in omega arith
 
--- ---- what each call tells
+-- ---- what each call CountsOn-holding
 
 held : (text : List ℕ) (k : Kept) → length (holding text k).unsynced ≤ length k.unsynced + length text
 held text k = let e = length-append k.unsynced text in omega arith
@@ -143,51 +144,51 @@ none_released (Some k ∷ xs) = let l = none_released xs in let e = by (k.droppe
 
 -- ---- each call
 
-pub none_yet : (most : ℕ) (xs : Places) (w : ℕ) → xs ≡ replicate most None → AreCounted (bytes_waiting xs) w
-none_yet most xs w e = fewer 0 (bytes_waiting xs) w (subst (λ z. bytes_waiting z ≤ 0) (sym e) (by most)) (λ lt. omega arith)
+pub AreCounted-replicate : (most : ℕ) (xs : Places) (w : ℕ) → xs ≡ replicate most None → AreCounted (bytes_waiting xs) w
+AreCounted-replicate most xs w e = fewer 0 (bytes_waiting xs) w (subst (λ z. bytes_waiting z ≤ 0) (sym e) (by most)) (λ lt. omega arith)
   where
     by : (n : ℕ) → bytes_waiting (replicate n None) ≤ 0
     by zero = omega arith
     by (suc n) = let l = by n in omega arith
 
-pub nobody : (ys : Places) (w : ℕ) → ys ≡ [] → AreCounted (bytes_waiting ys) w
-nobody ys w e = fewer 0 (bytes_waiting ys) w (subst (λ z. bytes_waiting z ≤ 0) (sym e) (omega arith)) (λ lt. omega arith)
+pub AreCounted-none : (ys : Places) (w : ℕ) → ys ≡ [] → AreCounted (bytes_waiting ys) w
+AreCounted-none ys w e = fewer 0 (bytes_waiting ys) w (subst (λ z. bytes_waiting z ≤ 0) (sym e) (omega arith)) (λ lt. omega arith)
 
 -- one client is told nothing
-pub same_at : (n w : ℕ) (f : Kept → Kept) (xs ys : Places) → ((k : Kept) → (f k).unsynced ≡ k.unsynced) → ys ≡ at_client n f xs
+pub AreCounted-at_client : (n w : ℕ) (f : Kept → Kept) (xs ys : Places) → ((k : Kept) → (f k).unsynced ≡ k.unsynced) → ys ≡ at_client n f xs
     → AreCounted (bytes_waiting xs) w → AreCounted (bytes_waiting ys) w
-same_at n w f xs ys s e h =
+AreCounted-at_client n w f xs ys s e h =
     fewer (bytes_waiting xs) (bytes_waiting ys) w
     (let l = one_at_most n 0 f xs (λ k. let g = ap length (s k) in omega arith) in let c = ap bytes_waiting e in omega arith) h
 
-pub emptied_at : (n w : ℕ) (xs ys : Places) → ys ≡ at_client n emptied xs → AreCounted (bytes_waiting xs) w → AreCounted (bytes_waiting ys) w
-emptied_at n w xs ys e h =
+pub AreCounted-emptied : (n w : ℕ) (xs ys : Places) → ys ≡ at_client n emptied xs → AreCounted (bytes_waiting xs) w → AreCounted (bytes_waiting ys) w
+AreCounted-emptied n w xs ys e h =
     fewer (bytes_waiting xs) (bytes_waiting ys) w (let l = one_at_most n 0 emptied xs emptied_as_before in let c = ap bytes_waiting e in omega arith) h
 
-pub left_at : (n w : ℕ) (xs ys : Places) → ys ≡ set xs n None → AreCounted (bytes_waiting xs) w → AreCounted (bytes_waiting ys) w
-left_at n w xs ys e h = fewer (bytes_waiting xs) (bytes_waiting ys) w (let l = put_at_most n None xs in let c = ap bytes_waiting e in omega arith) h
+pub AreCounted-set_None : (n w : ℕ) (xs ys : Places) → ys ≡ set xs n None → AreCounted (bytes_waiting xs) w → AreCounted (bytes_waiting ys) w
+AreCounted-set_None n w xs ys e h = fewer (bytes_waiting xs) (bytes_waiting ys) w (let l = put_at_most n None xs in let c = ap bytes_waiting e in omega arith) h
 
 -- so many texts of a length were told
 abbrev pub IsRaised : (w v texts length : ℕ) → Type 0
 IsRaised w v texts length = (bytes : ℕ) → AreCounted bytes w → AreCounted (bytes + texts * length) v
 
-pub entered_at : (n w v d : ℕ) (role : Name) (user digest text : List ℕ) (xs ys : Places) → ys ≡ set xs n (Some (coming role user digest text)) → d ≡ length text
+pub AreCounted-coming : (n w v d : ℕ) (role : Name) (user digest text : List ℕ) (xs ys : Places) → ys ≡ set xs n (Some (coming role user digest text)) → d ≡ length text
     → IsRaised w v 1 d → AreCounted (bytes_waiting xs) w
     → AreCounted (bytes_waiting ys) v
-entered_at n w v d role user digest text xs ys e l r h =
+AreCounted-coming n w v d role user digest text xs ys e l r h =
     fewer (bytes_waiting xs + 1 * d) (bytes_waiting ys) v
     (let k = put_at_most n (Some (coming role user digest text)) xs in let c = ap bytes_waiting e in omega arith) (r (bytes_waiting xs) h)
 
-pub held_at : (n w v d : ℕ) (text : List ℕ) (xs ys : Places) → ys ≡ at_client n (holding text) xs → d ≡ length text → IsRaised w v 1 d
+pub AreCounted-holding : (n w v d : ℕ) (text : List ℕ) (xs ys : Places) → ys ≡ at_client n (holding text) xs → d ≡ length text → IsRaised w v 1 d
     → AreCounted (bytes_waiting xs) w → AreCounted (bytes_waiting ys) v
-held_at n w v d text xs ys e l r h =
+AreCounted-holding n w v d text xs ys e l r h =
     fewer (bytes_waiting xs + 1 * d) (bytes_waiting ys) v
     (let k = one_at_most n (length text) (holding text) xs (held text) in let c = ap bytes_waiting e in omega arith) (r (bytes_waiting xs) h)
 
-pub settled_listed : (w v d texts : ℕ) (text ns : List ℕ) (xs ys : Places) → ys ≡ walked (holding_owed text) ns xs → d ≡ length text → texts ≡ length ns
+pub AreCounted-walked : (w v d texts : ℕ) (text ns : List ℕ) (xs ys : Places) → ys ≡ walked (holding_owed text) ns xs → d ≡ length text → texts ≡ length ns
     → IsRaised w v texts d → AreCounted (bytes_waiting xs) w
     → AreCounted (bytes_waiting ys) v
-settled_listed w v d texts text ns xs ys e l t r h =
+AreCounted-walked w v d texts text ns xs ys e l t r h =
     fewer (bytes_waiting xs + texts * d) (bytes_waiting ys) v
     (let k = listed_at_most (length text) (holding_owed text) ns xs (owed text) in
     let c = ap bytes_waiting e in
@@ -195,10 +196,10 @@ settled_listed w v d texts text ns xs ys e l t r h =
     omega arith)
     (r (bytes_waiting xs) h)
 
-pub beaten_all : (w v d texts : ℕ) (text : List ℕ) (xs ys : Places) → ys ≡ at_all (holding_beat text) xs → d ≡ length text → texts ≡ length xs
+pub AreCounted-holding_beat : (w v d texts : ℕ) (text : List ℕ) (xs ys : Places) → ys ≡ at_all (holding_beat text) xs → d ≡ length text → texts ≡ length xs
     → IsRaised w v texts d → AreCounted (bytes_waiting xs) w
     → AreCounted (bytes_waiting ys) v
-beaten_all w v d texts text xs ys e l t r h =
+AreCounted-holding_beat w v d texts text xs ys e l t r h =
     fewer (bytes_waiting xs + texts * d) (bytes_waiting ys) v
     (let k = all_at_most (length text) (holding_beat text) xs (λ k. held text k) in
     let c = ap bytes_waiting e in
@@ -206,23 +207,24 @@ beaten_all w v d texts text xs ys e l t r h =
     omega arith)
     (r (bytes_waiting xs) h)
 
-pub checked_all : (w : ℕ) (tokens : List Token) (xs ys : Places) → ys ≡ at_all (checking tokens) xs → AreCounted (bytes_waiting xs) w
+pub AreCounted-checking : (w : ℕ) (tokens : List Token) (xs ys : Places) → ys ≡ at_all (checking tokens) xs → AreCounted (bytes_waiting xs) w
     → AreCounted (bytes_waiting ys) w
-checked_all w tokens xs ys e h =
+AreCounted-checking w tokens xs ys e h =
     fewer (bytes_waiting xs) (bytes_waiting ys) w (let l = all_as_before (checking tokens) xs (checked_as_before tokens) in let c = ap bytes_waiting e in
     omega arith) h
 
-pub same_all : (w : ℕ) (f : Kept → Kept) (xs ys : Places) → ((k : Kept) → (f k).unsynced ≡ k.unsynced) → ys ≡ at_all f xs → AreCounted (bytes_waiting xs) w
+pub AreCounted-at_all : (w : ℕ) (f : Kept → Kept) (xs ys : Places) → ((k : Kept) → (f k).unsynced ≡ k.unsynced) → ys ≡ at_all f xs
+    → AreCounted (bytes_waiting xs) w
     → AreCounted (bytes_waiting ys) w
-same_all w f xs ys s e h =
+AreCounted-at_all w f xs ys s e h =
     fewer (bytes_waiting xs) (bytes_waiting ys) w
     (let l = all_as_before f xs (λ k. let g = ap length (s k) in omega arith) in let c = ap bytes_waiting e in omega arith) h
 
-pub all_released : (w : ℕ) (xs ys : Places) → ys ≡ at_all releasing xs → AreCounted (bytes_waiting ys) w
-all_released w xs ys e = fewer 0 (bytes_waiting ys) w (let l = none_released xs in let c = ap bytes_waiting e in omega arith) (λ lt. omega arith)
+pub AreCounted-releasing : (w : ℕ) (xs ys : Places) → ys ≡ at_all releasing xs → AreCounted (bytes_waiting ys) w
+AreCounted-releasing w xs ys e = fewer 0 (bytes_waiting ys) w (let l = none_released xs in let c = ap bytes_waiting e in omega arith) (λ lt. omega arith)
 
 -- what a line counts
-pub on_heard : (w v : ℕ) (xs ys : Places) → CountsOn (bytes_waiting xs) w (bytes_waiting ys) v → AreCounted (bytes_waiting xs) w
+pub AreCounted-CountsOn : (w v : ℕ) (xs ys : Places) → CountsOn (bytes_waiting xs) w (bytes_waiting ys) v → AreCounted (bytes_waiting xs) w
     → AreCounted (bytes_waiting ys) v
-on_heard w v xs ys c h = fewer (0 + bytes_waiting ys) (bytes_waiting ys) v (omega arith)
+AreCounted-CountsOn w v xs ys c h = fewer (0 + bytes_waiting ys) (bytes_waiting ys) v (omega arith)
     (c 0 (fewer (bytes_waiting xs) (0 + bytes_waiting xs) w (omega arith) h))

@@ -15,10 +15,10 @@ walked-push f [] n xs = refl
 walked-push f (m ∷ ns) n xs = walked-push f ns n (at_client m f xs)
 
 -- one number more of a list
-pub walked_more : {C : Type 0} (f : C → C) (ns : List ℕ) (i : ℕ) (xs before now : List (Option C)) → i < length ns → before ≡ walked f (take i ns) xs
+pub walked-take_next : {C : Type 0} (f : C → C) (ns : List ℕ) (i : ℕ) (xs before now : List (Option C)) → i < length ns → before ≡ walked f (take i ns) xs
     → now ≡ at_client (get_or ns i 0) f before
     → now ≡ walked f (take (i + 1) ns) xs
-walked_more f ns i xs before now lt e g =
+walked-take_next f ns i xs before now lt e g =
     g ∙ (ap (at_client (get_or ns i 0) f) e ∙ (sym (walked-push f (take i ns) (get_or ns i 0) xs) ∙ ap (λ z. walked f z xs) (sym (take_more ns i 0 lt))))
 
 -- ---- each that passes a test
@@ -81,17 +81,17 @@ some_all p f (x ∷ xs) h = λ i. by (p 0) x (h 0) i ∷ some_all (λ m. p (suc 
     by false None k = refl
     by false (Some c) k = ap Some (sym (k c refl refl))
 
-pub found : (m : ℕ) (ns : List ℕ) (k : ℕ) → k < length ns → get_or ns k m ≡ m → list_any (eqb m) ns ≡ true
-found m [] k h e = absurd (let no_place : ⊥ = omega (arith, h) in no_place)
-found m (n ∷ ns) zero h e = ap (λ b. b || list_any (eqb m) ns) (eq-eqb m n (sym e))
-found m (n ∷ ns) (suc k) h e = or_right (eqb m n) (list_any (eqb m) ns) (found m ns k (omega (arith, h)) e)
+pub list_any-get_or : (m : ℕ) (ns : List ℕ) (k : ℕ) → k < length ns → get_or ns k m ≡ m → list_any (eqb m) ns ≡ true
+list_any-get_or m [] k h e = absurd (let no_place : ⊥ = omega (arith, h) in no_place)
+list_any-get_or m (n ∷ ns) zero h e = ap (λ b. b || list_any (eqb m) ns) (eq-eqb m n (sym e))
+list_any-get_or m (n ∷ ns) (suc k) h e = or_right (eqb m n) (list_any (eqb m) ns) (list_any-get_or m ns k (omega (arith, h)) e)
 
 -- where all are listed to whom it does something, it is done to all
-pub walked_all : (p : Kept → Bool) (f : Kept → Kept) (ns : List ℕ) (xs : Places) → IsDistinct eqb ns → AreThose p ns xs
+pub walked-AreThose : (p : Kept → Bool) (f : Kept → Kept) (ns : List ℕ) (xs : Places) → IsDistinct eqb ns → AreThose p ns xs
     → ((k : Kept) → p k ≡ false → f k ≡ k) → walked f ns xs ≡ at_all f xs
-walked_all p f ns xs d those still = walked_some f ns xs d ∙ some_all (λ m. list_any (eqb m) ns) f xs (λ m k there e. still k (unlisted m k there e
+walked-AreThose p f ns xs d those still = walked_some f ns xs d ∙ some_all (λ m. list_any (eqb m) ns) f xs (λ m k there e. still k (unlisted m k there e
     (cases_Bool (p k))))
   where
     unlisted : (m : ℕ) (k : Kept) → client_at xs m ≡ Some k → list_any (eqb m) ns ≡ false → (p k ≡ true) ⊎ (p k ≡ false) → p k ≡ false
     unlisted m k there e (inr h) = h
-    unlisted m k there e (inl h) = let c = those.all m (ap (λ o. if_some o false p) there ∙ h) in absurd (false≢true (sym e ∙ found m ns c.0 c.1 c.2))
+    unlisted m k there e (inl h) = let c = those.all m (ap (λ o. if_some o false p) there ∙ h) in absurd (false≢true (sym e ∙ list_any-get_or m ns c.0 c.1 c.2))

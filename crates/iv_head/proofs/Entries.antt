@@ -22,6 +22,6 @@ entry_says e ls some = by e.requests e.names e.position some
     by [] [] (Some p) h = first_says (position_text p) [] ls refl refl
     by [] [] None h = absurd (h refl)
 
-pub entries_say : (es : List Entry) → AllByRecursion IsEntry es → SaysNothing (journal_of es)
-entries_say [] w = (refl, refl)
-entries_say (e ∷ es) w = entry_says e (journal_of es) w.0.some
+pub SaysNothing-journal_of : (es : List Entry) → AllByRecursion IsEntry es → SaysNothing (journal_of es)
+SaysNothing-journal_of [] w = (refl, refl)
+SaysNothing-journal_of (e ∷ es) w = entry_says e (journal_of es) w.0.some

@@ -8,10 +8,10 @@ use Rattle.std.proofs.lemmas.List.{at_drop_more}
 use Rattle.std.proofs.lemmas.Slice.Eq.{bytes_eq-Decides}
 use Rattle.iv_rows.specs.Options.{if_some}
 use Rattle.iv_journal.specs.Journal.{Line}
-use Rattle.iv_clients.proofs.Cuts.{passed}
+use Rattle.iv_clients.proofs.Cuts.{Passed-option_and_then}
 use Rattle.iv_head.specs.Begun.{Begun, Followed, IsBegun, IsFollowed, IsReadBack, IsStanding, SaysNothing, Standing, begun_in, followed_in, line, lines_of, log_in, log_text, said_log, said_standing, standing_in, standing_text, standings_in}
-use Rattle.iv_head.proofs.Entries.{entries_say}
-use Rattle.iv_head.proofs.WrittenThere.{log_back, standing_back}
+use Rattle.iv_head.proofs.Entries.{SaysNothing-journal_of}
+use Rattle.iv_head.proofs.WrittenThere.{followed_in-log_text, standing_in-standing_text}
 
 abbrev said : List Standing → List Line
 said ss = map (λ (s : Standing). line (standing_text s)) ss
@@ -21,7 +21,7 @@ said ss = map (λ (s : Standing). line (standing_text s)) ss
 standings_back : (ss : List Standing) (ls : List Line) → AllByRecursion IsStanding ss → standings_in ls ≡ [] → standings_in (said ss ++ ls) ≡ ss
 standings_back [] ls a n = n
 standings_back (s ∷ ss) ls a n =
-    ap (λ o. if_some o [] (λ t. t ∷ standings_in (said ss ++ ls))) (standing_back s a.0) ∙ ap (λ z. s ∷ z) (standings_back ss ls a.1 n)
+    ap (λ o. if_some o [] (λ t. t ∷ standings_in (said ss ++ ls))) (standing_in-standing_text s a.0) ∙ ap (λ z. s ∷ z) (standings_back ss ls a.1 n)
 
 behind_said : (ss : List Standing) (ls : List Line) → drop (length ss) (said ss ++ ls) ≡ ls
 behind_said [] ls = refl
@@ -53,7 +53,7 @@ begun_back b ls w n = by b.log b.standings w.log w.standings
     by : (log : Option Followed) (ss : List Standing) → IfSome log IsFollowed → AllByRecursion IsStanding ss
         → begun_in (lines_of (record { log = log; standings = ss }) ++ ls) ≡ pair (record { log = log; standings = ss }) ls
     by None ss f a = ap (λ o. with_log o (said ss ++ ls)) (no_log ss ls n.0) ∙ rest_back None ss ls a n.1
-    by (Some f) ss is a = ap (λ o. with_log o (line (log_text f) ∷ (said ss ++ ls))) (log_back f is) ∙ rest_back (Some f) ss ls a n.1
+    by (Some f) ss is a = ap (λ o. with_log o (line (log_text f) ∷ (said ss ++ ls))) (followed_in-log_text f is) ∙ rest_back (Some f) ss ls a n.1
 
 -- ---- what is read was written so
 
@@ -61,10 +61,11 @@ one_line : (l : Line) (text : List ℕ) → l.is_last ≡ true → l.text ≡ te
 one_line l text e h = λ i. record { is_last = e i; text = h i }
 
 standing_sound : (text : List ℕ) (s : Standing) → standing_in text ≡ Some s → text ≡ standing_text s
-standing_sound text s h = sym ((bytes_eq-Decides (standing_text s) text).0 (passed (λ (t : Standing). bytes_eq (standing_text t) text) (said_standing text) s h).passes)
+standing_sound text s h = sym ((bytes_eq-Decides (standing_text s) text).0 (Passed-option_and_then (λ (t : Standing). bytes_eq (standing_text t) text) (said_standing text) s h).passes)
 
 log_sound : (text : List ℕ) (f : Followed) → followed_in text ≡ Some f → text ≡ log_text f
-log_sound text f h = sym ((bytes_eq-Decides (log_text f) text).0 (passed (λ (g : Followed). bytes_eq (log_text g) text) (said_log text) f h).passes)
+log_sound text f h =
+    sym ((bytes_eq-Decides (log_text f) text).0 (Passed-option_and_then (λ (g : Followed). bytes_eq (log_text g) text) (said_log text) f h).passes)
 
 abbrev AreWritten : List Line → List Standing → Type 0
 AreWritten ls ss = ls ≡ said ss ++ drop (length ss) ls
@@ -154,4 +155,4 @@ begun_is ls log has ss count l h s e =
     ∙ (ap (λ b. told log (standings_in (cond b (drop 1 ls) ls)) (cond b (drop 1 ls) ls)) h ∙ ap (λ o. with_log o ls) l))
 
 pub read_back : IsReadBack
-read_back = record { back = begun_back; entries = entries_say; written = log_written }
+read_back = record { back = begun_back; entries = SaysNothing-journal_of; written = log_written }

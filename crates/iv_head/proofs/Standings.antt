@@ -11,9 +11,9 @@ stood_more : (k : Known) (ss : List Standing) (s : Standing) → stood k (ss ++ 
 stood_more k [] s = refl
 stood_more k (t ∷ ss) s = stood_more (stands k t) ss s
 
-pub stood_next : (first now later : Names) (ss : List Standing) (i : ℕ) (s : Standing) → i < length ss → s ≡ get_or ss i s → now ≡ record first { known = stood first.known (take i ss) }
+pub stood-take_next : (first now later : Names) (ss : List Standing) (i : ℕ) (s : Standing) → i < length ss → s ≡ get_or ss i s → now ≡ record first { known = stood first.known (take i ss) }
     → later ≡ record now { known = begun now.known s.holder s.at.epoch s.at.count } → later ≡ record first { known = stood first.known (take (i + 1) ss) }
-stood_next first now later ss i s h e k l =
+stood-take_next first now later ss i s h e k l =
     let more : take (i + 1) ss ≡ take i ss ++ s ∷ [] = take_more ss i s h ∙ ap (λ z. take i ss ++ z ∷ []) (sym e) in
     l ∙ (ap (λ (z : Names). record z { known = stands z.known s }) k
     ∙ ap (λ (z : Known). record first { known = z }) (sym (ap (stood first.known) more ∙ stood_more first.known (take i ss) s)))

@@ -31,8 +31,8 @@ stood_epoch : (k : Known) (ss : List Standing) → (stood k ss).epoch ≡ k.epoc
 stood_epoch k [] = refl
 stood_epoch k (s ∷ ss) = stood_epoch (begun k s.holder s.at.epoch s.at.count) ss
 
-pub stood_known : (epoch : List ℕ) (b : Begun) → stood (nothing_known epoch) b.standings ≡ known_at (head_with epoch b)
-stood_known epoch b = λ i. record {
+pub stood-nothing_known : (epoch : List ℕ) (b : Begun) → stood (nothing_known epoch) b.standings ≡ known_at (head_with epoch b)
+stood-nothing_known epoch b = λ i. record {
   epoch = stood_epoch (nothing_known epoch) b.standings i;
   owns = λ holder. stood_kept (nothing_known epoch) b.standings (λ h. refl) holder i;
   holders = (stood (nothing_known epoch) b.standings).holders;

@@ -26,14 +26,14 @@ added : (d : Bool) (role : List ℕ) (r : List ℕ × ℕ) (rs : ByRole) → cli
 added true role r rs h = raised_in_turn r.1 (clients_in rs) 1
 added false role r rs h = ap (raised r.1) h ∙ raised_behind r.1 (clients_in rs) 1
 
-pub adds_up : (role : List ℕ) (rs : ByRole) → clients_in (one_more role rs) ≡ raised (clients_in rs) 1
-adds_up role [] = refl
-adds_up role (r ∷ rs) = added (bytes_eq r.0 role) role r rs (adds_up role rs)
+pub clients_in-one_more : (role : List ℕ) (rs : ByRole) → clients_in (one_more role rs) ≡ raised (clients_in rs) 1
+clients_in-one_more role [] = refl
+clients_in-one_more role (r ∷ rs) = added (bytes_eq r.0 role) role r rs (clients_in-one_more role rs)
 
 -- a sum from left to right
 sum_from_is : (n : ℕ) (rs : ByRole) → n ≤ 2 ^ 64 - 1 → sum_from n rs ≡ raised n (clients_in rs)
 sum_from_is n [] h = omega (arith, h)
 sum_from_is n (r ∷ rs) h = sum_from_is (raised n r.1) rs (omega arith) ∙ sym (raised_behind n r.1 (clients_in rs))
 
-pub sum_is : (rs : ByRole) → sum_from 0 rs ≡ clients_in rs
-sum_is rs = sum_from_is 0 rs (omega arith) ∙ raised_nothing rs
+pub sum_from-clients_in : (rs : ByRole) → sum_from 0 rs ≡ clients_in rs
+sum_from-clients_in rs = sum_from_is 0 rs (omega arith) ∙ raised_nothing rs

@@ -6,9 +6,9 @@ use Rattle.hex.specs.Hex.{encode_lower}
 use Rattle.iv_journal.specs.Journal.{Line, body_of, bytes_of, digest_behind, digest_of, has_head, is_plain, is_text, journal_of, mark, most_text, no_digest}
 use Rattle.iv_journal.specs.Reading.{BeginsNoLine, begins, fault_of, is_torn, whole}
 use Rattle.iv_journal.specs.Laws.{CutsAreFronts}
-use Rattle.iv_journal.proofs.Bytes.{both, either, is_end, none_take, or_true, take_long, take_short}
-use Rattle.iv_journal.proofs.Bodies.{length_body, no_line_without, one_line, plain_body}
-use Rattle.iv_journal.proofs.Readings.{AllText, one_way}
+use Rattle.iv_journal.proofs.Bytes.{and-both_true, le-or_lt, is_end, HasNone-take, or_true, take-append_long, take-append_short}
+use Rattle.iv_journal.proofs.Bodies.{length-body_of, BeginsNoLine-HasNoNewline, HasNoNewline-body_of, HasNone-body_of}
+use Rattle.iv_journal.proofs.Readings.{AllText, same-bytes_of}
 
 -- ---- a front of a line is torn
 
@@ -42,9 +42,9 @@ length_take (suc n) (x ∷ xs) = let h = length_take n xs in omega (arith, h)
 torn_front : (d : List ℕ) (l : Line) (n : ℕ) → is_text l.text ≡ true → is_torn (take n (body_of d l)) ≡ true
 torn_front d l n h =
     let cut = take n (body_of d l) in
-    let plain : is_plain (take n (body_of d l)) ≡ true = ap not (none_take is_end n (body_of d l) (plain_body d l h)) in
-    let most : length l.text ≤ most_text = long (length l.text) most_text (both (is_plain l.text) (nat_le (length l.text) most_text) h).1 in
-    let whole_length = length_body d l in
+    let plain : is_plain (take n (body_of d l)) ≡ true = ap not (HasNone-take is_end n (body_of d l) (HasNone-body_of d l h)) in
+    let most : length l.text ≤ most_text = long (length l.text) most_text (and-both_true (is_plain l.text) (nat_le (length l.text) most_text) h).1 in
+    let whole_length = length-body_of d l in
     let cut_length = length_take n (body_of d l) in
     let fits : length (take n (body_of d l)) ≤ 75 + most_text = omega (arith, most, whole_length, cut_length) in
     (λ i. begins_mark l.is_last (encode_lower (digest_of d l) ++ (codes "\"," ++ l.text)) n i && (plain i && short (length (take n (body_of d l))) (75 + most_text) fits i))
@@ -68,7 +68,7 @@ cut_none d n e = record {
   within = omega arith;
   most = λ h. absurd (let no : ⊥ = omega (arith, h) in no);
   torn = refl;
-  furthest = no_line_without d [] refl;
+  furthest = BeginsNoLine-HasNoNewline d [] refl;
 }
 
 cut_first : (d : List ℕ) (l : Line) (ls : List Line) (n : ℕ) → is_text l.text ≡ true → n ≤ length (body_of d l) → Cut d (l ∷ ls) n
@@ -77,11 +77,11 @@ cut_first d l ls n h f =
     record {
       count = 0;
       rest = take n (body_of d l);
-      bytes = take_short n (body_of d l) (10 ∷ bytes_of (digest_of d l) ls) f;
+      bytes = take-append_short n (body_of d l) (10 ∷ bytes_of (digest_of d l) ls) f;
       within = omega arith;
       most = λ c. omega (arith, a, f);
       torn = torn_front d l n h;
-      furthest = no_line_without d (take n (body_of d l)) (none_take (λ b. b == 10) n (body_of d l) (one_line d l h));
+      furthest = BeginsNoLine-HasNoNewline d (take n (body_of d l)) (HasNone-take (λ b. b == 10) n (body_of d l) (HasNoNewline-body_of d l h));
     }
 
 cut_later : (d : List ℕ) (l : Line) (ls : List Line) (n : ℕ) → suc (length (body_of d l)) ≤ n → Cut (digest_of d l) ls (n - suc (length (body_of d l))) → Cut d (l ∷ ls) n
@@ -89,7 +89,7 @@ cut_later d l ls n f c =
     let e = digest_of d l in
     let record_length : length (body_of d l ++ 10 ∷ []) ≡ suc (length (body_of d l)) = length-append (body_of d l) (10 ∷ []) ∙ omega arith in
     let past : length (body_of d l ++ 10 ∷ []) ≤ n = omega (arith, record_length, f) in
-    let split = take_long n (body_of d l ++ 10 ∷ []) (bytes_of (digest_of d l) ls) past in
+    let split = take-append_long n (body_of d l ++ 10 ∷ []) (bytes_of (digest_of d l) ls) past in
     let m = length-append (body_of d l) (10 ∷ bytes_of (digest_of d l) (take c.count ls)) in
     let m2 = length-append (body_of d l) (10 ∷ bytes_of (digest_of d l) (take (suc c.count) ls)) in
     record {
@@ -108,7 +108,7 @@ cut_later d l ls n f c =
 
 pub cut_at : (d : List ℕ) (ls : List Line) (n : ℕ) → AllText ls → Cut d ls n
 cut_at d [] n a = cut_none d n (take_none n)
-cut_at d (l ∷ ls) n a = by (either n (length (body_of d l))) (cut_at (digest_of d l) ls (n - suc (length (body_of d l))) a.1)
+cut_at d (l ∷ ls) n a = by (le-or_lt n (length (body_of d l))) (cut_at (digest_of d l) ls (n - suc (length (body_of d l))) a.1)
   where
     by : (n ≤ length (body_of d l)) ⊎ (suc (length (body_of d l)) ≤ n) → Cut (digest_of d l) ls (n - suc (length (body_of d l))) → Cut d (l ∷ ls) n
     by (inl f) c = cut_first d l ls n a.0 f
@@ -129,10 +129,10 @@ head_take (suc n) (l ∷ ls) h = h
 no_fault : (b c : Bool) (n : ℕ) → b ≡ true → c ≡ true → cond b (cond c None (Some n)) (Some 0) ≡ None
 no_fault b c n h k = (λ i. cond (h i) (cond (k i) None (Some n)) (Some 0))
 
-pub cuts : CutsAreFronts
-cuts = λ ls left r j h.
+pub CutsAreFronts-take : CutsAreFronts
+CutsAreFronts-take = λ ls left r j h.
     let c = cut_at no_digest ls left j.texts in
-    let k = one_way no_digest h.lines (take c.count ls) h.rest c.rest h.begins.texts (all_take c.count ls j.texts) h.begins.furthest c.furthest (sym h.begins.all ∙ c.bytes) in
+    let k = same-bytes_of no_digest h.lines (take c.count ls) h.rest c.rest h.begins.texts (all_take c.count ls j.texts) h.begins.furthest c.furthest (sym h.begins.all ∙ c.bytes) in
     record {
       count = c.count;
       within = c.within;

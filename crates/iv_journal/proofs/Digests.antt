@@ -6,10 +6,10 @@ use Rattle.sha2.specs.Sha256.{sha256}
 use Rattle.sha2.proofs.Facts256.{length-sha256}
 use Rattle.iv_journal.specs.Journal.{Line, digest_behind, digest_of, mark, message_of, no_digest}
 use Rattle.iv_journal.specs.Laws.{Collide, DigestsTell, IsDigested, IsZero}
-use Rattle.iv_journal.proofs.Bytes.{bytes_same, same_bytes}
-use Rattle.iv_journal.proofs.Bodies.{same_kind}
-use Rattle.iv_journal.proofs.Fronts.{drop_at_length, drop_mark, take_at}
-use Rattle.iv_journal.proofs.Readings.{digest_append}
+use Rattle.iv_journal.proofs.Bytes.{bytes_eq-itself, same-bytes_eq}
+use Rattle.iv_journal.proofs.Bodies.{same-mark}
+use Rattle.iv_journal.proofs.Fronts.{drop-append_at, drop-mark, take-append_at}
+use Rattle.iv_journal.proofs.Readings.{digest_behind-append}
 
 -- ---- the latest line first
 
@@ -33,7 +33,7 @@ abbrev digest : List Line → List ℕ
 digest rs = digest_behind no_digest (forward rs)
 
 digest_first : (rs : List Line) (l : Line) → digest (l ∷ rs) ≡ digest_of (digest rs) l
-digest_first rs l = digest_append no_digest (forward rs) (l ∷ [])
+digest_first rs l = digest_behind-append no_digest (forward rs) (l ∷ [])
 
 length_digest : (rs : List Line) → length (digest rs) ≡ 32
 length_digest [] = refl
@@ -56,13 +56,13 @@ older rs l x h = record {
 -- a message tells its line, and the digest before it
 same_message : (rs qs : List Line) (l m : Line) → message_of (digest rs) l ≡ message_of (digest qs) m → (digest rs ≡ digest qs) × (l ≡ m)
 same_message rs qs l m e =
-    let a = take_at 32 (digest rs) (mark l.is_last ++ l.text) (length_digest rs) in
-    let b = take_at 32 (digest qs) (mark m.is_last ++ m.text) (length_digest qs) in
-    let c = drop_at_length 32 (digest rs) (mark l.is_last ++ l.text) (length_digest rs) in
-    let d = drop_at_length 32 (digest qs) (mark m.is_last ++ m.text) (length_digest qs) in
+    let a = take-append_at 32 (digest rs) (mark l.is_last ++ l.text) (length_digest rs) in
+    let b = take-append_at 32 (digest qs) (mark m.is_last ++ m.text) (length_digest qs) in
+    let c = drop-append_at 32 (digest rs) (mark l.is_last ++ l.text) (length_digest rs) in
+    let d = drop-append_at 32 (digest qs) (mark m.is_last ++ m.text) (length_digest qs) in
     let rest : mark l.is_last ++ l.text ≡ mark m.is_last ++ m.text = sym c ∙ (ap (drop 32) e ∙ d) in
-    let kind = same_kind l.is_last m.is_last l.text m.text rest in
-    let text : l.text ≡ m.text = sym (drop_mark l.is_last l.text) ∙ (ap (drop 9) rest ∙ drop_mark m.is_last m.text) in
+    let kind = same-mark l.is_last m.is_last l.text m.text rest in
+    let text : l.text ≡ m.text = sym (drop-mark l.is_last l.text) ∙ (ap (drop 9) rest ∙ drop-mark m.is_last m.text) in
     (sym a ∙ (ap (take 32) e ∙ b), λ i. record { is_last = kind i; text = text i })
 
 -- ---- two journals
@@ -84,7 +84,7 @@ one_more rs qs l m e (inr (inr (inl h))) = inr (inr (inl (record { of_zero = h.o
 one_more rs qs l m e (inr (inr (inr h))) = inr (inr (inr (record { of_zero = h.of_zero; is = older qs m h.of_zero h.is; digest = h.digest })))
 
 other_messages : (x y : List ℕ) → bytes_eq x y ≡ false → x ≡ y → ⊥
-other_messages x y n e = false≢true (sym n ∙ (ap (λ z. bytes_eq z y) e ∙ bytes_same y))
+other_messages x y n e = false≢true (sym n ∙ (ap (λ z. bytes_eq z y) e ∙ bytes_eq-itself y))
 
 tells : (rs qs : List Line) → digest rs ≡ digest qs → Told (forward rs) (forward qs)
 tells [] [] e = inl refl
@@ -98,7 +98,7 @@ tells (l ∷ rs) (m ∷ qs) e = by (bytes_eq (message_of (digest rs) l) (message
     by : (b : Bool) → bytes_eq (message_of (digest rs) l) (message_of (digest qs) m) ≡ b → (digest rs ≡ digest qs → Told (forward rs) (forward qs))
         → Told (forward (l ∷ rs)) (forward (m ∷ qs))
     by true h later =
-        let k = same_message rs qs l m (same_bytes (message_of (digest rs) l) (message_of (digest qs) m) h) in
+        let k = same_message rs qs l m (same-bytes_eq (message_of (digest rs) l) (message_of (digest qs) m) h) in
         one_more rs qs l m k.1 (later k.0)
     by false h later = inr (inl (record {
       one = message_of (digest rs) l;
@@ -109,8 +109,8 @@ tells (l ∷ rs) (m ∷ qs) e = by (bytes_eq (message_of (digest rs) l) (message
       digests = same;
     }))
 
-pub digests : DigestsTell
-digests = λ ls ms e.
+pub DigestsTell-digest_of : DigestsTell
+DigestsTell-digest_of = λ ls ms e.
     let a = backward ls in
     let b = backward ms in
     let h = tells a.lines b.lines (ap (digest_behind no_digest) a.is ∙ (e ∙ ap (digest_behind no_digest) (sym b.is))) in

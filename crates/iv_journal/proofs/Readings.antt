@@ -4,40 +4,40 @@ use Rattle.std.specs.List.{AllByRecursion}
 use Rattle.iv_journal.specs.Journal.{Line, body_of, bytes_of, digest_behind, digest_of, is_text, no_digest}
 use Rattle.iv_journal.specs.Reading.{BeginsNoLine, fault_of, whole}
 use Rattle.iv_journal.specs.Laws.{GoesOn, HasOneReading}
-use Rattle.iv_journal.proofs.Bodies.{NextLine, next_line, same_first}
+use Rattle.iv_journal.proofs.Bodies.{NextLine, NextLine-or_BeginsNoLine, same-body_of}
 
 -- ---- lines behind lines
 
-pub bytes_append : (d : List ℕ) (ls ms : List Line) → bytes_of d (ls ++ ms) ≡ bytes_of d ls ++ bytes_of (digest_behind d ls) ms
-bytes_append d [] ms = refl
-bytes_append d (l ∷ ls) ms =
-    ap (λ z. body_of d l ++ 10 ∷ z) (bytes_append (digest_of d l) ls ms)
+pub bytes_of-append : (d : List ℕ) (ls ms : List Line) → bytes_of d (ls ++ ms) ≡ bytes_of d ls ++ bytes_of (digest_behind d ls) ms
+bytes_of-append d [] ms = refl
+bytes_of-append d (l ∷ ls) ms =
+    ap (λ z. body_of d l ++ 10 ∷ z) (bytes_of-append (digest_of d l) ls ms)
     ∙ sym (append_assoc (body_of d l) (10 ∷ bytes_of (digest_of d l) ls) (bytes_of (digest_behind (digest_of d l) ls) ms))
 
-pub digest_append : (d : List ℕ) (ls ms : List Line) → digest_behind d (ls ++ ms) ≡ digest_behind (digest_behind d ls) ms
-digest_append d [] ms = refl
-digest_append d (l ∷ ls) ms = digest_append (digest_of d l) ls ms
+pub digest_behind-append : (d : List ℕ) (ls ms : List Line) → digest_behind d (ls ++ ms) ≡ digest_behind (digest_behind d ls) ms
+digest_behind-append d [] ms = refl
+digest_behind-append d (l ∷ ls) ms = digest_behind-append (digest_of d l) ls ms
 
-pub goes_on : (ls ms : List Line) → GoesOn ls ms
-goes_on ls ms = record { bytes = bytes_append no_digest ls ms; digest = digest_append no_digest ls ms }
+pub GoesOn-lines : (ls ms : List Line) → GoesOn ls ms
+GoesOn-lines ls ms = record { bytes = bytes_of-append no_digest ls ms; digest = digest_behind-append no_digest ls ms }
 
 -- ---- at most one
 
 abbrev pub AllText : List Line → Type 0
 AllText ls = AllByRecursion (λ l. is_text l.text ≡ true) ls
 
-pub one_way : (d : List ℕ) (ls ms : List Line) (r s : List ℕ) → AllText ls → AllText ms → BeginsNoLine (digest_behind d ls) r → BeginsNoLine (digest_behind d ms) s
+pub same-bytes_of : (d : List ℕ) (ls ms : List Line) (r s : List ℕ) → AllText ls → AllText ms → BeginsNoLine (digest_behind d ls) r → BeginsNoLine (digest_behind d ms) s
     → bytes_of d ls ++ r ≡ bytes_of d ms ++ s → (ls ≡ ms) × (r ≡ s)
-one_way d [] [] r s a b f g e = (refl, e)
-one_way d [] (m ∷ ms) r s a b f g e =
+same-bytes_of d [] [] r s a b f g e = (refl, e)
+same-bytes_of d [] (m ∷ ms) r s a b f g e =
     absurd (f m (bytes_of (digest_of d m) ms ++ s) b.0 (e ∙ append_assoc (body_of d m) (10 ∷ bytes_of (digest_of d m) ms) s))
-one_way d (l ∷ ls) [] r s a b f g e =
+same-bytes_of d (l ∷ ls) [] r s a b f g e =
     absurd (g l (bytes_of (digest_of d l) ls ++ r) a.0 (sym e ∙ append_assoc (body_of d l) (10 ∷ bytes_of (digest_of d l) ls) r))
-one_way d (l ∷ ls) (m ∷ ms) r s a b f g e =
-    let k = same_first d l m (bytes_of (digest_of d l) ls ++ r) (bytes_of (digest_of d m) ms ++ s) a.0 b.0
+same-bytes_of d (l ∷ ls) (m ∷ ms) r s a b f g e =
+    let k = same-body_of d l m (bytes_of (digest_of d l) ls ++ r) (bytes_of (digest_of d m) ms ++ s) a.0 b.0
     (sym (append_assoc (body_of d l) (10 ∷ bytes_of (digest_of d l) ls) r) ∙ (e ∙ append_assoc (body_of d m) (10 ∷ bytes_of (digest_of d m) ms) s)) in
     let same : m ≡ l = sym k.0 in
-    let p = one_way (digest_of d l) ls ms r s a.1 b.1 f (subst (λ (x : Line). BeginsNoLine (digest_behind (digest_of d x) ms) s) same g)
+    let p = same-bytes_of (digest_of d l) ls ms r s a.1 b.1 f (subst (λ (x : Line). BeginsNoLine (digest_behind (digest_of d x) ms) s) same g)
     (k.1 ∙ ap (λ (x : Line). bytes_of (digest_of d x) ms ++ s) same) in
     (λ i. k.0 i ∷ p.0 i, p.1)
 
@@ -63,12 +63,12 @@ none_in_none d bytes k h =
     omega (arith, a, b, h)
 
 lines_by : (n : ℕ) (d bytes : List ℕ) → length bytes ≤ n → Lines d bytes
-lines_by zero d bytes h = by (next_line d bytes)
+lines_by zero d bytes h = by (NextLine-or_BeginsNoLine d bytes)
   where
     by : NextLine d bytes ⊎ BeginsNoLine d bytes → Lines d bytes
     by (inl k) = absurd (none_in_none d bytes k h)
     by (inr none) = record { lines = []; rest = bytes; all = refl; texts = tt; furthest = none }
-lines_by (suc n) d bytes h = by (next_line d bytes) (λ (e after : List ℕ) (l : length after ≤ n). lines_by n e after l)
+lines_by (suc n) d bytes h = by (NextLine-or_BeginsNoLine d bytes) (λ (e after : List ℕ) (l : length after ≤ n). lines_by n e after l)
   where
     by : NextLine d bytes ⊎ BeginsNoLine d bytes → ((e after : List ℕ) → length after ≤ n → Lines e after) → Lines d bytes
     by (inl k) later =
@@ -82,14 +82,14 @@ lines_by (suc n) d bytes h = by (next_line d bytes) (λ (e after : List ℕ) (l 
         }
     by (inr none) later = record { lines = []; rest = bytes; all = refl; texts = tt; furthest = none }
 
-pub one_reading : (bytes : List ℕ) → HasOneReading bytes
-one_reading bytes =
+pub HasOneReading-bytes : (bytes : List ℕ) → HasOneReading bytes
+HasOneReading-bytes bytes =
     let s = lines_by (length bytes) no_digest bytes (omega arith) in
     record {
       reading = record { lines = whole s.lines; fault = fault_of s.lines s.rest };
       is = record { lines = s.lines; rest = s.rest; begins = record { all = s.all; texts = s.texts; furthest = s.furthest }; whole = refl; fault = refl };
       only = λ r h.
-          let k = one_way no_digest h.lines s.lines h.rest s.rest h.begins.texts s.texts h.begins.furthest s.furthest (sym h.begins.all ∙ s.all) in
+          let k = same-bytes_of no_digest h.lines s.lines h.rest s.rest h.begins.texts s.texts h.begins.furthest s.furthest (sym h.begins.all ∙ s.all) in
           let lines = h.whole ∙ ap whole k.0 in
           let fault = h.fault ∙ (λ i. fault_of (k.0 i) (k.1 i)) in
           (λ i. record { lines = lines i; fault = fault i });

@@ -6,7 +6,7 @@ use Rattle.std.proofs.lemmas.List.{take-append-drop}
 use Rattle.iv_journal.specs.Journal.{Line, digest_behind, has_head, journal_of, no_digest}
 use Rattle.iv_journal.specs.Reading.{BeginsNoLine, IsReading, Reading, before_whole, fault_of, is_torn, whole}
 use Rattle.iv_journal.specs.Laws.{IsDamage, IsTold}
-use Rattle.iv_journal.proofs.RecordEnds.{whole_front}
+use Rattle.iv_journal.proofs.RecordEnds.{take-whole_lines}
 use Rattle.iv_journal.proofs.Readings.{AllText}
 
 abbrev AreParts : List Line → Type 0
@@ -25,7 +25,7 @@ parts_behind (l ∷ ls) = onto (whole ls) (parts_behind ls)
     onto (m ∷ ms) h = h
 
 split_whole : (ls : List Line) → ls ≡ whole ls ++ drop (length (whole ls)) ls
-split_whole ls = sym (take-append-drop (length (whole ls)) ls) ∙ ap (λ (z : List Line). z ++ drop (length (whole ls)) ls) (whole_front ls)
+split_whole ls = sym (take-append-drop (length (whole ls)) ls) ∙ ap (λ (z : List Line). z ++ drop (length (whole ls)) ls) (take-whole_lines ls)
 
 none_is_some : (n : ℕ) → None ≡ Some n → ⊥
 none_is_some n e = false≢true (ap is_some e)
@@ -55,8 +55,8 @@ damage ls rest byte none e = by (at_fault (has_head ls) (is_torn rest) (length (
     by (inl h) = inl h
     by (inr h) = inr (h.0, h.1, none)
 
-pub told : (bytes : List ℕ) (r : Reading) → IsReading bytes r → IsTold bytes r
-told bytes r h =
+pub IsTold-IsReading : (bytes : List ℕ) (r : Reading) → IsReading bytes r → IsTold bytes r
+IsTold-IsReading bytes r h =
     let parts = drop (length (whole h.lines)) h.lines in
     let is : h.lines ≡ r.lines ++ drop (length (whole h.lines)) h.lines =
     split_whole h.lines ∙ ap (λ (z : List Line). z ++ drop (length (whole h.lines)) h.lines) (sym h.whole) in

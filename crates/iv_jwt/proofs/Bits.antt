@@ -31,7 +31,7 @@ none_of : (xs ys : List ℕ) → xs ≡ ys → difference 0 xs ys ≡ 0
 none_of xs ys e = ap (λ z. difference 0 z ys) e ∙ difference_self ys
 
 -- no bit differs exactly if they are the same
-pub difference_tells : (xs ys : List ℕ) → length xs ≡ length ys → (difference 0 xs ys == 0) ≡ bytes_eq xs ys
-difference_tells xs ys h =
+pub difference-bytes_eq : (xs ys : List ℕ) → length xs ≡ length ys → (difference 0 xs ys == 0) ≡ bytes_eq xs ys
+difference-bytes_eq xs ys h =
     let some = Decides-eqb (difference 0 xs ys) 0 in
     same_from_decides _ _ (λ e. (difference_none 0 xs ys h (some.0 e)).1, λ e. some.1 (none_of xs ys e)) (bytes_eq-Decides xs ys)

@@ -19,13 +19,13 @@ use Rattle.iv_jwt.specs.Documents.{json_of, seconds_at, text_at}
 use Rattle.iv_jwt.specs.Hmac.{hmac}
 use Rattle.iv_jwt.specs.Tokens.{Claimed, Granted, IsGranted, JudgedIsGranted, Opened, base64url, begins_at, claimed_in, claimed_of, cut, decoded, granted_at, is_header, is_text, is_well_header, judged, judged_open, open_parts, opened, role_at, subject_at}
 use Rattle.iv_jwt.specs.Seen.{IsAnswer, granted_by}
-use Rattle.iv_jwt.proofs.Cuts.{back_bytes, cut_is, front_bytes, is_none_some}
+use Rattle.iv_jwt.proofs.Cuts.{IsBytes-append_back, same-cut, IsBytes-append_front, not_Some-None}
 
 -- ---- its parts
 
 ok_of : (r : Result (List ℕ) DecodeError) (b : List ℕ) → result_ok r ≡ Some b → r ≡ Ok b
 ok_of (Ok a) b h = ap (λ z. Ok z) (cc h)
-ok_of (Err e) b h = absurd (is_none_some b h)
+ok_of (Err e) b h = absurd (not_Some-None b h)
 
 decodes_to : (s b : List ℕ) → decoded s ≡ Some b → decode_of url_safe_no_pad s ≡ Ok b
 unfolding decoded_of
@@ -55,9 +55,9 @@ sent_parts token header claims mac o is h = by (decoded header) (decoded claims)
   where
     by : (a b c : Option (List ℕ)) → decoded header ≡ a → decoded claims ≡ b → decoded mac ≡ c
         → option_and_then (λ x. option_and_then (λ y. option_map (λ z. record { signed = header ++ 46 ∷ claims; header = x; claims = y; mac = z }) c) b) a ≡ Some o → Sent token o
-    by None b c ea eb ec k = absurd (is_none_some o k)
-    by (Some x) None c ea eb ec k = absurd (is_none_some o k)
-    by (Some x) (Some y) None ea eb ec k = absurd (is_none_some o k)
+    by None b c ea eb ec k = absurd (not_Some-None o k)
+    by (Some x) None c ea eb ec k = absurd (not_Some-None o k)
+    by (Some x) (Some y) None ea eb ec k = absurd (not_Some-None o k)
     by (Some x) (Some y) (Some z) ea eb ec k =
         let made : Opened = record { signed = header ++ 46 ∷ claims; header = x; claims = y; mac = z } in
         let same : made ≡ o = cc k in
@@ -67,12 +67,12 @@ sent_of : (token : List ℕ) (o : Opened) → opened token ≡ Some o → Sent t
 sent_of token o h = first (cut token) refl h
   where
     second : (p : List ℕ × List ℕ) (r : Option (List ℕ × List ℕ)) → cut token ≡ Some p → cut p.1 ≡ r → option_and_then (λ (q : List ℕ × List ℕ). open_parts p.0 q.0 q.1) r ≡ Some o → Sent token o
-    second p None ep er k = absurd (is_none_some o k)
-    second p (Some q) ep er k = sent_parts token p.0 q.0 q.1 o (cut_is token p ep ∙ ap (λ z. p.0 ++ 46 ∷ z) (cut_is p.1 q er)) k
+    second p None ep er k = absurd (not_Some-None o k)
+    second p (Some q) ep er k = sent_parts token p.0 q.0 q.1 o (same-cut token p ep ∙ ap (λ z. p.0 ++ 46 ∷ z) (same-cut p.1 q er)) k
 
     first : (r : Option (List ℕ × List ℕ)) → cut token ≡ r
         → option_and_then (λ (p : List ℕ × List ℕ). option_and_then (λ (q : List ℕ × List ℕ). open_parts p.0 q.0 q.1) (cut p.1)) r ≡ Some o → Sent token o
-    first None er k = absurd (is_none_some o k)
+    first None er k = absurd (not_Some-None o k)
     first (Some p) er k = second p (cut p.1) er refl k
 
 -- ---- its header
@@ -130,10 +130,10 @@ says_of j c h = by (role_at j) (subject_at j) (seconds_at (codes "exp") j) (begi
     by : (r s : Option (List ℕ)) (e b : Option ℕ) → role_at j ≡ r → subject_at j ≡ s → seconds_at (codes "exp") j ≡ e → begins_at j ≡ b
         → option_and_then (λ role. option_and_then (λ sub. option_and_then (λ exp. option_map
         (λ begins. record { granted = record { role = role; subject = sub; expires = exp }; begins = begins }) b) e) s) r ≡ Some c → Says j c
-    by None s e b er es ee eb k = absurd (is_none_some c k)
-    by (Some r) None e b er es ee eb k = absurd (is_none_some c k)
-    by (Some r) (Some s) None b er es ee eb k = absurd (is_none_some c k)
-    by (Some r) (Some s) (Some e) None er es ee eb k = absurd (is_none_some c k)
+    by None s e b er es ee eb k = absurd (not_Some-None c k)
+    by (Some r) None e b er es ee eb k = absurd (not_Some-None c k)
+    by (Some r) (Some s) None b er es ee eb k = absurd (not_Some-None c k)
+    by (Some r) (Some s) (Some e) None er es ee eb k = absurd (not_Some-None c k)
     by (Some r) (Some s) (Some e) (Some b) er es ee eb k =
         let made : Claimed = record { granted = record { role = r; subject = s; expires = e }; begins = b } in
         let same : made ≡ c = cc k in
@@ -145,15 +145,15 @@ heard_of j c h = by (get (codes "aud") j) refl h
   where
     by : (o : Option Json) → get (codes "aud") j ≡ o → cond (not (is_some o)) (claimed_of j) None ≡ Some c → (claimed_of j ≡ Some c) × (get (codes "aud") j ≡ None)
     by None e k = (k, e)
-    by (Some x) e k = absurd (is_none_some c k)
+    by (Some x) e k = absurd (not_Some-None c k)
 
 passed : (test : List ℕ → Bool) (o : Option (List ℕ)) (x : List ℕ) → option_and_then (λ t. cond (test t) (Some t) None) o ≡ Some x → (o ≡ Some x) × (test x ≡ true)
-passed test None x h = absurd (is_none_some x h)
+passed test None x h = absurd (not_Some-None x h)
 passed test (Some t) x h = by (test t) refl h
   where
     by : (d : Bool) → test t ≡ d → cond d (Some t) None ≡ Some x → (Some t ≡ Some x) × (test x ≡ true)
     by true e k = let same : t ≡ x = cc k in (k, ap test (sym same) ∙ e)
-    by false e k = absurd (is_none_some x k)
+    by false e k = absurd (not_Some-None x k)
 
 -- ---- what it grants
 
@@ -234,10 +234,10 @@ token_shape : (secret token : List ℕ) (o : Opened) → Sent token o → IsByte
     → token ≡ (base64url o.header ++ 46 ∷ base64url o.claims) ++ 46 ∷ base64url (hmac secret (base64url o.header ++ 46 ∷ base64url o.claims))
 token_shape secret token o s bytes mac =
     let all : IsBytes (s.header ++ 46 ∷ (s.claims ++ 46 ∷ s.mac)) = subst (λ (z : List ℕ). IsBytes z) s.token_is bytes in
-    let rest : IsBytes (s.claims ++ 46 ∷ s.mac) = back_bytes s.header 46 (s.claims ++ 46 ∷ s.mac) all in
-    let header = decoded_exact s.header o.header (front_bytes s.header (46 ∷ (s.claims ++ 46 ∷ s.mac)) all) s.header_is in
-    let claims = decoded_exact s.claims o.claims (front_bytes s.claims (46 ∷ s.mac) rest) s.claims_are in
-    let sig = decoded_exact s.mac o.mac (back_bytes s.claims 46 s.mac rest) s.mac_is in
+    let rest : IsBytes (s.claims ++ 46 ∷ s.mac) = IsBytes-append_back s.header 46 (s.claims ++ 46 ∷ s.mac) all in
+    let header = decoded_exact s.header o.header (IsBytes-append_front s.header (46 ∷ (s.claims ++ 46 ∷ s.mac)) all) s.header_is in
+    let claims = decoded_exact s.claims o.claims (IsBytes-append_front s.claims (46 ∷ s.mac) rest) s.claims_are in
+    let sig = decoded_exact s.mac o.mac (IsBytes-append_back s.claims 46 s.mac rest) s.mac_is in
     let front : s.header ++ 46 ∷ s.claims ≡ base64url o.header ++ 46 ∷ base64url o.claims = ap (λ z. z ++ 46 ∷ s.claims) header ∙ ap (λ z. base64url o.header ++ 46 ∷ z) claims in
     s.token_is ∙ (sym (append_assoc s.header (46 ∷ s.claims) (46 ∷ s.mac))
     ∙ (ap (λ z. z ++ 46 ∷ s.mac) front
@@ -285,7 +285,7 @@ judged_granted secret token now g bytes h = by_secret (nat_lt (length secret) 32
     by_secret false e k = by (opened token) (strong_enough (length secret) e) refl k
 
 -- an answer that is as defined grants what the token says
-pub granted_answer : (r : Result Claims Fault) (secret token : List ℕ) (now : ℕ) → IsBytes token → IsAnswer r (judged secret now token)
+pub IsGranted-IsAnswer : (r : Result Claims Fault) (secret token : List ℕ) (now : ℕ) → IsBytes token → IsAnswer r (judged secret now token)
     → IfOk r (λ c. IsGranted secret now token (granted_by c))
-granted_answer (Ok c) secret token now bytes is = judged_granted secret token now (granted_by c) bytes is
-granted_answer (Err why) secret token now bytes is = tt
+IsGranted-IsAnswer (Ok c) secret token now bytes is = judged_granted secret token now (granted_by c) bytes is
+IsGranted-IsAnswer (Err why) secret token now bytes is = tt

@@ -15,12 +15,12 @@ none_by : (b : Bool) (x : Option Json) → (b ≡ true → ⊥) → None ≡ con
 none_by true x h = absurd (h refl)
 none_by false x h = refl
 
-pub json_of_none : (bytes : List ℕ) → (IsUtf8 bytes → ⊥) → None ≡ json_of bytes
-json_of_none bytes h = none_by (is_utf8 bytes) (document bytes) (λ t. h (IsUtf8-from_is_utf8 bytes t))
+pub json_of-not_IsUtf8 : (bytes : List ℕ) → (IsUtf8 bytes → ⊥) → None ≡ json_of bytes
+json_of-not_IsUtf8 bytes h = none_by (is_utf8 bytes) (document bytes) (λ t. h (IsUtf8-from_is_utf8 bytes t))
 
-pub json_of_text : (bytes text : List ℕ) (found : Option Json) → text ≡ bytes → IsUtf8 bytes → document text ≡ found → found ≡ json_of bytes
-json_of_text bytes text found e u r = sym r ∙ (ap document e ∙ ap (λ b. cond b (document bytes) None) (sym (is_utf8-from_IsUtf8 bytes u)))
+pub json_of-IsUtf8 : (bytes text : List ℕ) (found : Option Json) → text ≡ bytes → IsUtf8 bytes → document text ≡ found → found ≡ json_of bytes
+json_of-IsUtf8 bytes text found e u r = sym r ∙ (ap document e ∙ ap (λ b. cond b (document bytes) None) (sym (is_utf8-from_IsUtf8 bytes u)))
 
-pub no_bytes : (s : List ℕ) (e : DecodeError) → decode_of url_safe_no_pad s ≡ Err e → None ≡ decoded s
+pub decoded-Err : (s : List ℕ) (e : DecodeError) → decode_of url_safe_no_pad s ≡ Err e → None ≡ decoded s
 unfolding decoded_of
-no_bytes s e h = sym (ap result_ok h)
+decoded-Err s e h = sym (ap result_ok h)

@@ -11,28 +11,28 @@ use Rattle.std.proofs.lemmas.List.Sums.{fails_before_first}
 use Rattle.std.specs.Io.KnownBytes.{Keeps, prepend_known}
 use Rattle.iv_lines.specs.Ahead.{TakesPart}
 
-pub ahead_none : (bytes : List ℕ) (at filled : ℕ) → filled ≤ at → drop at (take filled bytes) ≡ []
-ahead_none bytes at filled h = drop_all at (take filled bytes) (omega (arith, length-take {A = ℕ}))
+pub drop-none_filled : (bytes : List ℕ) (at filled : ℕ) → filled ≤ at → drop at (take filled bytes) ≡ []
+drop-none_filled bytes at filled h = drop_all at (take filled bytes) (omega (arith, length-take {A = ℕ}))
 
-pub kept_behind : (old : List ℕ) (left new : Option (List ℕ)) → old ≡ [] → Keeps left new → Keeps (prepend_known old left) new
-kept_behind old None new o k = tt
-kept_behind old (Some xs) None o k = absurd k
-kept_behind old (Some xs) (Some ys) o k = rw o k
+pub Keeps-prepend_known : (old : List ℕ) (left new : Option (List ℕ)) → old ≡ [] → Keeps left new → Keeps (prepend_known old left) new
+Keeps-prepend_known old None new o k = tt
+Keeps-prepend_known old (Some xs) None o k = absurd k
+Keeps-prepend_known old (Some xs) (Some ys) o k = rw o k
 
-pub ahead_long : (bytes : List ℕ) (at filled : ℕ) → at ≤ filled → filled ≤ length bytes → length (drop at (take filled bytes)) + at ≡ filled
-ahead_long bytes at filled h l = omega (arith, length-take filled bytes, length-drop at (take filled bytes))
+pub length-ahead : (bytes : List ℕ) (at filled : ℕ) → at ≤ filled → filled ≤ length bytes → length (drop at (take filled bytes)) + at ≡ filled
+length-ahead bytes at filled h l = omega (arith, length-take filled bytes, length-drop at (take filled bytes))
 
 pub ahead_empty : (bytes : List ℕ) (at filled : ℕ) → at ≤ filled → filled ≤ length bytes → drop at (take filled bytes) ≡ [] → at ≡ filled
-ahead_empty bytes at filled h l e = let k = ahead_long bytes at filled h l in let n : length (drop at (take filled bytes)) ≡ 0 = ap (λ (v : List ℕ). length v) e in omega arith
+ahead_empty bytes at filled h l e = let k = length-ahead bytes at filled h l in let n : length (drop at (take filled bytes)) ≡ 0 = ap (λ (v : List ℕ). length v) e in omega arith
 
 -- where a read is made only because nothing was ahead
-pub fills : {E : Type 0} (r : Result (Unit {0}) E) (old : List ℕ) (left mid : Option (List ℕ)) → old ≡ [] → OnOk r (Keeps left mid) → OnOk r (Keeps (prepend_known old left) mid)
-fills (Ok x) old left mid o k = kept_behind old left mid o k
-fills (Err e) old left mid o k = tt
+pub Keeps-prepend_known_ok : {E : Type 0} (r : Result (Unit {0}) E) (old : List ℕ) (left mid : Option (List ℕ)) → old ≡ [] → OnOk r (Keeps left mid) → OnOk r (Keeps (prepend_known old left) mid)
+Keeps-prepend_known_ok (Ok x) old left mid o k = Keeps-prepend_known old left mid o k
+Keeps-prepend_known_ok (Err e) old left mid o k = tt
 
-pub fills_not : {E : Type 0} (r : Result (Unit {0}) E) (old : List ℕ) (left mid : Option (List ℕ)) → old ≡ [] → OnErr r (Keeps left mid) → OnErr r (Keeps (prepend_known old left) mid)
-fills_not (Ok x) old left mid o k = tt
-fills_not (Err e) old left mid o k = kept_behind old left mid o k
+pub Keeps-prepend_known_err : {E : Type 0} (r : Result (Unit {0}) E) (old : List ℕ) (left mid : Option (List ℕ)) → old ≡ [] → OnErr r (Keeps left mid) → OnErr r (Keeps (prepend_known old left) mid)
+Keeps-prepend_known_err (Ok x) old left mid o k = tt
+Keeps-prepend_known_err (Err e) old left mid o k = Keeps-prepend_known old left mid o k
 
 -- ---- a part of the bytes ahead, up to a place
 

@@ -33,7 +33,7 @@ found_none test hay none =
     rw (at, more) refl
 
 -- what a search for a byte finds is the first place that passes
-pub first_position : (test : ℕ → Bool) (hay : List ℕ) (r : Option ℕ) → IsFirstByte test hay r → r ≡ position test hay
-first_position test hay None none = found_none test hay (λ i less. fails (test (get_or hay i 0)) (none i (omega arith) less))
-first_position test hay (Some k) found =
+pub position-IsFirstByte : (test : ℕ → Bool) (hay : List ℕ) (r : Option ℕ) → IsFirstByte test hay r → r ≡ position test hay
+position-IsFirstByte test hay None none = found_none test hay (λ i less. fails (test (get_or hay i 0)) (none i (omega arith) less))
+position-IsFirstByte test hay (Some k) found =
     found_at test hay k found.0.high found.1 (λ i less. fails (test (get_or hay i 0)) (found.0.before i (omega arith) less))

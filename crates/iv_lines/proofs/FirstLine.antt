@@ -26,9 +26,9 @@ cut_byte : (room : ℕ) (line : List ℕ) (b : ℕ) (bs : List ℕ) → cut_from
 unfolding cut_from
 cut_byte room line b bs = refl
 
-pub begun_nothing : (old : Option (List ℕ)) → IsBegun 65537 [] old old
-begun_nothing None = tt
-begun_nothing (Some bs) = (refl, refl)
+pub IsBegun-nothing : (old : Option (List ℕ)) → IsBegun 65537 [] old old
+IsBegun-nothing None = tt
+IsBegun-nothing (Some bs) = (refl, refl)
 
 -- where no byte is left
 pub ends : (old mid new : Option (List ℕ)) (room : ℕ) (line : List ℕ) (next : Next) → 0 < room → IsBegun room line old mid → Keeps mid new × IsAtEnd new → cut_of next [] ≡ last_line line → IsCut old next new
@@ -47,25 +47,25 @@ cut_part k line (b ∷ part) bs p =
     ∙ (cut_part k (line ++ b ∷ []) part bs (All-tail (λ b. b ≢ 10) b part p) ∙ ap (λ l. cut_from k l bs) (append_assoc line (b ∷ []) part)))
 
 -- where a read keeps what is known
-pub keeps_begun : (room : ℕ) (line : List ℕ) (old mid new : Option (List ℕ)) → IsBegun room line old mid → Keeps mid new → IsBegun room line old new
-keeps_begun room line None mid new b k = tt
-keeps_begun room line (Some os) None new b k = absurd b
-keeps_begun room line (Some os) (Some xs) None b k = absurd k
-keeps_begun room line (Some os) (Some xs) (Some ys) b k = (ap (cut_from room line) k ∙ b.0, b.1 ∙ ap (λ v. line ++ v) (sym k))
+pub IsBegun-Keeps : (room : ℕ) (line : List ℕ) (old mid new : Option (List ℕ)) → IsBegun room line old mid → Keeps mid new → IsBegun room line old new
+IsBegun-Keeps room line None mid new b k = tt
+IsBegun-Keeps room line (Some os) None new b k = absurd b
+IsBegun-Keeps room line (Some os) (Some xs) None b k = absurd k
+IsBegun-Keeps room line (Some os) (Some xs) (Some ys) b k = (ap (cut_from room line) k ∙ b.0, b.1 ∙ ap (λ v. line ++ v) (sym k))
 
-pub when_ok : {T E : Type 0} (r : Result T E) (P : Type 0) → is_err r ≡ false → OnOk r P → P
-when_ok (Ok x) P e h = h
-when_ok (Err x) P e h = cc
+pub OnOk-not_is_err : {T E : Type 0} (r : Result T E) (P : Type 0) → is_err r ≡ false → OnOk r P → P
+OnOk-not_is_err (Ok x) P e h = h
+OnOk-not_is_err (Err x) P e h = cc
 
-pub at_end : (ahead : List ℕ) (left : Option (List ℕ)) → ahead ≡ [] → IsAtEnd left → IsAtEnd (prepend_known ahead left)
-at_end ahead None e h = tt
-at_end ahead (Some xs) e h = (λ i. e i ++ h i)
+pub IsAtEnd-prepend_known : (ahead : List ℕ) (left : Option (List ℕ)) → ahead ≡ [] → IsAtEnd left → IsAtEnd (prepend_known ahead left)
+IsAtEnd-prepend_known ahead None e h = tt
+IsAtEnd-prepend_known ahead (Some xs) e h = (λ i. e i ++ h i)
 
 -- where a part without newline is taken
-pub takes_more : (old left : Option (List ℕ)) (ahead later line longer : List ℕ) → length line < 65537 → IsBegun (65537 - length line) line old (prepend_known ahead left) → TakesPart ahead later line longer false → IsBegun (65537 - length longer) longer old (prepend_known later left)
-takes_more None left ahead later line longer room b t = tt
-takes_more (Some os) None ahead later line longer room b t = absurd b
-takes_more (Some os) (Some xs) ahead later line longer room b t =
+pub IsBegun-TakesPart : (old left : Option (List ℕ)) (ahead later line longer : List ℕ) → length line < 65537 → IsBegun (65537 - length line) line old (prepend_known ahead left) → TakesPart ahead later line longer false → IsBegun (65537 - length longer) longer old (prepend_known later left)
+IsBegun-TakesPart None left ahead later line longer room b t = tt
+IsBegun-TakesPart (Some os) None ahead later line longer room b t = absurd b
+IsBegun-TakesPart (Some os) (Some xs) ahead later line longer room b t =
     let long : length longer ≡ length line + length t.part = simp (t.moved, length-append) refl in
     let w = t.within in
     let more : 65537 - length line ≡ length t.part + (65537 - length longer) = omega arith in
@@ -75,10 +75,10 @@ takes_more (Some os) (Some xs) ahead later line longer room b t =
     )
 
 -- where a newline is taken
-pub takes_newline : (old left : Option (List ℕ)) (ahead later line : List ℕ) (longer : Vec ℕ Global) → length line < 65537 → IsBegun (65537 - length line) line old (prepend_known ahead left) → TakesPart ahead later line longer.items true → IsCut old (Line longer) (prepend_known later left)
-takes_newline None left ahead later line longer room b t = tt
-takes_newline (Some os) None ahead later line longer room b t = absurd b
-takes_newline (Some os) (Some xs) ahead later line longer room b t =
+pub IsCut-TakesPart : (old left : Option (List ℕ)) (ahead later line : List ℕ) (longer : Vec ℕ Global) → length line < 65537 → IsBegun (65537 - length line) line old (prepend_known ahead left) → TakesPart ahead later line longer.items true → IsCut old (Line longer) (prepend_known later left)
+IsCut-TakesPart None left ahead later line longer room b t = tt
+IsCut-TakesPart (Some os) None ahead later line longer room b t = absurd b
+IsCut-TakesPart (Some os) (Some xs) ahead later line longer room b t =
     let long : length longer.items ≡ length line + length t.part = simp (t.moved, length-append) refl in
     let w = t.room refl in
     let k = 65537 - length longer.items - 1 in
@@ -87,20 +87,20 @@ takes_newline (Some os) (Some xs) ahead later line longer room b t =
     sym b.0 ∙ ((λ i. cut_from (more i) line (rest i)) ∙ (cut_part (suc k) line t.part (10 ∷ (later ++ xs)) t.plain ∙ (cut_byte k (line ++ t.part) 10 (later ++ xs) ∙ ap (λ l. whole l (later ++ xs)) (sym t.moved))))
 
 -- what has come of the line has no newline
-pub plain_more : (ahead later line longer : List ℕ) → All (λ b. b ≢ 10) line → TakesPart ahead later line longer false → All (λ b. b ≢ 10) longer
-plain_more ahead later line longer p t = All-same (λ b. b ≢ 10) longer (line ++ t.part) t.moved (All-append (λ b. b ≢ 10) line t.part p t.plain)
+pub All-TakesPart : (ahead later line longer : List ℕ) → All (λ b. b ≢ 10) line → TakesPart ahead later line longer false → All (λ b. b ≢ 10) longer
+All-TakesPart ahead later line longer p t = All-same (λ b. b ≢ 10) longer (line ++ t.part) t.moved (All-append (λ b. b ≢ 10) line t.part p t.plain)
 
-pub grows : (ahead later line longer : List ℕ) → TakesPart ahead later line longer false → length line < length longer
-grows ahead later line longer t =
+pub lt-TakesPart : (ahead later line longer : List ℕ) → TakesPart ahead later line longer false → length line < length longer
+lt-TakesPart ahead later line longer t =
     let long : length longer ≡ length line + length t.part = simp (t.moved, length-append) refl in
     let some = t.some refl in omega arith
 
 -- where there is no room for more
-pub overflows : (old new : Option (List ℕ)) (line : List ℕ) → IsBegun 0 line old new → IsCut old Endless new
+pub IsCut-Endless : (old new : Option (List ℕ)) (line : List ℕ) → IsBegun 0 line old new → IsCut old Endless new
 unfolding cut_from
-overflows None new line b = tt
-overflows (Some os) None line b = absurd b
-overflows (Some os) (Some ys) line b = sym b.0
+IsCut-Endless None new line b = tt
+IsCut-Endless (Some os) None line b = absurd b
+IsCut-Endless (Some os) (Some ys) line b = sym b.0
 
 last_of : (line : List ℕ) → (length line == 0) ≡ false → whole line [] ≡ last_line line
 last_of [] h = cc
@@ -110,15 +110,15 @@ last_none : (line : List ℕ) → (length line == 0) ≡ true → nothing ≡ la
 last_none [] h = refl
 last_none (b ∷ bs) h = absurd (grind (arith, nat_tests))
 
-pub ends_nothing : (old mid new : Option (List ℕ)) (i : ℕ) (line : List ℕ) → i < 65537 → IsBegun (65537 - i) line old mid → Keeps mid new × IsAtEnd new → (length line == 0) ≡ true → IsCut old Nothing new
-ends_nothing old mid new i line h b r e = ends old mid new (65537 - i) line Nothing (omega arith) b r (last_none line e)
+pub IsCut-Nothing : (old mid new : Option (List ℕ)) (i : ℕ) (line : List ℕ) → i < 65537 → IsBegun (65537 - i) line old mid → Keeps mid new × IsAtEnd new → (length line == 0) ≡ true → IsCut old Nothing new
+IsCut-Nothing old mid new i line h b r e = ends old mid new (65537 - i) line Nothing (omega arith) b r (last_none line e)
 
-pub ends_last : (old mid new : Option (List ℕ)) (i : ℕ) (line : Vec ℕ Global) → i < 65537 → IsBegun (65537 - i) line.items old mid → Keeps mid new × IsAtEnd new → (length line.items == 0) ≡ false → IsCut old (Line line) new
-ends_last old mid new i line h b r e = ends old mid new (65537 - i) line.items (Line line) (omega arith) b r (last_of line.items e)
+pub IsCut-Line : (old mid new : Option (List ℕ)) (i : ℕ) (line : Vec ℕ Global) → i < 65537 → IsBegun (65537 - i) line.items old mid → Keeps mid new × IsAtEnd new → (length line.items == 0) ≡ false → IsCut old (Line line) new
+IsCut-Line old mid new i line h b r e = ends old mid new (65537 - i) line.items (Line line) (omega arith) b r (last_of line.items e)
 
 -- where a read fails
-pub cut_short : (old mid new : Option (List ℕ)) (room : ℕ) (line : List ℕ) → IsBegun room line old mid → Keeps mid new → All (λ b. b ≢ 10) line → length line < 65537 → IsCutShort old new
-cut_short None mid new room line b k p l = tt
-cut_short (Some os) None new room line b k p l = absurd b
-cut_short (Some os) (Some xs) None room line b k p l = absurd k
-cut_short (Some os) (Some xs) (Some ys) room line b k p l = (line, b.1 ∙ ap (λ v. line ++ v) (sym k), p, l)
+pub IsCutShort-IsBegun : (old mid new : Option (List ℕ)) (room : ℕ) (line : List ℕ) → IsBegun room line old mid → Keeps mid new → All (λ b. b ≢ 10) line → length line < 65537 → IsCutShort old new
+IsCutShort-IsBegun None mid new room line b k p l = tt
+IsCutShort-IsBegun (Some os) None new room line b k p l = absurd b
+IsCutShort-IsBegun (Some os) (Some xs) None room line b k p l = absurd k
+IsCutShort-IsBegun (Some os) (Some xs) (Some ys) room line b k p l = (line, b.1 ∙ ap (λ v. line ++ v) (sym k), p, l)

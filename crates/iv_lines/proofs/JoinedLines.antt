@@ -48,11 +48,11 @@ cut_endless (suc room) begun (b ∷ line) rest p l =
     byte_on room begun b (line ++ rest) (All-head (λ b. b ≢ 10) b line p)
     ∙ cut_endless room (begun ++ b ∷ []) line rest (All-tail (λ b. b ≢ 10) b line p) (omega arith)
 
-pub line_is_cut : (line rest : List ℕ) → All (λ b. b ≢ 10) line → length line < 65537 → cut (line ++ 10 ∷ rest) ≡ whole line rest
-line_is_cut line rest p l = cut_line 65537 [] line rest p (omega arith)
+pub cut-whole_line : (line rest : List ℕ) → All (λ b. b ≢ 10) line → length line < 65537 → cut (line ++ 10 ∷ rest) ≡ whole line rest
+cut-whole_line line rest p l = cut_line 65537 [] line rest p (omega arith)
 
-pub last_is_cut : (line : List ℕ) → All (λ b. b ≢ 10) line → length line < 65537 → cut line ≡ last_line line
-last_is_cut line p l = cut_last 65537 [] line p (omega arith)
+pub cut-last_line : (line : List ℕ) → All (λ b. b ≢ 10) line → length line < 65537 → cut line ≡ last_line line
+cut-last_line line p l = cut_last 65537 [] line p (omega arith)
 
-pub too_long_is_cut : (line rest : List ℕ) → All (λ b. b ≢ 10) line → 65537 ≤ length line → cut (line ++ rest) ≡ endless
-too_long_is_cut line rest p l = cut_endless 65537 [] line rest p l
+pub cut-endless : (line rest : List ℕ) → All (λ b. b ≢ 10) line → 65537 ≤ length line → cut (line ++ rest) ≡ endless
+cut-endless line rest p l = cut_endless 65537 [] line rest p l

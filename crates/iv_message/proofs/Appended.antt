@@ -24,33 +24,33 @@ use Rattle.iv_message.specs.declared.message.Id.TheVariants as id
 pub two_appended : (t a b m n : List ℕ) → m ≡ t ++ a → n ≡ m ++ b → n ≡ t ++ (a ++ b)
 two_appended t a b m n h k = k ∙ (ap (λ v. v ++ b) h ∙ append_assoc t a b)
 
-pub three_appended : (t a b c l m n : List ℕ) → l ≡ t ++ a → m ≡ l ++ b → n ≡ m ++ c → n ≡ t ++ (a ++ (b ++ c))
-three_appended t a b c l m n h k e = two_appended t a (b ++ c) l n h (two_appended l b c m n k e)
+pub append-three : (t a b c l m n : List ℕ) → l ≡ t ++ a → m ≡ l ++ b → n ≡ m ++ c → n ≡ t ++ (a ++ (b ++ c))
+append-three t a b c l m n h k e = two_appended t a (b ++ c) l n h (two_appended l b c m n k e)
 
-pub four_appended : (t a b c d k l m n : List ℕ) → k ≡ t ++ a → l ≡ k ++ b → m ≡ l ++ c → n ≡ m ++ d → n ≡ t ++ (a ++ (b ++ (c ++ d)))
-four_appended t a b c d k l m n h i j e = two_appended t a (b ++ (c ++ d)) k n h (three_appended k b c d l m n i j e)
+pub append-four : (t a b c d k l m n : List ℕ) → k ≡ t ++ a → l ≡ k ++ b → m ≡ l ++ c → n ≡ m ++ d → n ≡ t ++ (a ++ (b ++ (c ++ d)))
+append-four t a b c d k l m n h i j e = two_appended t a (b ++ (c ++ d)) k n h (append-three k b c d l m n i j e)
 
-pub six_appended : (t a b c d e f i j k l m n : List ℕ) → i ≡ t ++ a → j ≡ i ++ b → k ≡ j ++ c → l ≡ k ++ d → m ≡ l ++ e → n ≡ m ++ f
+pub append-six : (t a b c d e f i j k l m n : List ℕ) → i ≡ t ++ a → j ≡ i ++ b → k ≡ j ++ c → l ≡ k ++ d → m ≡ l ++ e → n ≡ m ++ f
     → n ≡ t ++ (a ++ (b ++ (c ++ (d ++ (e ++ f)))))
-six_appended t a b c d e f i j k l m n o p q r s u =
-    two_appended t a (b ++ (c ++ (d ++ (e ++ f)))) i n o (two_appended i b (c ++ (d ++ (e ++ f))) j n p (four_appended j c d e f k l m n q r s u))
+append-six t a b c d e f i j k l m n o p q r s u =
+    two_appended t a (b ++ (c ++ (d ++ (e ++ f)))) i n o (two_appended i b (c ++ (d ++ (e ++ f))) j n p (append-four j c d e f k l m n q r s u))
 
 -- a line ends in `}` and a newline
 ends_so : (r a n : List ℕ) → r ++ (a ++ (n ++ codes "}\n")) ≡ (r ++ (a ++ (n ++ codes "}"))) ++ codes "\n"
 ends_so r a n = simp append_assoc
 
-pub changed_text : (own : ℕ) (es : Weighed) → codes "{\"changes\":" ++ (rows_text es ++ own_text own) ≡ told_text (changed own es)
+pub told_text-changed : (own : ℕ) (es : Weighed) → codes "{\"changes\":" ++ (rows_text es ++ own_text own) ≡ told_text (changed own es)
 unfolding json_on_literals
-changed_text own es = ap (λ v. codes "{\"changes\":" ++ v) (ends_so (rows_text es) (codes ",\"sub\":") (decimal own))
+told_text-changed own es = ap (λ v. codes "{\"changes\":" ++ v) (ends_so (rows_text es) (codes ",\"sub\":") (decimal own))
 
 over_so : (r c q a n : List ℕ) → r ++ ((c ++ q) ++ (a ++ (n ++ codes "}\n"))) ≡ (r ++ (c ++ (q ++ (a ++ (n ++ codes "}"))))) ++ codes "\n"
 over_so r c q a n = simp append_assoc
 
-pub over_text : (own : ℕ) (rel : List ℕ) (why : Cause) (es : Weighed)
+pub told_text-over : (own : ℕ) (rel : List ℕ) (why : Cause) (es : Weighed)
     → codes "{\"changes\":" ++ (rows_text es ++ ((cause_key why ++ compact_text (string rel)) ++ own_text own)) ≡ told_text (over own rel why es)
 unfolding json_on_literals
-over_text own rel cause.Privilege es = ap (λ v. codes "{\"changes\":" ++ v) (over_so (rows_text es) (codes ",\"ended\":\"privilege\",\"on\":") (compact_text (string rel)) (codes ",\"sub\":") (decimal own))
-over_text own rel cause.Limit es = ap (λ v. codes "{\"changes\":" ++ v) (over_so (rows_text es) (codes ",\"ended\":\"limit\",\"on\":") (compact_text (string rel)) (codes ",\"sub\":") (decimal own))
+told_text-over own rel cause.Privilege es = ap (λ v. codes "{\"changes\":" ++ v) (over_so (rows_text es) (codes ",\"ended\":\"privilege\",\"on\":") (compact_text (string rel)) (codes ",\"sub\":") (decimal own))
+told_text-over own rel cause.Limit es = ap (λ v. codes "{\"changes\":" ++ v) (over_so (rows_text es) (codes ",\"ended\":\"limit\",\"on\":") (compact_text (string rel)) (codes ",\"sub\":") (decimal own))
 
 -- ---- no float
 
@@ -80,9 +80,9 @@ id_plain (id.Natural n) = refl
 id_plain (id.Whole z) = whole_plain z
 id_plain (id.Text t) = refl
 
-pub with_id_plain : (i : Option Id) (ms : Members) → members_have_float ms ≡ false → has_float (with_id (option_map id_data i) ms) ≡ false
-with_id_plain None ms h = h
-with_id_plain (Some i) ms h = put_plain (codes "id") (id_data i) ms (id_plain i) h
+pub has_float-with_id : (i : Option Id) (ms : Members) → members_have_float ms ≡ false → has_float (with_id (option_map id_data i) ms) ≡ false
+has_float-with_id None ms h = h
+has_float-with_id (Some i) ms h = put_plain (codes "id") (id_data i) ms (id_plain i) h
 
 columns_plain : (cs : List Column) → items_have_float (items_of (map column_data cs)) ≡ false
 columns_plain [] = refl
@@ -91,5 +91,5 @@ columns_plain (c ∷ cs) = columns_plain cs
 no_more : (b : Bool) → b ≡ false → (b || false) ≡ false
 no_more b h i = h i || false
 
-pub opened_plain : (i : Option Id) (own : ℕ) (cs : List Column) → has_float (with_id (option_map id_data i) (opened_members own cs)) ≡ false
-opened_plain i own cs = with_id_plain i (opened_members own cs) (no_more (items_have_float (items_of (map column_data cs))) (columns_plain cs))
+pub has_float-opened : (i : Option Id) (own : ℕ) (cs : List Column) → has_float (with_id (option_map id_data i) (opened_members own cs)) ≡ false
+has_float-opened i own cs = has_float-with_id i (opened_members own cs) (no_more (items_have_float (items_of (map column_data cs))) (columns_plain cs))

@@ -16,8 +16,8 @@ as_long : (text : List ℕ) → length (on_one_line text) ≡ length text
 as_long [] = refl
 as_long (b ∷ text) = ap suc (as_long text)
 
-pub blanks_say_the_same : (text : List ℕ) → message_of (on_one_line text) ≡ message_of text
-blanks_say_the_same text i = cond (nat_lt most_bytes (as_long text i)) too_long (message_of_value (value_of (one_line_twice text i)))
+pub message_of-on_one_line : (text : List ℕ) → message_of (on_one_line text) ≡ message_of text
+message_of-on_one_line text i = cond (nat_lt most_bytes (as_long text i)) too_long (message_of_value (value_of (one_line_twice text i)))
 
 -- a text without a newline is one line
 pub unbroken : (text : List ℕ) → list_any (λ b. b == 10) text ≡ false → on_one_line text ≡ text
@@ -28,5 +28,5 @@ unbroken (b ∷ text) h = part (unbroken text) (b == 10) h
     part rest true k = cc
     part rest false k = λ i. b ∷ rest k i
 
-pub plain_message : (text : List ℕ) → nat_lt most_bytes (length text) ≡ false → list_any (λ b. b == 10) text ≡ false → message_of_value (value_of text) ≡ message_of text
-plain_message text n h i = cond (sym n i) too_long (message_of_value (value_of (sym (unbroken text h) i)))
+pub message_of_value-value_of : (text : List ℕ) → nat_lt most_bytes (length text) ≡ false → list_any (λ b. b == 10) text ≡ false → message_of_value (value_of text) ≡ message_of text
+message_of_value-value_of text n h i = cond (sym n i) too_long (message_of_value (value_of (sym (unbroken text h) i)))

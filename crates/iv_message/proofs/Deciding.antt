@@ -1,5 +1,5 @@
 -- All values of a form's keys pass exactly where they make an act.
-use Rattle.iv_message.proofs.Options.{none-some, same_Some}
+use Rattle.iv_message.proofs.Options.{not_Some-None, same_Some}
 use Rattle.std.proofs.Common.{◌≡◌, ◌∙◌, ℕ, List, [], ◌∷◌, ◌++◌, Bool, true, false, ◌&&◌, cond, Option, Some, None, option_map, option_and_then, refl, subst}
 use Rattle.std.specs.List.{list_all}
 use Rattle.std.specs.Prelude.{codes, find, is_some, bytes_eq}
@@ -112,7 +112,7 @@ Each P [] = Unit {0}
 Each P (f ∷ fs) = P f × Each P fs
 
 found_has : (P : Form → Type 0) (test : Form → Bool) (fs : List Form) (f : Form) → Each P fs → find test fs ≡ Some f → P f
-found_has P test [] f h e = absurd (none-some f e)
+found_has P test [] f h e = absurd (not_Some-None f e)
 found_has P test (g ∷ fs) f h e = part (found_has P test fs f h.1) (test g) e
   where
     part : (find test fs ≡ Some f → P f) → (b : Bool) → cond b (Some g) (find test fs) ≡ Some f → P f
@@ -167,5 +167,5 @@ all_decide = (
   ),
 )
 
-pub values_decide : (text : List ℕ) (f : Form) → form_of text ≡ Some f → Decides f
-values_decide text f h = found_has Decides (λ g. bytes_eq g.text text) forms f all_decide h
+pub Decides-form_of : (text : List ℕ) (f : Form) → form_of text ≡ Some f → Decides f
+Decides-form_of text f h = found_has Decides (λ g. bytes_eq g.text text) forms f all_decide h

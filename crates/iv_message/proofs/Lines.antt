@@ -162,19 +162,19 @@ answered_line id again at answer =
           (joined b (q ++ (i ++ codes "}")) refl (joined q (i ++ codes "}") (data_clean (string at)) (joined i (codes "}") (id_clean id) refl)))),
     )
 
-pub told_line : (t : Told) → IsLine (told_text t)
-told_line (welcome role) = text_line (object (member (codes "protocol") (natural protocol) (member (codes "role") (string role) no_members)))
-told_line (replied id r) = text_line (with_id id (reply_members r))
-told_line (opened id own columns) = text_line (with_id id (opened_members own columns))
-told_line (fault n) = text_line (fault_data n)
-told_line (unasked id why) = text_line (with_id id (why_members why))
-told_line (changed own rows) = text_line (changed_data own rows)
-told_line (over own rel cause rows) = text_line (over_data own rel cause rows)
-told_line settled = text_line (object (member (codes "settled") (boolean true) no_members))
-told_line (granted rel) = text_line (object (member (codes "granted") (string rel) no_members))
-told_line (made role line) = made_line role line
-told_line alive = text_line (object (member (codes "alive") (boolean true) no_members))
-told_line (placed at) = text_line (object (member (codes "at") (string at) (member (codes "names") (natural most_names) no_members)))
-told_line (answered id again at answer) = answered_line id again at answer
-told_line (undecided id n) = text_line (with_id id (member (codes "undecided") (natural n) no_members))
-told_line (denied id n) = text_line (with_id id (member (codes "error") (natural n) no_members))
+pub IsLine-told_text : (t : Told) → IsLine (told_text t)
+IsLine-told_text (welcome role) = text_line (object (member (codes "protocol") (natural protocol) (member (codes "role") (string role) no_members)))
+IsLine-told_text (replied id r) = text_line (with_id id (reply_members r))
+IsLine-told_text (opened id own columns) = text_line (with_id id (opened_members own columns))
+IsLine-told_text (fault n) = text_line (fault_data n)
+IsLine-told_text (unasked id why) = text_line (with_id id (why_members why))
+IsLine-told_text (changed own rows) = text_line (changed_data own rows)
+IsLine-told_text (over own rel cause rows) = text_line (over_data own rel cause rows)
+IsLine-told_text settled = text_line (object (member (codes "settled") (boolean true) no_members))
+IsLine-told_text (granted rel) = text_line (object (member (codes "granted") (string rel) no_members))
+IsLine-told_text (made role line) = made_line role line
+IsLine-told_text alive = text_line (object (member (codes "alive") (boolean true) no_members))
+IsLine-told_text (placed at) = text_line (object (member (codes "at") (string at) (member (codes "names") (natural most_names) no_members)))
+IsLine-told_text (answered id again at answer) = answered_line id again at answer
+IsLine-told_text (undecided id n) = text_line (with_id id (member (codes "undecided") (natural n) no_members))
+IsLine-told_text (denied id n) = text_line (with_id id (member (codes "error") (natural n) no_members))

@@ -1,5 +1,5 @@
 -- A client asks what viewd reads of the object in session 1.
-use Rattle.iv_message.proofs.Options.{none-some, same_Some}
+use Rattle.iv_message.proofs.Options.{not_Some-None, same_Some}
 use Rattle.std.proofs.Common.{◌≡◌, ◌∙◌, ℕ, List, [], ◌∷◌, ◌++◌, Bool, true, false, ◌&&◌, ◌||◌, cond, Option, Some, None, option_map, option_and_then, Ordering, Less, Equal, Greater, nat_cmp, bytes_eq, not, length, refl, sym, ap, subst}
 use Rattle.std.proofs.lemmas.Map.Text.{is_eq-slice_cmp}
 use Rattle.std.proofs.lemmas.Slice.Eq.{bytes_eq-Decides}
@@ -155,7 +155,7 @@ abbrev has_neither : Form → Bool
 has_neither f = list_all (λ key. not (is_among Own key)) f.required
 
 found_passes : (p test : Form → Bool) (fs : List Form) (f : Form) → list_all p fs ≡ true → find test fs ≡ Some f → p f ≡ true
-found_passes p test [] f h e = absurd (none-some f e)
+found_passes p test [] f h e = absurd (not_Some-None f e)
 found_passes p test (g ∷ fs) f h e = part (found_passes p test fs f (right (p g) (list_all p fs) h)) (test g) e
   where
     left : (a b : Bool) → (a && b) ≡ true → a ≡ true
@@ -352,11 +352,11 @@ may_ask = passing (λ f. is_for_clients f.word)
 
 -- only an object has a word
 session_read : (d : Data) (text : List ℕ) → text_at (codes "do") d ≡ Some text → session_of (in_session d) ≡ Some 1
-session_read null text e = absurd (none-some text e)
-session_read (boolean b) text e = absurd (none-some text e)
-session_read (number n) text e = absurd (none-some text e)
-session_read (string s) text e = absurd (none-some text e)
-session_read (array ds) text e = absurd (none-some text e)
+session_read null text e = absurd (not_Some-None text e)
+session_read (boolean b) text e = absurd (not_Some-None text e)
+session_read (number n) text e = absurd (not_Some-None text e)
+session_read (string s) text e = absurd (not_Some-None text e)
+session_read (array ds) text e = absurd (not_Some-None text e)
 session_read (object ms) text e = session_is ms
 
 request_is : (d : Data) (text : List ℕ) (f : Form) → text_at (codes "do") d ≡ Some text → form_of text ≡ Some f
@@ -396,8 +396,8 @@ meets : (d : Data) (t : Option (List ℕ)) → text_at (codes "do") d ≡ t → 
 meets d None e = nothing_read (is_free d) (request (in_session d))
 meets d (Some text) e = meets_at d text (form_of text) e refl
 
-pub one_meaning : (d : Data) → option_map (command 1) (act_in (asked d)) ≡ read_in_session d
-one_meaning d = meets d (text_at (codes "do") d) refl
+pub option_map-act_in : (d : Data) → option_map (command 1) (act_in (asked d)) ≡ read_in_session d
+option_map-act_in d = meets d (text_at (codes "do") d) refl
 
 -- ---- what is asked is well
 
@@ -412,26 +412,26 @@ right_true false b h = cc
 well_if : (r : Result machine.Act Why) (id : Option Data) (b : Bool) (d : Data) → ReadsWell → option_map (command 1) (act_in r) ≡ cond b (request d) None → is_well_message (with_its_id id r) ≡ true
 well_if (Err w) id b d h e = refl
 well_if (Ok act) id true d h e = right_true true (is_well_act act) (subst (λ o. IfSome o (λ c. is_well_command c ≡ true)) (sym e) (h d))
-well_if (Ok act) id false d h e = absurd (none-some (command 1 act) (sym e))
+well_if (Ok act) id false d h e = absurd (not_Some-None (command 1 act) (sym e))
 
 object_well : (d : Data) → ReadsWell → is_well_message (with_its_id (id_of d) (asked d)) ≡ true
-object_well d h = well_if (asked d) (id_of d) (is_free d && is_some (clients_form d)) (in_session d) h (one_meaning d)
+object_well d h = well_if (asked d) (id_of d) (is_free d && is_some (clients_form d)) (in_session d) h (option_map-act_in d)
 
-pub value_well : (o : Option Data) → ReadsWell → is_well_message (message_of_value o) ≡ true
-value_well None h = refl
-value_well (Some d) h = part (is_some (as_object d))
+pub is_well_message-ReadsWell : (o : Option Data) → ReadsWell → is_well_message (message_of_value o) ≡ true
+is_well_message-ReadsWell None h = refl
+is_well_message-ReadsWell (Some d) h = part (is_some (as_object d))
   where
     part : (b : Bool) → is_well_message (cond b (with_its_id (id_of d) (asked d)) no_object) ≡ true
     part true = object_well d h
     part false = refl
 
 -- in each session it is a command that a line may give
-pub given_by : (m : Message) → is_well_message m ≡ true → IfSome (act_said m) HasTexts → IfSome (act_said m) IsGivenAct
-given_by no_json w t = tt
-given_by too_long w t = tt
-given_by no_object w t = tt
-given_by (no_request id why) w t = tt
-given_by (message.request id act) w t = λ n s. record { well = λ i. s i && w i; texts = t }
+pub IsGivenAct-HasTexts : (m : Message) → is_well_message m ≡ true → IfSome (act_said m) HasTexts → IfSome (act_said m) IsGivenAct
+IsGivenAct-HasTexts no_json w t = tt
+IsGivenAct-HasTexts too_long w t = tt
+IsGivenAct-HasTexts no_object w t = tt
+IsGivenAct-HasTexts (no_request id why) w t = tt
+IsGivenAct-HasTexts (message.request id act) w t = λ n s. record { well = λ i. s i && w i; texts = t }
 
 -- ---- keys without a fault
 
@@ -439,7 +439,7 @@ none_is : (o : Option Why) → is_none o ≡ true → o ≡ None
 none_is None h = refl
 none_is (Some w) h = cc
 
-pub no_keys_fault : (f : Form) (d : Data) → is_good_id (get (codes "id") d) ≡ true → missing_in f d ≡ None → has_only (keys_of f) d ≡ true → None ≡ keys_fault f d
-no_keys_fault f d g m o =
+pub keys_fault-None : (f : Form) (d : Data) → is_good_id (get (codes "id") d) ≡ true → missing_in f d ≡ None → has_only (keys_of f) d ≡ true → None ≡ keys_fault f d
+keys_fault-None f d g m o =
     sym ((λ i. first_of (cond (g i) None (Some (wrong (codes "id") None))) (first_of (m i) (unknown_in f d)))
     ∙ none_is (unknown_in f d) (none_unknown (is_among (keys_of f)) (as_object d) ∙ o))

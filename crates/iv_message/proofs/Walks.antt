@@ -14,11 +14,13 @@ find_joined t (k ∷ a) b = part (find_joined t a b) (t k)
     part rest true = refl
     part rest false = rest
 
-pub in_first : (t : List ℕ → Bool) (a b : List (List ℕ)) (k other : List ℕ) → Some k ≡ find t a → k ≡ unwrap_or (find t (a ++ b)) other
-in_first t a b k other h = sym (ap (λ o. unwrap_or o other) (find_joined t a b ∙ ap (λ o. either o (find t b)) (sym h)))
+pub unwrap_or-find_first : (t : List ℕ → Bool) (a b : List (List ℕ)) (k other : List ℕ) → Some k ≡ find t a → k ≡ unwrap_or (find t (a ++ b)) other
+unwrap_or-find_first t a b k other h = sym (ap (λ o. unwrap_or o other) (find_joined t a b ∙ ap (λ o. either o (find t b)) (sym h)))
 
-pub in_second : (t : List ℕ → Bool) (a b : List (List ℕ)) (k other : List ℕ) → None ≡ find t a → Some k ≡ find t b → k ≡ unwrap_or (find t (a ++ b)) other
-in_second t a b k other h e = sym (ap (λ o. unwrap_or o other) (find_joined t a b ∙ (λ i. either (sym h i) (sym e i))))
+pub unwrap_or-find_second : (t : List ℕ → Bool) (a b : List (List ℕ)) (k other : List ℕ) → None ≡ find t a → Some k ≡ find t b
+    → k ≡ unwrap_or (find t (a ++ b)) other
+unwrap_or-find_second t a b k other h e = sym (ap (λ o. unwrap_or o other) (find_joined t a b ∙ (λ i. either (sym h i) (sym e i))))
 
-pub in_neither : (t : List ℕ → Bool) (a b : List (List ℕ)) (other : List ℕ) → None ≡ find t a → None ≡ find t b → other ≡ unwrap_or (find t (a ++ b)) other
-in_neither t a b other h e = sym (ap (λ o. unwrap_or o other) (find_joined t a b ∙ (λ i. either (sym h i) (sym e i))))
+pub unwrap_or-find_neither : (t : List ℕ → Bool) (a b : List (List ℕ)) (other : List ℕ) → None ≡ find t a → None ≡ find t b
+    → other ≡ unwrap_or (find t (a ++ b)) other
+unwrap_or-find_neither t a b other h e = sym (ap (λ o. unwrap_or o other) (find_joined t a b ∙ (λ i. either (sym h i) (sym e i))))

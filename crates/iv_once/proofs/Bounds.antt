@@ -6,10 +6,10 @@ use Rattle.std.proofs.lemmas.Bool.{false≢true}
 use Rattle.iv_once.specs.Names.{Limits, Ask, Entry, named, plain, renewed, Journal, Own, Known, Verdict, carry, again, another, late, foreign, ahead, over, blamed, followed, is_over, learned, own_of, spent_by, spent_more, verdict, with_own}
 use Rattle.iv_once.specs.Runs.{Event, asks, does, synced, crashed, compacted, restored, forgiven, Run, after, copied, done_by, entered, history, in_epoch, is_new, journal, kept, known, names, next, noted, nothing_known, restarted, start}
 use Rattle.iv_once.specs.Laws.{HasReason, HasToWait, blames, forgiveness}
-use Rattle.iv_once.proofs.Lists.{assoc, cut, cut_front, le_false, le_true, same_bytes}
-use Rattle.iv_once.proofs.Kept.{followed_apart}
-use Rattle.iv_once.proofs.Sound.{IsSound, are_kept, or_false, reason}
-use Rattle.iv_once.proofs.Once.{after_sound, next_sound, rest_of_all}
+use Rattle.iv_once.proofs.Lists.{append-associative, append-take_drop, append-take_drop_append, lt-nat_le_false, le-nat_le, same-bytes_eq}
+use Rattle.iv_once.proofs.Kept.{followed-append}
+use Rattle.iv_once.proofs.Sound.{IsSound, AreKept-IsSound, or-both_false, HasReason-AreKept}
+use Rattle.iv_once.proofs.Once.{IsSound-after, IsSound-next, append-take_rest}
 
 -- ---- blame
 
@@ -45,7 +45,7 @@ blamed_bounded most before spent holder n (Some other) h f = by (bytes_eq other 
   where
     by : (b : Bool) → bytes_eq other holder ≡ b → spent_by spent other < most → IsBounded most before (unwrap_or (cond b (Some (spent_by spent other + 1)) (spent holder)) 0) (cond b 1 0 + n)
     by false t k = (h.0, let m = h.1 in omega (arith, m))
-    by true t k = let e : spent_by spent other ≡ spent_by spent holder = ap (spent_by spent) (same_bytes other holder t) in let m = h.1 in (omega (arith, k), omega (arith, e, m))
+    by true t k = let e : spent_by spent other ≡ spent_by spent holder = ap (spent_by spent) (same-bytes_eq other holder t) in let m = h.1 in (omega (arith, k), omega (arith, e, m))
 
 entered_bounded : (l : Limits) (times : ℕ) (d : Run) (x : Entry) → ((other : List ℕ) → blamed x ≡ Some other → spent_by d.spent other < l.refusals) → AreBounded l times d → AreBounded l times (entered d x)
 entered_bounded l times d x f s = λ holder. subst (IsBounded l.refusals (l.refusals * times) (spent_by (spent_more d.spent (blamed x)) holder)) (sym (blames_first holder x (history d)))
@@ -56,7 +56,7 @@ forgiven_bounded : (l : Limits) (times : ℕ) (spent n m : ℕ) → IsBounded l.
 forgiven_bounded l times spent n m s h = let a = s.0 in let b = s.1 in let e = mul-suc l.refusals times in (omega arith, omega (arith, a, b, e, h))
 
 not_over : (l : Limits) (d : Run) (holder : List ℕ) → is_over (names l d) holder ≡ false → spent_by d.spent holder < l.refusals
-not_over l d holder h = le_false l.refusals (spent_by d.spent holder) (or_false (nat_le l.refusals (spent_by d.spent holder)) (nat_le l.holders (known l d).holders && not (is_some ((known l d).owns holder))) h).0
+not_over l d holder h = lt-nat_le_false l.refusals (spent_by d.spent holder) (or-both_false (nat_le l.refusals (spent_by d.spent holder)) (nat_le l.holders (known l d).holders && not (is_some ((known l d).owns holder))) h).0
 
 named_blamed : (a : Ask) (refused : Bool) (answer : List ℕ) (other : List ℕ) → blamed (named (record { ask = a; refused = refused; answer = answer })) ≡ Some other → a.holder ≡ other
 named_blamed a true answer other e = ap (λ o. unwrap_or o a.holder) e
@@ -75,7 +75,7 @@ done_bounded l times d a answer refused new s over r = s
 
 asks_bounded : (l : Limits) (times : ℕ) (d : Run) (a : Ask) (answer : List ℕ) (refused : Bool) (new : List ℕ) → IsSound l d → AreBounded l times d → (b : Bool) → AreBounded l times (cond b (done_by (noted d (new ∷ a.at.epoch ∷ [])) a answer refused new (verdict (names l d) a)) d)
 asks_bounded l times d a answer refused new sound s false = s
-asks_bounded l times d a answer refused new sound s true = done_bounded l times d a answer refused new s (verdict (names l d) a) (reason l d a (are_kept l d sound))
+asks_bounded l times d a answer refused new sound s true = done_bounded l times d a answer refused new s (verdict (names l d) a) (HasReason-AreKept l d a (AreKept-IsSound l d sound))
 
 -- what a copy has and what it lacks
 parted_blames : (holder : List ℕ) (n : ℕ) (j gone : Journal) → blames holder (drop n j ++ (take n j ++ gone)) ≡ blames holder (j ++ gone)
@@ -84,12 +84,12 @@ parted_blames holder n j gone =
     let b = blames_both holder (take n j) gone in
     let c = blames_both holder j gone in
     let d = blames_both holder (take n j) (drop n j) in
-    let e : blames holder (take n j ++ drop n j) ≡ blames holder j = ap (blames holder) (cut n j) in
+    let e : blames holder (take n j ++ drop n j) ≡ blames holder j = ap (blames holder) (append-take_drop n j) in
     omega (arith, a, b, c, d, e)
 
 crashed_bounded : (l : Limits) (times : ℕ) (d : Run) (n : ℕ) → AreBounded l times d → AreBounded l (suc times) (next l d (crashed n))
 crashed_bounded l times d n s = λ holder.
-    let h : blames holder (take n d.waiting ++ (((drop n d.waiting ++ d.lines) ++ d.past) ++ d.gone)) ≡ blames holder (history d) = ap (blames holder) (rest_of_all n d.waiting d.lines d.past d.gone) in
+    let h : blames holder (take n d.waiting ++ (((drop n d.waiting ++ d.lines) ++ d.past) ++ d.gone)) ≡ blames holder (history d) = ap (blames holder) (append-take_rest n d.waiting d.lines d.past d.gone) in
     let m = blames_both holder (take n d.waiting) (((drop n d.waiting ++ d.lines) ++ d.past) ++ d.gone) in
     forgiven_bounded l times (spent_by d.spent holder) (blames holder (history d)) (blames holder (((drop n d.waiting ++ d.lines) ++ d.past) ++ d.gone)) (s holder) (omega (arith, h, m))
 
@@ -101,7 +101,8 @@ restored_bounded l times d n new s false = more_bounded l times d s
 restored_bounded l times d n new s true = λ holder.
     let e = parted_blames holder n (kept d) d.gone in
     let m = blames_both holder d.waiting (kept d ++ d.gone) in
-    let h : blames holder (d.waiting ++ (kept d ++ d.gone)) ≡ blames holder (history d) = ap (blames holder) (sym (assoc d.waiting (kept d) d.gone)) in
+    let h : blames holder (d.waiting ++ (kept d ++ d.gone)) ≡ blames holder (history d) =
+      ap (blames holder) (sym (append-associative d.waiting (kept d) d.gone)) in
     forgiven_bounded l times (spent_by d.spent holder) (blames holder (history d)) (blames holder (drop n (kept d) ++ (take n (kept d) ++ d.gone))) (s holder) (omega (arith, e, m, h))
 
 -- what one event forgives
@@ -111,7 +112,7 @@ next_bounded l times d (does request) sound s = subst (λ z. AreBounded l z (nex
 next_bounded l times d synced sound s = subst (λ z. AreBounded l z (next l d synced)) (omega arith) synced_bounded
   where
     synced_bounded : AreBounded l times (next l d synced)
-    synced_bounded = λ holder. let h : blames holder (((d.waiting ++ d.lines) ++ d.past) ++ d.gone) ≡ blames holder (history d) = ap (λ j. blames holder (j ++ d.gone)) (assoc d.waiting d.lines d.past) in let a = (s holder).0 in let b = (s holder).1 in (a, omega (arith, b, h))
+    synced_bounded = λ holder. let h : blames holder (((d.waiting ++ d.lines) ++ d.past) ++ d.gone) ≡ blames holder (history d) = ap (λ j. blames holder (j ++ d.gone)) (append-associative d.waiting d.lines d.past) in let a = (s holder).0 in let b = (s holder).1 in (a, omega (arith, b, h))
 next_bounded l times d (crashed n) sound s = subst (λ z. AreBounded l z (next l d (crashed n))) (omega arith) (crashed_bounded l times d n s)
 next_bounded l times d compacted sound s = subst (λ z. AreBounded l z (next l d compacted)) (omega arith) s
 next_bounded l times d (restored n new) sound s = subst (λ z. AreBounded l z (next l d (restored n new))) (omega arith) (restored_bounded l times d n new s (is_new new d.seen))
@@ -133,10 +134,10 @@ after_bounded : (l : Limits) (times : ℕ) (d : Run) (es : List Event) → IsSou
 after_bounded l times d [] sound s = subst (λ z. AreBounded l z d) (omega arith) s
 after_bounded l times d (e ∷ es) sound s =
     let h = forgiveness_first e es in
-    subst (λ z. AreBounded l z (after l (next l d e) es)) (omega (arith, h)) (after_bounded l (times + forgiveness (e ∷ [])) (next l d e) es (next_sound l d e sound) (next_bounded l times d e sound s))
+    subst (λ z. AreBounded l z (after l (next l d e) es)) (omega (arith, h)) (after_bounded l (times + forgiveness (e ∷ [])) (next l d e) es (IsSound-next l d e sound) (next_bounded l times d e sound s))
 
-pub blames_bounded : (l : Limits) (epoch : List ℕ) (es : List Event) (holder : List ℕ) → IsSound l (start epoch) → blames holder (history (after l (start epoch) es)) ≤ l.refusals * (1 + forgiveness es)
-blames_bounded l epoch es holder sound =
+pub le-blames : (l : Limits) (epoch : List ℕ) (es : List Event) (holder : List ℕ) → IsSound l (start epoch) → blames holder (history (after l (start epoch) es)) ≤ l.refusals * (1 + forgiveness es)
+le-blames l epoch es holder sound =
     let b = after_bounded l 0 (start epoch) es sound (λ h. (omega arith, omega arith)) holder in
     let m = b.0 in
     let n = b.1 in
@@ -156,7 +157,7 @@ spent_first spent holder n (Some other) h = by (bytes_eq other holder) refl
   where
     by : (b : Bool) → bytes_eq other holder ≡ b → unwrap_or (cond b (Some (spent_by spent other + 1)) (spent holder)) 0 ≤ cond b 1 0 + n
     by false t = omega (arith, h)
-    by true t = let e : spent_by spent other ≡ spent_by spent holder = ap (spent_by spent) (same_bytes other holder t) in omega (arith, e, h)
+    by true t = let e : spent_by spent other ≡ spent_by spent holder = ap (spent_by spent) (same-bytes_eq other holder t) in omega (arith, e, h)
 
 entered_spent : (d : Run) (x : Entry) → IsSpent d → IsSpent (entered d x)
 entered_spent d x s = λ holder. let h = spent_first d.spent holder (blames holder (journal d)) (blamed x) (s holder) in let m = blames_first holder x (journal d) in omega (arith, h, m)
@@ -181,7 +182,7 @@ restored_spent l d n new s true = λ holder. omega arith
 next_spent : (l : Limits) (d : Run) (e : Event) → IsSpent d → IsSpent (next l d e)
 next_spent l d (asks a answer refused new) s = asks_spent l d a answer refused new s (is_new new (a.at.epoch ∷ d.seen))
 next_spent l d (does request) s = entered_spent d (plain request) s
-next_spent l d synced s = λ holder. let h : blames holder ((d.waiting ++ d.lines) ++ d.past) ≡ blames holder (journal d) = ap (blames holder) (assoc d.waiting d.lines d.past) in let m = s holder in omega (arith, h, m)
+next_spent l d synced s = λ holder. let h : blames holder ((d.waiting ++ d.lines) ++ d.past) ≡ blames holder (journal d) = ap (blames holder) (append-associative d.waiting d.lines d.past) in let m = s holder in omega (arith, h, m)
 next_spent l d (crashed n) s = λ holder. omega arith
 next_spent l d compacted s = s
 next_spent l d (restored n new) s = restored_spent l d n new s (is_new new d.seen)
@@ -192,14 +193,15 @@ after_spent l d [] s = s
 after_spent l d (e ∷ es) s = after_spent l (next l d e) es (next_spent l d e s)
 
 waits_by : (l : Limits) (d : Run) (holder : List ℕ) → IsSpent d → (b c e : Bool) → nat_le l.refusals (spent_by d.spent holder) ≡ b → nat_le l.holders (known l d).holders ≡ c → (b || (c && e)) ≡ true → (l.refusals ≤ blames holder (journal d)) ⊎ (l.holders ≤ (known l d).holders)
-waits_by l d holder s true c e t u h = let m = le_true l.refusals (spent_by d.spent holder) t in let n = s holder in inl (omega (arith, m, n))
-waits_by l d holder s false true e t u h = inr (le_true l.holders (known l d).holders u)
+waits_by l d holder s true c e t u h = let m = le-nat_le l.refusals (spent_by d.spent holder) t in let n = s holder in inl (omega (arith, m, n))
+waits_by l d holder s false true e t u h = inr (le-nat_le l.holders (known l d).holders u)
 waits_by l d holder s false false e t u h = absurd (false≢true h)
 
-pub waits : (l : Limits) (epoch : List ℕ) (es : List Event) (a : Ask) → IsSound l (start epoch) → HasToWait l (after l (start epoch) es) a
-waits l epoch es a sound = λ v.
+pub HasToWait-after : (l : Limits) (epoch : List ℕ) (es : List Event) (a : Ask) → IsSound l (start epoch) → HasToWait l (after l (start epoch) es) a
+HasToWait-after l epoch es a sound = λ v.
     let d = after l (start epoch) es in
-    let r : is_over (names l d) a.holder ≡ true = subst (HasReason l d a) v (reason l d a (are_kept l d (after_sound l (start epoch) es sound))) in
+    let r : is_over (names l d) a.holder ≡ true =
+      subst (HasReason l d a) v (HasReason-AreKept l d a (AreKept-IsSound l d (IsSound-after l (start epoch) es sound))) in
     waits_by l d a.holder (after_spent l (start epoch) es (λ holder. omega arith)) (nat_le l.refusals (spent_by d.spent a.holder)) (nat_le l.holders (known l d).holders) (not (is_some ((known l d).owns a.holder))) refl refl r
 
 -- ---- holders
@@ -258,11 +260,11 @@ record AreFew (l : Limits) (d : Run) : Type 0 where
   few : (known l d).holders ≤ l.holders
 
 room : (l : Limits) (d : Run) (holder : List ℕ) → (known l d).holders ≤ l.holders → is_over (names l d) holder ≡ false → cond (is_some ((known l d).owns holder)) (known l d).holders ((known l d).holders + 1) ≤ l.holders
-room l d holder few h = by (is_some ((known l d).owns holder)) (nat_le l.holders (known l d).holders) refl (or_false (nat_le l.refusals (spent_by d.spent holder)) (nat_le l.holders (known l d).holders && not (is_some ((known l d).owns holder))) h).1
+room l d holder few h = by (is_some ((known l d).owns holder)) (nat_le l.holders (known l d).holders) refl (or-both_false (nat_le l.refusals (spent_by d.spent holder)) (nat_le l.holders (known l d).holders && not (is_some ((known l d).owns holder))) h).1
   where
     by : (b c : Bool) → nat_le l.holders (known l d).holders ≡ c → (c && not b) ≡ false → cond b (known l d).holders ((known l d).holders + 1) ≤ l.holders
     by true c t k = few
-    by false false t k = let m = le_false l.holders (known l d).holders t in omega (arith, m)
+    by false false t k = let m = lt-nat_le_false l.holders (known l d).holders t in omega (arith, m)
     by false true t k = absurd (false≢true (sym k))
 
 done_few : (l : Limits) (d : Run) (a : Ask) (answer : List ℕ) (refused : Bool) (new : List ℕ) → AreFew l d → (v : Verdict) → HasReason l d a v → AreFew l (done_by (noted d (new ∷ a.at.epoch ∷ [])) a answer refused new v)
@@ -276,7 +278,8 @@ done_few l d a answer refused new s over r = record { same = s.same; few = s.few
 
 asks_few : (l : Limits) (d : Run) (a : Ask) (answer : List ℕ) (refused : Bool) (new : List ℕ) → IsSound l d → AreFew l d → (b : Bool) → AreFew l (cond b (done_by (noted d (new ∷ a.at.epoch ∷ [])) a answer refused new (verdict (names l d) a)) d)
 asks_few l d a answer refused new sound s false = s
-asks_few l d a answer refused new sound s true = done_few l d a answer refused new s (verdict (names l d) a) (reason l d a (are_kept l d sound))
+asks_few l d a answer refused new sound s true =
+    done_few l d a answer refused new s (verdict (names l d) a) (HasReason-AreKept l d a (AreKept-IsSound l d sound))
 
 copied_few : (l : Limits) (d : Run) (n : ℕ) (new : List ℕ) → AreFew l d → AreFew l (restarted (copied l (noted d (new ∷ [])) n new))
 copied_few l d n new s =
@@ -285,7 +288,7 @@ copied_few l d n new s =
     let e = same_in_epoch new k in
     let f = same_followed l (nothing_known new) (nothing_known []) (drop n (kept d)) z in
     let g = holders_back l (nothing_known []) (take n (kept d)) (drop n (kept d)) in
-    let c : (followed l (nothing_known []) (take n (kept d) ++ drop n (kept d))).holders ≡ (followed l (nothing_known []) (kept d)).holders = ap (λ j. (followed l (nothing_known []) j).holders) (cut n (kept d)) in
+    let c : (followed l (nothing_known []) (take n (kept d) ++ drop n (kept d))).holders ≡ (followed l (nothing_known []) (kept d)).holders = ap (λ j. (followed l (nothing_known []) j).holders) (append-take_drop n (kept d)) in
     let p : (followed l (nothing_known []) (kept d)).holders ≡ (followed l (followed l (nothing_known []) d.past) d.lines).holders = ap (λ (k : Known). k.holders) (followed_both l (nothing_known []) d.lines d.past) in
     let q = (same_followed l d.first (followed l (nothing_known []) d.past) d.lines s.same).0 in
     let m = holders_back l d.first d.waiting d.lines in
@@ -303,19 +306,19 @@ next_few l d (does request) sound s = record { same = s.same; few = s.few }
 next_few l d synced sound s = record { same = s.same; few = s.few }
 next_few l d (crashed n) sound s =
     let m = holders_back l d.first (take n d.waiting) (drop n d.waiting ++ d.lines) in
-    let e : (followed l d.first (take n d.waiting ++ (drop n d.waiting ++ d.lines))).holders ≡ (known l d).holders = ap (λ j. (followed l d.first j).holders) (cut_front n d.waiting d.lines) in
+    let e : (followed l d.first (take n d.waiting ++ (drop n d.waiting ++ d.lines))).holders ≡ (known l d).holders = ap (λ j. (followed l d.first j).holders) (append-take_drop_append n d.waiting d.lines) in
     let w = s.few in
     record { same = s.same; few = omega (arith, m, e, w) }
 next_few l d compacted sound s = record {
   same = subst (AreSame (followed l d.first d.lines)) (sym (followed_both l (nothing_known []) d.lines d.past)) (same_followed l d.first (followed l (nothing_known []) d.past) d.lines s.same);
-  few = subst (λ (k : Known). k.holders ≤ l.holders) (followed_apart l d.first d.waiting d.lines) s.few;
+  few = subst (λ (k : Known). k.holders ≤ l.holders) (followed-append l d.first d.waiting d.lines) s.few;
 }
 next_few l d (restored n new) sound s = restored_few l d n new s (is_new new d.seen)
 next_few l d forgiven sound s = record { same = s.same; few = s.few }
 
 after_few : (l : Limits) (d : Run) (es : List Event) → IsSound l d → AreFew l d → AreFew l (after l d es)
 after_few l d [] sound s = s
-after_few l d (e ∷ es) sound s = after_few l (next l d e) es (next_sound l d e sound) (next_few l d e sound s)
+after_few l d (e ∷ es) sound s = after_few l (next l d e) es (IsSound-next l d e sound) (next_few l d e sound s)
 
-pub holders_bounded : (l : Limits) (epoch : List ℕ) (es : List Event) → IsSound l (start epoch) → (known l (after l (start epoch) es)).holders ≤ l.holders
-holders_bounded l epoch es sound = (after_few l (start epoch) es sound (record { same = (refl, λ holder. refl); few = omega arith })).few
+pub le-holders : (l : Limits) (epoch : List ℕ) (es : List Event) → IsSound l (start epoch) → (known l (after l (start epoch) es)).holders ≤ l.holders
+le-holders l epoch es sound = (after_few l (start epoch) es sound (record { same = (refl, λ holder. refl); few = omega arith })).few

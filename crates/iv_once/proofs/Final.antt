@@ -5,10 +5,10 @@ use Rattle.std.specs.List.{list_any}
 use Rattle.iv_once.specs.Names.{Limits, Place, Ask, Entry, named, plain, renewed, Journal, Own, Known, Verdict, carry, again, another, late, foreign, ahead, over, followed, is_place, learned, own_of, verdict}
 use Rattle.iv_once.specs.Runs.{Answer, says, undecided, asked, Event, asks, does, synced, crashed, compacted, restored, forgiven, Run, acted, after, answered, copied, done_by, entered, history, is_new, journal, kept, known, names, next, noted, nothing_known, restarted, start}
 use Rattle.iv_once.specs.Laws.{Among, AreFinal, HasReason, IsFinal, own, times}
-use Rattle.iv_once.proofs.Lists.{among_either, and_both, assoc, cut, same_bytes, same_place, times_both}
-use Rattle.iv_once.proofs.Kept.{epoch_in_epoch, followed_apart, named_learned, renewed_learned, renewed_own}
-use Rattle.iv_once.proofs.Sound.{IsSeen, IsSound, are_kept, not_drawn, not_false, or_false, reason, seen_here, seen_more}
-use Rattle.iv_once.proofs.Once.{next_sound, parted, rest_of_all}
+use Rattle.iv_once.proofs.Lists.{Among-append, and-both_true, append-associative, append-take_drop, same-bytes_eq, same-is_place, times-append}
+use Rattle.iv_once.proofs.Kept.{epoch-in_epoch, followed-append, own_of-learned_named, own_of-learned_renewed, epoch-learned_renewed}
+use Rattle.iv_once.proofs.Sound.{IsSeen, IsSound, AreKept-IsSound, not_same-IsSeen, false-not, or-both_false, HasReason-AreKept, IsSeen-head, IsSeen-cons}
+use Rattle.iv_once.proofs.Once.{IsSound-next, times-parted, append-take_rest}
 
 -- ---- behind a place
 
@@ -38,9 +38,10 @@ other_back epoch [] b h = h
 other_back epoch (x ∷ a) b h = other_back epoch a b (other_rest epoch x (a ++ b) h)
 
 past_entered : (l : Limits) (most : ℕ) (holder epoch : List ℕ) (k : Known) (x : Entry) → IsPast most holder epoch k → AreOther epoch (x ∷ []) → IsPast most holder epoch (learned l x k)
-past_entered l most holder epoch k (named e) p h = λ q. let n = named_learned l e k holder in let m = p (sym n.0 ∙ q) in let c = n.1 in omega (arith, m, c)
+past_entered l most holder epoch k (named e) p h =
+    λ q. let n = own_of-learned_named l e k holder in let m = p (sym n.0 ∙ q) in let c = n.1 in omega (arith, m, c)
 past_entered l most holder epoch k (plain request) p h = p
-past_entered l most holder epoch k (renewed other x) p h = λ q. by q (renewed_learned l other x k holder)
+past_entered l most holder epoch k (renewed other x) p h = λ q. by q (own_of-learned_renewed l other x k holder)
   where
     by : (own_of (learned l (renewed other x) k) holder).epoch ≡ epoch → ((own_of (learned l (renewed other x) k) holder).epoch ≡ x) ⊎ (own_of (learned l (renewed other x) k) holder ≡ own_of k holder) → most ≤ (own_of (learned l (renewed other x) k) holder).count
     by q (inl e) = absurd (h.0 (sym e ∙ q))
@@ -57,28 +58,28 @@ pub record Stays (l : Limits) (most : ℕ) (holder epoch : List ℕ) (d : Run) :
   pub disk : IsPast most holder epoch (followed l d.first d.lines)
   pub others : AreOther epoch d.waiting
 
-pub now_past : (l : Limits) (most : ℕ) (holder epoch : List ℕ) (d : Run) → Stays l most holder epoch d → IsPast most holder epoch (known l d)
-now_past l most holder epoch d s = past_followed l most holder epoch d.first d.waiting d.lines s.disk s.others
+pub IsPast-Stays : (l : Limits) (most : ℕ) (holder epoch : List ℕ) (d : Run) → Stays l most holder epoch d → IsPast most holder epoch (known l d)
+IsPast-Stays l most holder epoch d s = past_followed l most holder epoch d.first d.waiting d.lines s.disk s.others
 
 module _ (l : Limits) (most : ℕ) (holder epoch : List ℕ) (d : Run) (s : Stays l most holder epoch d) where
   done_stays : (a : Ask) (answer : List ℕ) (refused : Bool) (new : List ℕ) → list_any (bytes_eq new) d.seen ≡ false → (v : Verdict) → Stays l most holder epoch (done_by (noted d (new ∷ a.at.epoch ∷ [])) a answer refused new v)
-  done_stays a answer refused new f carry = record { seen = seen_more new epoch (a.at.epoch ∷ d.seen) (seen_more a.at.epoch epoch d.seen s.seen); disk = s.disk; others = s.others }
-  done_stays a answer refused new f (again first) = record { seen = seen_more new epoch (a.at.epoch ∷ d.seen) (seen_more a.at.epoch epoch d.seen s.seen); disk = s.disk; others = s.others }
-  done_stays a answer refused new f another = record { seen = seen_more new epoch (a.at.epoch ∷ d.seen) (seen_more a.at.epoch epoch d.seen s.seen); disk = s.disk; others = s.others }
-  done_stays a answer refused new f late = record { seen = seen_more new epoch (a.at.epoch ∷ d.seen) (seen_more a.at.epoch epoch d.seen s.seen); disk = s.disk; others = s.others }
-  done_stays a answer refused new f foreign = record { seen = seen_more new epoch (a.at.epoch ∷ d.seen) (seen_more a.at.epoch epoch d.seen s.seen); disk = s.disk; others = s.others }
-  done_stays a answer refused new f ahead = record { seen = seen_more new epoch (a.at.epoch ∷ d.seen) (seen_more a.at.epoch epoch d.seen s.seen); disk = s.disk; others = (λ q. not_drawn epoch new d.seen s.seen f (sym q), s.others) }
-  done_stays a answer refused new f over = record { seen = seen_more new epoch (a.at.epoch ∷ d.seen) (seen_more a.at.epoch epoch d.seen s.seen); disk = s.disk; others = s.others }
+  done_stays a answer refused new f carry = record { seen = IsSeen-cons new epoch (a.at.epoch ∷ d.seen) (IsSeen-cons a.at.epoch epoch d.seen s.seen); disk = s.disk; others = s.others }
+  done_stays a answer refused new f (again first) = record { seen = IsSeen-cons new epoch (a.at.epoch ∷ d.seen) (IsSeen-cons a.at.epoch epoch d.seen s.seen); disk = s.disk; others = s.others }
+  done_stays a answer refused new f another = record { seen = IsSeen-cons new epoch (a.at.epoch ∷ d.seen) (IsSeen-cons a.at.epoch epoch d.seen s.seen); disk = s.disk; others = s.others }
+  done_stays a answer refused new f late = record { seen = IsSeen-cons new epoch (a.at.epoch ∷ d.seen) (IsSeen-cons a.at.epoch epoch d.seen s.seen); disk = s.disk; others = s.others }
+  done_stays a answer refused new f foreign = record { seen = IsSeen-cons new epoch (a.at.epoch ∷ d.seen) (IsSeen-cons a.at.epoch epoch d.seen s.seen); disk = s.disk; others = s.others }
+  done_stays a answer refused new f ahead = record { seen = IsSeen-cons new epoch (a.at.epoch ∷ d.seen) (IsSeen-cons a.at.epoch epoch d.seen s.seen); disk = s.disk; others = (λ q. not_same-IsSeen epoch new d.seen s.seen f (sym q), s.others) }
+  done_stays a answer refused new f over = record { seen = IsSeen-cons new epoch (a.at.epoch ∷ d.seen) (IsSeen-cons a.at.epoch epoch d.seen s.seen); disk = s.disk; others = s.others }
 
   asks_stays : (a : Ask) (answer : List ℕ) (refused : Bool) (new : List ℕ) (b : Bool) → is_new new (a.at.epoch ∷ d.seen) ≡ b → Stays l most holder epoch (cond b (done_by (noted d (new ∷ a.at.epoch ∷ [])) a answer refused new (verdict (names l d) a)) d)
   asks_stays a answer refused new false t = s
-  asks_stays a answer refused new true t = done_stays a answer refused new (or_false (bytes_eq new a.at.epoch) (list_any (bytes_eq new) d.seen) (not_false (list_any (bytes_eq new) (a.at.epoch ∷ d.seen)) t)).1 (verdict (names l d) a)
+  asks_stays a answer refused new true t = done_stays a answer refused new (or-both_false (bytes_eq new a.at.epoch) (list_any (bytes_eq new) d.seen) (false-not (list_any (bytes_eq new) (a.at.epoch ∷ d.seen)) t)).1 (verdict (names l d) a)
 
   restored_stays : (n : ℕ) (new : List ℕ) (b : Bool) → is_new new d.seen ≡ b → Stays l most holder epoch (cond b (restarted (copied l (noted d (new ∷ [])) n new)) d)
   restored_stays n new false t = s
   restored_stays n new true t = record {
-    seen = seen_more new epoch d.seen s.seen;
-    disk = λ q. absurd (not_drawn epoch new d.seen s.seen (not_false (list_any (bytes_eq new) d.seen) t) (sym q ∙ epoch_in_epoch new (followed l (nothing_known new) (drop n (kept d))) holder));
+    seen = IsSeen-cons new epoch d.seen s.seen;
+    disk = λ q. absurd (not_same-IsSeen epoch new d.seen s.seen (false-not (list_any (bytes_eq new) d.seen) t) (sym q ∙ epoch-in_epoch new (followed l (nothing_known new) (drop n (kept d))) holder));
     others = tt;
   }
 
@@ -86,7 +87,7 @@ module _ (l : Limits) (most : ℕ) (holder epoch : List ℕ) (d : Run) (s : Stay
   stays_next (asks a answer refused new) = asks_stays a answer refused new (is_new new (a.at.epoch ∷ d.seen)) refl
   stays_next (does request) = record { seen = s.seen; disk = s.disk; others = s.others }
   stays_next synced = record { seen = s.seen; disk = past_followed l most holder epoch d.first d.waiting d.lines s.disk s.others; others = tt }
-  stays_next (crashed n) = record { seen = s.seen; disk = past_followed l most holder epoch d.first (drop n d.waiting) d.lines s.disk (other_back epoch (take n d.waiting) (drop n d.waiting) (subst (AreOther epoch) (sym (cut n d.waiting)) s.others)); others = tt }
+  stays_next (crashed n) = record { seen = s.seen; disk = past_followed l most holder epoch d.first (drop n d.waiting) d.lines s.disk (other_back epoch (take n d.waiting) (drop n d.waiting) (subst (AreOther epoch) (sym (append-take_drop n d.waiting)) s.others)); others = tt }
   stays_next compacted = record { seen = s.seen; disk = s.disk; others = s.others }
   stays_next (restored n new) = restored_stays n new (is_new new d.seen) refl
   stays_next forgiven = record { seen = s.seen; disk = s.disk; others = s.others }
@@ -98,7 +99,7 @@ not_carried : (l : Limits) (d : Run) (a b : Ask) → IsSound l d → IsPast (suc
 not_carried l d a b s p r h q =
     let e : a.at.epoch ≡ (own_of (known l d) a.holder).epoch = subst (λ z. a.at.epoch ≡ (own_of (known l d) z).epoch) h (ap (λ (z : Place). z.epoch) (sym q) ∙ r.1) in
     let m = p (sym e) in
-    let c = (are_kept l d s a.holder).0 in
+    let c = (AreKept-IsSound l d s a.holder).0 in
     let n : length (own a.holder (journal d)) ≤ a.at.count + l.names = subst (λ z. length (own z (journal d)) ≤ a.at.count + l.names) h (subst (λ (z : Place). length (own b.holder (journal d)) ≤ z.count + l.names) q r.3) in
     omega (arith, m, c, n)
 
@@ -109,7 +110,7 @@ same_times false n h = omega arith
 carried_times : (a b : Ask) (refused : Bool) (answer : List ℕ) (j : Journal) → (b.holder ≡ a.holder → b.at ≡ a.at → ⊥) → (c : Bool) → bytes_eq b.holder a.holder ≡ c
     → times a.name a.at (cond c (record { ask = b; refused = refused; answer = answer } ∷ own a.holder j) (own a.holder j)) ≤ times a.name a.at (own a.holder j)
 carried_times a b refused answer j h false t = omega arith
-carried_times a b refused answer j h true t = same_times (bytes_eq b.name a.name && is_place b.at a.at) (times a.name a.at (own a.holder j)) (λ k. h (same_bytes b.holder a.holder t) (same_place b.at a.at (and_both (bytes_eq b.name a.name) (is_place b.at a.at) k).1))
+carried_times a b refused answer j h true t = same_times (bytes_eq b.name a.name && is_place b.at a.at) (times a.name a.at (own a.holder j)) (λ k. h (same-bytes_eq b.holder a.holder t) (same-is_place b.at a.at (and-both_true (bytes_eq b.name a.name) (is_place b.at a.at) k).1))
 
 done_times : (l : Limits) (d : Run) (a b : Ask) (answer : List ℕ) (refused : Bool) (new : List ℕ) → IsSound l d → IsPast (suc (a.at.count + l.names)) a.holder a.at.epoch (known l d) → (v : Verdict) → HasReason l d b v
     → times a.name a.at (own a.holder (history (done_by (noted d (new ∷ b.at.epoch ∷ [])) b answer refused new v))) ≤ times a.name a.at (own a.holder (history d))
@@ -124,24 +125,25 @@ done_times l d a b answer refused new s p over r = omega arith
 asks_times : (l : Limits) (d : Run) (a b : Ask) (answer : List ℕ) (refused : Bool) (new : List ℕ) → IsSound l d → IsPast (suc (a.at.count + l.names)) a.holder a.at.epoch (known l d) → (c : Bool)
     → times a.name a.at (own a.holder (history (cond c (done_by (noted d (new ∷ b.at.epoch ∷ [])) b answer refused new (verdict (names l d) b)) d))) ≤ times a.name a.at (own a.holder (history d))
 asks_times l d a b answer refused new s p false = omega arith
-asks_times l d a b answer refused new s p true = done_times l d a b answer refused new s p (verdict (names l d) b) (reason l d b (are_kept l d s))
+asks_times l d a b answer refused new s p true =
+    done_times l d a b answer refused new s p (verdict (names l d) b) (HasReason-AreKept l d b (AreKept-IsSound l d s))
 
 restored_times : (l : Limits) (d : Run) (a : Ask) (n : ℕ) (new : List ℕ) (c : Bool) → times a.name a.at (own a.holder (history (cond c (restarted (copied l (noted d (new ∷ [])) n new)) d))) ≤ times a.name a.at (own a.holder (history d))
 restored_times l d a n new false = omega arith
 restored_times l d a n new true =
-    let e = parted a.holder a.name a.at n (kept d) d.gone in
-    let m = times_both a.holder a.name a.at d.waiting (kept d ++ d.gone) in
-    let h : times a.name a.at (own a.holder (d.waiting ++ (kept d ++ d.gone))) ≡ times a.name a.at (own a.holder (history d)) = ap (λ j. times a.name a.at (own a.holder j)) (sym (assoc d.waiting (kept d) d.gone)) in
+    let e = times-parted a.holder a.name a.at n (kept d) d.gone in
+    let m = times-append a.holder a.name a.at d.waiting (kept d ++ d.gone) in
+    let h : times a.name a.at (own a.holder (d.waiting ++ (kept d ++ d.gone))) ≡ times a.name a.at (own a.holder (history d)) = ap (λ j. times a.name a.at (own a.holder j)) (sym (append-associative d.waiting (kept d) d.gone)) in
     omega (arith, e, m, h)
 
 next_times : (l : Limits) (d : Run) (a : Ask) → IsSound l d → IsPast (suc (a.at.count + l.names)) a.holder a.at.epoch (known l d) → (e : Event) → times a.name a.at (own a.holder (history (next l d e))) ≤ times a.name a.at (own a.holder (history d))
 next_times l d a s p (asks b answer refused new) = asks_times l d a b answer refused new s p (is_new new (b.at.epoch ∷ d.seen))
 next_times l d a s p (does request) = omega arith
 next_times l d a s p synced =
-    let h : times a.name a.at (own a.holder (((d.waiting ++ d.lines) ++ d.past) ++ d.gone)) ≡ times a.name a.at (own a.holder (history d)) = ap (λ j. times a.name a.at (own a.holder (j ++ d.gone))) (assoc d.waiting d.lines d.past) in omega (arith, h)
+    let h : times a.name a.at (own a.holder (((d.waiting ++ d.lines) ++ d.past) ++ d.gone)) ≡ times a.name a.at (own a.holder (history d)) = ap (λ j. times a.name a.at (own a.holder (j ++ d.gone))) (append-associative d.waiting d.lines d.past) in omega (arith, h)
 next_times l d a s p (crashed n) =
-    let h : times a.name a.at (own a.holder (take n d.waiting ++ (((drop n d.waiting ++ d.lines) ++ d.past) ++ d.gone))) ≡ times a.name a.at (own a.holder (history d)) = ap (λ j. times a.name a.at (own a.holder j)) (rest_of_all n d.waiting d.lines d.past d.gone) in
-    let m = times_both a.holder a.name a.at (take n d.waiting) (((drop n d.waiting ++ d.lines) ++ d.past) ++ d.gone) in
+    let h : times a.name a.at (own a.holder (take n d.waiting ++ (((drop n d.waiting ++ d.lines) ++ d.past) ++ d.gone))) ≡ times a.name a.at (own a.holder (history d)) = ap (λ j. times a.name a.at (own a.holder j)) (append-take_rest n d.waiting d.lines d.past d.gone) in
+    let m = times-append a.holder a.name a.at (take n d.waiting) (((drop n d.waiting ++ d.lines) ++ d.past) ++ d.gone) in
     omega (arith, h, m)
 next_times l d a s p compacted = omega arith
 next_times l d a s p (restored n new) = restored_times l d a n new (is_new new d.seen)
@@ -150,8 +152,8 @@ next_times l d a s p forgiven = omega arith
 after_times : (l : Limits) (d : Run) (a : Ask) → IsSound l d → Stays l (suc (a.at.count + l.names)) a.holder a.at.epoch d → (es : List Event) → times a.name a.at (own a.holder (history (after l d es))) ≤ times a.name a.at (own a.holder (history d))
 after_times l d a s t [] = omega arith
 after_times l d a s t (e ∷ es) =
-    let one = next_times l d a s (now_past l (suc (a.at.count + l.names)) a.holder a.at.epoch d t) e in
-    let more = after_times l (next l d e) a (next_sound l d e s) (stays_next l (suc (a.at.count + l.names)) a.holder a.at.epoch d t e) es in
+    let one = next_times l d a s (IsPast-Stays l (suc (a.at.count + l.names)) a.holder a.at.epoch d t) e in
+    let more = after_times l (next l d e) a (IsSound-next l d e s) (stays_next l (suc (a.at.count + l.names)) a.holder a.at.epoch d t e) es in
     omega (arith, one, more)
 
 -- ---- what is held, and told
@@ -181,7 +183,7 @@ decided_held : (l : Limits) (d : Run) (a : Ask) (x : Answer) → (rule_of x ≡ 
 decided_held l d a x m n h = answered_held l d a x (λ rule i e. absurd (not_final (rule_of x) rule (ap rule_of e) m n i)) h
 
 noted_held : (l : Limits) (d : Run) (x y : List ℕ) → IsHeld l d → IsHeld l (noted d (x ∷ y ∷ []))
-noted_held l d x y h = λ a rule i k. let s = h a rule i k in (seen_more x a.at.epoch (y ∷ d.seen) (seen_more y a.at.epoch d.seen s.0), s.1)
+noted_held l d x y h = λ a rule i k. let s = h a rule i k in (IsSeen-cons x a.at.epoch (y ∷ d.seen) (IsSeen-cons y a.at.epoch d.seen s.0), s.1)
 
 entered_held : (l : Limits) (d : Run) (x : Entry) (seen : List (List ℕ)) → ((a : Ask) (rule : ℕ) → IsFinal rule → Among (a, undecided rule) d.held → IsSeen seen a.at.epoch) → ((a : Ask) → IsSeen seen a.at.epoch → AreOther a.at.epoch (x ∷ [])) → IsHeld l d → IsHeld l (entered d x)
 entered_held l d x seen g f h = λ a rule i k. let s = h a rule i k in (s.0, past_entered l (suc (a.at.count + l.names)) a.holder a.at.epoch (known l d) x s.1 (f a (g a rule i k)))
@@ -195,20 +197,20 @@ module _ (l : Limits) (d : Run) (s : IsSound l d) (h : IsHeld l d) where
   done_held a answer refused new f g another r = decided_held l (noted d (new ∷ a.at.epoch ∷ [])) a (undecided 101) (λ e. omega (arith, e)) (λ e. omega (arith, e)) (noted_held l d new a.at.epoch h)
   done_held a answer refused new f g over r = decided_held l (noted d (new ∷ a.at.epoch ∷ [])) a (undecided 104) (λ e. omega (arith, e)) (λ e. omega (arith, e)) (noted_held l d new a.at.epoch h)
   done_held a answer refused new f g late r =
-      let c = (are_kept l d s a.holder).0 in
-      answered_held l (noted d (new ∷ a.at.epoch ∷ [])) a (undecided 102) (λ rule i e. (seen_more new a.at.epoch (a.at.epoch ∷ d.seen) (seen_here a.at.epoch d.seen), λ q. omega (arith, c, r))) (noted_held l d new a.at.epoch h)
+      let c = (AreKept-IsSound l d s a.holder).0 in
+      answered_held l (noted d (new ∷ a.at.epoch ∷ [])) a (undecided 102) (λ rule i e. (IsSeen-cons new a.at.epoch (a.at.epoch ∷ d.seen) (IsSeen-head a.at.epoch d.seen), λ q. omega (arith, c, r))) (noted_held l d new a.at.epoch h)
   done_held a answer refused new f g foreign r =
-      answered_held l (noted d (new ∷ a.at.epoch ∷ [])) a (undecided 103) (λ rule i e. (seen_more new a.at.epoch (a.at.epoch ∷ d.seen) (seen_here a.at.epoch d.seen), λ q. absurd (r (sym q)))) (noted_held l d new a.at.epoch h)
+      answered_held l (noted d (new ∷ a.at.epoch ∷ [])) a (undecided 103) (λ rule i e. (IsSeen-cons new a.at.epoch (a.at.epoch ∷ d.seen) (IsSeen-head a.at.epoch d.seen), λ q. absurd (r (sym q)))) (noted_held l d new a.at.epoch h)
   done_held a answer refused new f g ahead r =
       answered_held l (entered (noted d (new ∷ a.at.epoch ∷ [])) (renewed a.holder new)) a (undecided 103)
-      (λ rule i e. (seen_more new a.at.epoch (a.at.epoch ∷ d.seen) (seen_here a.at.epoch d.seen), λ q. absurd (not_drawn a.at.epoch new (a.at.epoch ∷ d.seen) (seen_here a.at.epoch d.seen) g (sym q ∙ renewed_own l new (known l d) a.holder))))
-      (entered_held l (noted d (new ∷ a.at.epoch ∷ [])) (renewed a.holder new) d.seen (λ b rule i k. (h b rule i k).0) (λ b z. (λ q. not_drawn b.at.epoch new d.seen z f (sym q), tt)) (noted_held l d new a.at.epoch h))
+      (λ rule i e. (IsSeen-cons new a.at.epoch (a.at.epoch ∷ d.seen) (IsSeen-head a.at.epoch d.seen), λ q. absurd (not_same-IsSeen a.at.epoch new (a.at.epoch ∷ d.seen) (IsSeen-head a.at.epoch d.seen) g (sym q ∙ epoch-learned_renewed l new (known l d) a.holder))))
+      (entered_held l (noted d (new ∷ a.at.epoch ∷ [])) (renewed a.holder new) d.seen (λ b rule i k. (h b rule i k).0) (λ b z. (λ q. not_same-IsSeen b.at.epoch new d.seen z f (sym q), tt)) (noted_held l d new a.at.epoch h))
 
   asks_held : (a : Ask) (answer : List ℕ) (refused : Bool) (new : List ℕ) (b : Bool) → is_new new (a.at.epoch ∷ d.seen) ≡ b → IsHeld l (cond b (done_by (noted d (new ∷ a.at.epoch ∷ [])) a answer refused new (verdict (names l d) a)) d)
   asks_held a answer refused new false t = h
   asks_held a answer refused new true t =
-      let g = not_false (list_any (bytes_eq new) (a.at.epoch ∷ d.seen)) t in
-      done_held a answer refused new (or_false (bytes_eq new a.at.epoch) (list_any (bytes_eq new) d.seen) g).1 g (verdict (names l d) a) (reason l d a (are_kept l d s))
+      let g = false-not (list_any (bytes_eq new) (a.at.epoch ∷ d.seen)) t in
+      done_held a answer refused new (or-both_false (bytes_eq new a.at.epoch) (list_any (bytes_eq new) d.seen) g).1 g (verdict (names l d) a) (HasReason-AreKept l d a (AreKept-IsSound l d s))
 
   restored_held : (n : ℕ) (new : List ℕ) (b : Bool) → IsHeld l (cond b (restarted (copied l (noted d (new ∷ [])) n new)) d)
   restored_held n new false = h
@@ -219,7 +221,7 @@ module _ (l : Limits) (d : Run) (s : IsSound l d) (h : IsHeld l d) where
   next_held (does request) = entered_held l d (plain request) d.seen (λ a rule i k. (h a rule i k).0) (λ a z. tt) h
   next_held synced = λ a rule i k. absurd k
   next_held (crashed n) = λ a rule i k. absurd k
-  next_held compacted = λ a rule i k. let z = h a rule i k in (z.0, subst (IsPastFor l a) (followed_apart l d.first d.waiting d.lines) z.1)
+  next_held compacted = λ a rule i k. let z = h a rule i k in (z.0, subst (IsPastFor l a) (followed-append l d.first d.waiting d.lines) z.1)
   next_held (restored n new) = restored_held n new (is_new new d.seen)
   next_held forgiven = h
 
@@ -251,7 +253,7 @@ module _ (l : Limits) (d : Run) (h : IsHeld l d) (t : IsTold l d) where
   next_told : (e : Event) → IsTold l (next l d e)
   next_told (asks b answer refused new) = λ a rule i k. now (asks b answer refused new) a rule i (subst (Among (a, undecided rule)) (asked_told b answer refused new (is_new new (b.at.epoch ∷ d.seen))) k)
   next_told (does request) = λ a rule i k. now (does request) a rule i k
-  next_told synced = λ a rule i k. told_now a rule i (among_either (a, undecided rule) d.held d.told k)
+  next_told synced = λ a rule i k. told_now a rule i (Among-append (a, undecided rule) d.held d.told k)
   next_told (crashed n) = λ a rule i k. now (crashed n) a rule i k
   next_told compacted = λ a rule i k. now compacted a rule i k
   next_told (restored n new) = λ a rule i k. now (restored n new) a rule i (subst (Among (a, undecided rule)) (restored_told n new (is_new new d.seen)) k)
@@ -259,7 +261,7 @@ module _ (l : Limits) (d : Run) (h : IsHeld l d) (t : IsTold l d) where
 
 told_after : (l : Limits) (d : Run) (es : List Event) → IsSound l d → IsHeld l d → IsTold l d → IsTold l (after l d es)
 told_after l d [] s h t = t
-told_after l d (e ∷ es) s h t = told_after l (next l d e) es (next_sound l d e s) (next_held l d s h e) (next_told l d h t e)
+told_after l d (e ∷ es) s h t = told_after l (next l d e) es (IsSound-next l d e s) (next_held l d s h e) (next_told l d h t e)
 
-pub final : (l : Limits) (epoch : List ℕ) (es : List Event) → IsSound l (start epoch) → IsSound l (after l (start epoch) es) → AreFinal l (after l (start epoch) es)
-final l epoch es b s = λ a rule i k. after_times l (after l (start epoch) es) a s (told_after l (start epoch) es b (λ a rule i k. absurd k) (λ a rule i k. absurd k) a rule i k)
+pub AreFinal-IsSound : (l : Limits) (epoch : List ℕ) (es : List Event) → IsSound l (start epoch) → IsSound l (after l (start epoch) es) → AreFinal l (after l (start epoch) es)
+AreFinal-IsSound l epoch es b s = λ a rule i k. after_times l (after l (start epoch) es) a s (told_after l (start epoch) es b (λ a rule i k. absurd k) (λ a rule i k. absurd k) a rule i k)

@@ -5,8 +5,8 @@ use Rattle.std.specs.Map.{update}
 use Rattle.iv_once.specs.Names.{Limits, Named, named, Own, Known, begun, followed, learned, own_of}
 use Rattle.iv_once.specs.Runs.{Run, journal, known}
 use Rattle.iv_once.specs.Laws.{Among, AreKept, IsReadBack, own}
-use Rattle.iv_once.proofs.Lists.{among_take, itself}
-use Rattle.iv_once.proofs.Sound.{own_holder}
+use Rattle.iv_once.proofs.Lists.{Among-take, bytes_eq-itself}
+use Rattle.iv_once.proofs.Sound.{holder-Among_own}
 
 take_all : {X : Type 0} (n : ℕ) (xs : List X) → length xs ≤ n → take n xs ≡ xs
 take_all zero [] h = refl
@@ -46,14 +46,15 @@ read_by l k holder epoch c (e ∷ es) h m other = by (read_by l k holder epoch c
         → (learned l (named e) (followed l (begun k holder epoch c) (map named es))).owns other ≡ update bytes_eq k.owns holder (Some (read epoch c (e ∷ es))) other
     by ih same =
         let before = followed l (begun k holder epoch c) (map named es) in
-        let mine : before.owns holder ≡ Some (read epoch c es) = ih holder ∙ ap (λ b. cond b (Some (read epoch c es)) (k.owns holder)) (itself holder) in
+        let mine : before.owns holder ≡ Some (read epoch c es) =
+          ih holder ∙ ap (λ b. cond b (Some (read epoch c es)) (k.owns holder)) (bytes_eq-itself holder) in
         (λ i. cond (bytes_eq (same i) other) (Some (more l e (own_of before (same i)))) (before.owns other))
         ∙ ((λ i. cond (bytes_eq holder other) (Some (more l e (unwrap_or (mine i) (record { epoch = before.epoch; count = 0; recent = [] })))) (before.owns other))
         ∙ (chosen (bytes_eq holder other) (before.owns other) (k.owns other) (Some (read epoch c es)) (read epoch c es) (ih other) (more l e (read epoch c es))
         ∙ ap (λ (o : Own). cond (bytes_eq holder other) (Some o) (k.owns other)) (more_read l e epoch c es m)))
 
-pub read_back : (l : Limits) (d : Run) (holder : List ℕ) (k : Known) → AreKept l d → IsReadBack l k holder (own_of (known l d) holder)
-read_back l d holder k kept = λ other.
+pub IsReadBack-AreKept : (l : Limits) (d : Run) (holder : List ℕ) (k : Known) → AreKept l d → IsReadBack l k holder (own_of (known l d) holder)
+IsReadBack-AreKept l d holder k kept = λ other.
     let o = own_of (known l d) holder in
     let is = kept holder in
     let r = is.1 in
@@ -61,6 +62,6 @@ read_back l d holder k kept = λ other.
     let short : length o.recent ≤ l.names = subst (λ z. length z ≤ l.names) (sym r) (take_short l.names (own holder (journal d))) in
     let within : length o.recent ≤ length (own holder (journal d)) = subst (λ z. length z ≤ length (own holder (journal d))) (sym r) (take_within l.names (own holder (journal d))) in
     let whole : (o.count - length o.recent) + length o.recent ≡ o.count = omega (arith, n, within) in
-    let of : (e : Named) → Among e o.recent → e.ask.holder ≡ holder = λ e a. own_holder holder e (journal d) (among_take l.names e (own holder (journal d)) (subst (Among e) r a)) in
+    let of : (e : Named) → Among e o.recent → e.ask.holder ≡ holder = λ e a. holder-Among_own holder e (journal d) (Among-take l.names e (own holder (journal d)) (subst (Among e) r a)) in
     read_by l k holder o.epoch (o.count - length o.recent) o.recent of short other
     ∙ ap (λ z. update bytes_eq k.owns holder (Some (record { epoch = o.epoch; count = z; recent = o.recent })) other) whole

@@ -30,38 +30,39 @@ few_of all n few e f = omega (arith, e, f)
 few_fields : (front : List ℕ) (spans : List HeaderSpan) (r : RequestSpans) (h : RequestHead) → length spans ≡ most_fields → IsRequestAt front spans r h → length h.fields ≤ most_fields
 few_fields front spans r h all is = few_of (length spans) r.headers (length h.fields) all (sym (length-map h.fields name_and_value) ∙ (sym (ap length is.fields) ∙ (length-map (take r.headers spans) (header_bytes front) ∙ length-take r.headers spans)))
 
-pub asks_whole : (bytes front : List ℕ) (spans : List HeaderSpan) (r : RequestSpans) (w : Want) → front ≡ window bytes → length spans ≡ most_fields → IsRequestOf front spans r
+pub Asks-IsRequestOf : (bytes front : List ℕ) (spans : List HeaderSpan) (r : RequestSpans) (w : Want) → front ≡ window bytes → length spans ≡ most_fields → IsRequestOf front spans r
     → w ≡ want_at front spans r → Asks bytes w
-asks_whole bytes front spans r w e all is same =
+Asks-IsRequestOf bytes front spans r w e all is same =
     subst (Asks bytes) (sym (same ∙ want_is front spans r is.0 is.1))
     (whole bytes (drop r.len front) is.0 (subst (λ (f : List ℕ). ReadsRequest f is.0 (drop r.len front)) e is.1.reads) (few_fields front spans r is.0 all is.1))
 
-pub whole_asks : (bytes front : List ℕ) (spans : List HeaderSpan) (r : RequestSpans) (w : Want) → front ≡ window bytes → FindsRequest front most_fields spans (Ok (Complete r)) → w ≡ want_at front spans r
+pub asked_of-Complete : (bytes front : List ℕ) (spans : List HeaderSpan) (r : RequestSpans) (w : Want) → front ≡ window bytes → FindsRequest front most_fields spans (Ok (Complete r)) → w ≡ want_at front spans r
     → (h : RequestHead) (rest : List ℕ) → ReadsRequest (window bytes) h rest → length h.fields ≤ most_fields → w ≡ asked_of h
-whole_asks bytes front spans r w e finds same h rest reads few =
+asked_of-Complete bytes front spans r w e finds same h rest reads few =
     same ∙ want_is front spans r h (finds h rest (subst (λ (f : List ℕ). ReadsRequest f h rest) (sym e) reads) few)
 
-pub partial_asks : (bytes front : List ℕ) (spans : List HeaderSpan) (w : Want) → front ≡ window bytes → FindsRequest front most_fields spans (Ok Partial)
+pub asked_of-Partial : (bytes front : List ℕ) (spans : List HeaderSpan) (w : Want) → front ≡ window bytes → FindsRequest front most_fields spans (Ok Partial)
     → (h : RequestHead) (rest : List ℕ) → ReadsRequest (window bytes) h rest → length h.fields ≤ most_fields → w ≡ asked_of h
-partial_asks bytes front spans w e finds h rest reads few = absurd (finds h rest (subst (λ (f : List ℕ). ReadsRequest f h rest) (sym e) reads) few)
+asked_of-Partial bytes front spans w e finds h rest reads few = absurd (finds h rest (subst (λ (f : List ℕ). ReadsRequest f h rest) (sym e) reads) few)
 
-pub bad_asks : (bytes front : List ℕ) (spans : List HeaderSpan) (error : Error) (w : Want) → front ≡ window bytes → FindsRequest front most_fields spans (Err error)
+pub asked_of-Err : (bytes front : List ℕ) (spans : List HeaderSpan) (error : Error) (w : Want) → front ≡ window bytes → FindsRequest front most_fields spans (Err error)
     → (h : RequestHead) (rest : List ℕ) → ReadsRequest (window bytes) h rest → length h.fields ≤ most_fields → w ≡ asked_of h
-bad_asks bytes front spans error w e finds h rest reads few = absurd (finds h rest (subst (λ (f : List ℕ). ReadsRequest f h rest) (sym e) reads) few)
+asked_of-Err bytes front spans error w e finds h rest reads few = absurd (finds h rest (subst (λ (f : List ℕ). ReadsRequest f h rest) (sym e) reads) few)
 
-pub asks_waits : (bytes front : List ℕ) → front ≡ window bytes → MayBecomeRequest front → length bytes ≤ most_head → Asks bytes asking.more
-asks_waits bytes front e none short = waits bytes (subst (λ (f : List ℕ). MayBecomeRequest f) e none) short
+pub Asks-more : (bytes front : List ℕ) → front ≡ window bytes → MayBecomeRequest front → length bytes ≤ most_head → Asks bytes asking.more
+Asks-more bytes front e none short = waits bytes (subst (λ (f : List ℕ). MayBecomeRequest f) e none) short
 
-pub asks_long : (bytes front : List ℕ) (d : Bool) → front ≡ window bytes → MayBecomeRequest front → most_head < length bytes → list_any (λ b. b == 10) front ≡ d
+pub Asks-too_long : (bytes front : List ℕ) (d : Bool) → front ≡ window bytes → MayBecomeRequest front → most_head < length bytes
+    → list_any (λ b. b == 10) front ≡ d
     → Asks bytes (refused (cond d FieldsTooLarge TargetTooLong))
-asks_long bytes front d e none over has =
+Asks-too_long bytes front d e none over has =
     subst (λ (z : Bool). Asks bytes (refused (cond z FieldsTooLarge TargetTooLong))) (ap (list_any (λ b. b == 10)) (sym e) ∙ has)
     (long bytes (subst (λ (f : List ℕ). MayBecomeRequest f) e none) over)
 
-pub asks_many : (bytes front : List ℕ) → front ≡ window bytes → RequestExceeds most_fields front → Asks bytes (refused FieldsTooLarge)
-asks_many bytes front e over = many bytes (subst (λ (f : List ℕ). RequestExceeds most_fields f) e over)
+pub Asks-too_many_fields : (bytes front : List ℕ) → front ≡ window bytes → RequestExceeds most_fields front → Asks bytes (refused FieldsTooLarge)
+Asks-too_many_fields bytes front e over = many bytes (subst (λ (f : List ℕ). RequestExceeds most_fields f) e over)
 
-pub asks_bad : (bytes front : List ℕ) (d : Bool) → front ≡ window bytes → NeverHasRequest front → says_other front ≡ d → Asks bytes (refused (cond d VersionNotSupported BadRequest))
-asks_bad bytes front d e never says =
+pub Asks-NeverHasRequest : (bytes front : List ℕ) (d : Bool) → front ≡ window bytes → NeverHasRequest front → says_other front ≡ d → Asks bytes (refused (cond d VersionNotSupported BadRequest))
+Asks-NeverHasRequest bytes front d e never says =
     subst (λ (z : Bool). Asks bytes (refused (cond z VersionNotSupported BadRequest))) (ap says_other (sym e) ∙ says)
     (bad bytes (subst (λ (f : List ℕ). NeverHasRequest f) e never))

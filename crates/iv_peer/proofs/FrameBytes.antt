@@ -14,20 +14,21 @@ abbrev Outcome : Type 0
 Outcome = Result (FrameStatus (ℕ × Effect)) Error
 
 -- one frame more
-pub decodes_more : (c d : Connection) (bytes rest : List ℕ) (es : List Effect) (n : ℕ) (e : Effect) → Decodes c bytes es d rest → read_step d rest ≡ Ok (Complete (n, e)) → Decodes c bytes (es ++ e ∷ []) e.next (drop n rest)
-decodes_more _ _ _ _ _ n e (nothing c bytes) h = frame c e.next bytes (drop n bytes) n e [] h (nothing e.next (drop n bytes))
-decodes_more _ _ _ _ _ n e (frame c d bytes rest m x xs s t) h = frame c e.next bytes (drop n rest) m x (xs ++ e ∷ []) s (decodes_more x.next d (drop m bytes) rest xs n e t h)
+pub Decodes-next : (c d : Connection) (bytes rest : List ℕ) (es : List Effect) (n : ℕ) (e : Effect) → Decodes c bytes es d rest → read_step d rest ≡ Ok (Complete (n, e)) → Decodes c bytes (es ++ e ∷ []) e.next (drop n rest)
+Decodes-next _ _ _ _ _ n e (nothing c bytes) h = frame c e.next bytes (drop n bytes) n e [] h (nothing e.next (drop n bytes))
+Decodes-next _ _ _ _ _ n e (frame c d bytes rest m x xs s t) h = frame c e.next bytes (drop n rest) m x (xs ++ e ∷ []) s (Decodes-next x.next d (drop m bytes) rest xs n e t h)
 
 not_waiting : (r : Outcome) (n : ℕ) (e : Effect) → r ≡ Ok (Complete (n, e)) → ¬ (Waits r)
 not_waiting r n e h = λ w. cc (h, w.1)
 
 -- more bytes behind
-pub decodes_on : (c d : Connection) (bytes rest more : List ℕ) (es : List Effect) → Decodes c bytes es d rest → Decodes c (bytes ++ more) es d (rest ++ more)
-decodes_on _ _ _ _ more _ (nothing c bytes) = nothing c (bytes ++ more)
-decodes_on _ _ _ _ more _ (frame c d bytes rest n e xs s t) =
+pub Decodes-append : (c d : Connection) (bytes rest more : List ℕ) (es : List Effect) → Decodes c bytes es d rest
+    → Decodes c (bytes ++ more) es d (rest ++ more)
+Decodes-append _ _ _ _ more _ (nothing c bytes) = nothing c (bytes ++ more)
+Decodes-append _ _ _ _ more _ (frame c d bytes rest n e xs s t) =
     let took = TookFrame_from_read c bytes (n, e) s in
     frame c d (bytes ++ more) (rest ++ more) n e xs (read_step-append c bytes more (not_waiting _ n e s) ∙ s)
-    (subst (λ z. Decodes e.next z xs d (rest ++ more)) (sym (drop-append-le n bytes more took.inside)) (decodes_on e.next d (drop n bytes) rest more xs t))
+    (subst (λ z. Decodes e.next z xs d (rest ++ more)) (sym (drop-append-le n bytes more took.inside)) (Decodes-append e.next d (drop n bytes) rest more xs t))
 
 -- ---- as one reading of all
 
@@ -56,10 +57,12 @@ one_read c bytes n e s =
     all_first c bytes ∙ (ap (after_read (read_times (length bytes)) c bytes) s
     ∙ ap (prepend (e ∷ [])) (times_enough (length bytes) (suc (length (drop n bytes))) e.next (drop n bytes) (omega (arith, length-drop n bytes, took.not_empty, took.inside)) (omega arith)))
 
-pub decodes_all : (c d : Connection) (bytes rest : List ℕ) (es : List Effect) → Decodes c bytes es d rest → read_all c bytes ≡ prepend es (read_all d rest)
-decodes_all _ _ _ _ _ (nothing c bytes) = refl
-decodes_all _ _ _ _ _ (frame c d bytes rest n e xs s t) = one_read c bytes n e s ∙ ap (prepend (e ∷ [])) (decodes_all e.next d (drop n bytes) rest xs t)
+pub read_all-Decodes : (c d : Connection) (bytes rest : List ℕ) (es : List Effect) → Decodes c bytes es d rest → read_all c bytes ≡ prepend es (read_all d rest)
+read_all-Decodes _ _ _ _ _ (nothing c bytes) = refl
+read_all-Decodes _ _ _ _ _ (frame c d bytes rest n e xs s t) =
+    one_read c bytes n e s ∙ ap (prepend (e ∷ [])) (read_all-Decodes e.next d (drop n bytes) rest xs t)
 
 -- who waits has read all
-pub waits_all : (c : Connection) (bytes : List ℕ) (n : ℕ) → read_step c bytes ≡ Ok (Partial n) → read_all c bytes ≡ record { effects = []; end = Ok (c, bytes) }
-waits_all c bytes n s = all_first c bytes ∙ ap (after_read (read_times (length bytes)) c bytes) s
+pub read_all-Partial : (c : Connection) (bytes : List ℕ) (n : ℕ) → read_step c bytes ≡ Ok (Partial n)
+    → read_all c bytes ≡ record { effects = []; end = Ok (c, bytes) }
+read_all-Partial c bytes n s = all_first c bytes ∙ ap (after_read (read_times (length bytes)) c bytes) s

@@ -21,45 +21,48 @@ use Rattle.iv_peer.specs.Reading.{IsEnded, left_by, IsRead, IsSaidAs}
 
 -- ---- the handshake
 
-pub by_accept : (s new : Socket) (head : RequestHead) (rest accept : List ℕ) → s.over ≡ false → s.protocol ≡ None → IsAccepted s.input head rest accept
+pub IsHeard-accepted : (s new : Socket) (head : RequestHead) (rest accept : List ℕ) → s.over ≡ false → s.protocol ≡ None → IsAccepted s.input head rest accept
     → new ≡ forget (accepted accept rest s) → IsHeard heard.Other s new
-by_accept s new head rest accept over none is e = (None, accepted accept rest s, refl, accepts s head rest accept over none is, e)
+IsHeard-accepted s new head rest accept over none is e = (None, accepted accept rest s, refl, accepts s head rest accept over none is, e)
 
-pub by_other : (s new : Socket) → s.over ≡ false → s.protocol ≡ None → AsksOther s.input → new ≡ forget (refused upgrade_required s) → IsHeard heard.Other s new
-by_other s new over none asks e = (None, refused upgrade_required s, refl, refuses_other s over none asks, e)
-
-pub by_bad : (s new : Socket) → s.over ≡ false → s.protocol ≡ None → RequestOverflows most_fields s.input → new ≡ forget (refused bad_request s) → IsHeard heard.Other s new
-by_bad s new over none bad e = (None, refused bad_request s, refl, refuses_bad s over none bad, e)
-
-pub by_long : (s new : Socket) → s.over ≡ false → s.protocol ≡ None → HasNoRequest s.input → most_head < length s.input → new ≡ forget (refused bad_request s)
+pub IsHeard-AsksOther : (s new : Socket) → s.over ≡ false → s.protocol ≡ None → AsksOther s.input → new ≡ forget (refused upgrade_required s)
     → IsHeard heard.Other s new
-by_long s new over none head long e = (None, refused bad_request s, refl, refuses_long s over none head long, e)
+IsHeard-AsksOther s new over none asks e = (None, refused upgrade_required s, refl, refuses_other s over none asks, e)
+
+pub IsHeard-RequestOverflows : (s new : Socket) → s.over ≡ false → s.protocol ≡ None → RequestOverflows most_fields s.input → new ≡ forget (refused bad_request s) → IsHeard heard.Other s new
+IsHeard-RequestOverflows s new over none bad e = (None, refused bad_request s, refl, refuses_bad s over none bad, e)
+
+pub IsHeard-too_long : (s new : Socket) → s.over ≡ false → s.protocol ≡ None → HasNoRequest s.input → most_head < length s.input
+    → new ≡ forget (refused bad_request s)
+    → IsHeard heard.Other s new
+IsHeard-too_long s new over none head long e = (None, refused bad_request s, refl, refuses_long s over none head long, e)
 
 -- a key that is refused is none, or not valid
-pub no_key : (e : HandshakeError) (r : Result (List ℕ) HandshakeError) → Answers (Err e) r → (key : List ℕ) → r ≡ Ok key → ¬ (IsValidKey key)
-no_key e (Ok k) is key h = subst (λ z. ¬ (IsValidKey z)) (cc h) is.0
-no_key e (Err f) is key h = absurd (cc h)
+pub not_IsValidKey-Err : (e : HandshakeError) (r : Result (List ℕ) HandshakeError) → Answers (Err e) r → (key : List ℕ) → r ≡ Ok key → ¬ (IsValidKey key)
+not_IsValidKey-Err e (Ok k) is key h = subst (λ z. ¬ (IsValidKey z)) (cc h) is.0
+not_IsValidKey-Err e (Err f) is key h = absurd (cc h)
 
 -- ---- frames
 
-pub waits_of : (r : Result (FrameStatus (ℕ × Effect)) Error) (s new : Socket) → IsRead r read.Nothing s new → ((n : ℕ) × (r ≡ Ok (Partial n))) × (new ≡ s)
-waits_of (Err e) s new is = absurd (cc is.0)
-waits_of (Ok (Partial n)) s new is = ((n, refl), is.1)
-waits_of (Ok (Complete p)) s new is = absurd (cc is.1)
+pub Partial-IsRead_Nothing : (r : Result (FrameStatus (ℕ × Effect)) Error) (s new : Socket) → IsRead r read.Nothing s new
+    → ((n : ℕ) × (r ≡ Ok (Partial n))) × (new ≡ s)
+Partial-IsRead_Nothing (Err e) s new is = absurd (cc is.0)
+Partial-IsRead_Nothing (Ok (Partial n)) s new is = ((n, refl), is.1)
+Partial-IsRead_Nothing (Ok (Complete p)) s new is = absurd (cc is.1)
 
-pub frame_of : (r : Result (FrameStatus (ℕ × Effect)) Error) (t : Said) (s new : Socket) → IsRead r (read.Frame t) s new
+pub Complete-IsRead_Frame : (r : Result (FrameStatus (ℕ × Effect)) Error) (t : Said) (s new : Socket) → IsRead r (read.Frame t) s new
     → (x : ℕ × Effect) × (r ≡ Ok (Complete x)) × IsSaidAs x.1.message t × (new ≡ forget (stepped x.0 x.1 s))
-frame_of (Err e) t s new is = absurd (cc is.0)
-frame_of (Ok (Partial n)) t s new is = absurd (cc is.0)
-frame_of (Ok (Complete p)) t s new is =
+Complete-IsRead_Frame (Err e) t s new is = absurd (cc is.0)
+Complete-IsRead_Frame (Ok (Partial n)) t s new is = absurd (cc is.0)
+Complete-IsRead_Frame (Ok (Complete p)) t s new is =
     let same : is.0 ≡ t = cc is.1 in
     (p, refl, subst (IsSaidAs p.1.message) same is.2, is.3)
 
-pub fault_of : (r : Result (FrameStatus (ℕ × Effect)) Error) (e : Error) (s new : Socket) → IsRead r (read.Fault e) s new
+pub Err-IsRead_Fault : (r : Result (FrameStatus (ℕ × Effect)) Error) (e : Error) (s new : Socket) → IsRead r (read.Fault e) s new
     → (r ≡ Err e) × (new ≡ record s { protocol = option_map failed_connection s.protocol; input = [] })
-fault_of (Err f) e s new is = (ap (λ x. Err x) (cc is.0), is.1)
-fault_of (Ok (Partial n)) e s new is = absurd (cc is.0)
-fault_of (Ok (Complete p)) e s new is = absurd (cc is.1)
+Err-IsRead_Fault (Err f) e s new is = (ap (λ x. Err x) (cc is.0), is.1)
+Err-IsRead_Fault (Ok (Partial n)) e s new is = absurd (cc is.0)
+Err-IsRead_Fault (Ok (Complete p)) e s new is = absurd (cc is.1)
 
 -- what the code has of the end is the end of what the code has
 ending_forgets : (m : Option Content) (s : Socket) → left_by m (forget s) ≡ forget (ending m s)
@@ -76,31 +79,31 @@ by_frame_as heard.Over s new t next is h e = absurd is
 by_frame_as heard.Other s new t next is h e = (t, next, is, h, e)
 by_frame_as (heard.Text x) s new t next is h e = (t, next, is, h, e)
 
-pub by_frame : (s mid new : Socket) (conn : Connection) (x : ℕ × Effect) (h : Heard) → s.over ≡ false → s.protocol ≡ Some conn → read_step conn s.input ≡ Ok (Complete x)
+pub IsHeard-Complete : (s mid new : Socket) (conn : Connection) (x : ℕ × Effect) (h : Heard) → s.over ≡ false → s.protocol ≡ Some conn → read_step conn s.input ≡ Ok (Complete x)
     → mid ≡ forget (stepped x.0 x.1 s) → IsEnded x.1.message h mid new → IsHeard h s new
-by_frame s mid new conn x h over at read mid_is is =
+IsHeard-Complete s mid new conn x h over at read mid_is is =
     by_frame_as h s new (text_in x.1.message) (framed x.0 x.1 s) is.0 (frames s conn x.0 x.1 over at read)
     (is.1 ∙ (ap (left_by x.1.message) mid_is ∙ ending_forgets x.1.message (stepped x.0 x.1 s)))
 
-pub by_fault : (s mid new : Socket) (conn : Connection) (e : Error) → s.over ≡ false → s.protocol ≡ Some conn → read_step conn s.input ≡ Err e
+pub IsHeard-Err : (s mid new : Socket) (conn : Connection) (e : Error) → s.over ≡ false → s.protocol ≡ Some conn → read_step conn s.input ≡ Err e
     → mid ≡ record s { protocol = option_map failed_connection s.protocol; input = [] } → new ≡ forget (telling (answer (close_of (fault_code e) [])) (ended mid)) → IsHeard heard.Other s new
-by_fault s mid new conn e over at read mid_is is =
+IsHeard-Err s mid new conn e over at read mid_is is =
     (None, failed e s, refl, fails s conn e over at read, is ∙ ap (λ z. forget (telling (answer (close_of (fault_code e) [])) (ended z))) mid_is)
 
 -- ---- behind a frame
 
-pub ends_text : (m : Option Content) (x : String Global) (s : Socket) → IsSaidAs m (said.Text x) → IsEnded m (heard.Text x) s s
-ends_text None x s is = absurd (cc is)
-ends_text (Some (text bytes)) x s is = (ap (λ z. Some z) (sym is), refl)
-ends_text (Some (binary bytes)) x s is = absurd (cc is)
-ends_text (Some (ping bytes)) x s is = absurd (cc is)
-ends_text (Some (pong bytes)) x s is = absurd (cc is)
-ends_text (Some (close frame)) x s is = absurd (cc is)
+pub IsEnded-Text : (m : Option Content) (x : String Global) (s : Socket) → IsSaidAs m (said.Text x) → IsEnded m (heard.Text x) s s
+IsEnded-Text None x s is = absurd (cc is)
+IsEnded-Text (Some (text bytes)) x s is = (ap (λ z. Some z) (sym is), refl)
+IsEnded-Text (Some (binary bytes)) x s is = absurd (cc is)
+IsEnded-Text (Some (ping bytes)) x s is = absurd (cc is)
+IsEnded-Text (Some (pong bytes)) x s is = absurd (cc is)
+IsEnded-Text (Some (close frame)) x s is = absurd (cc is)
 
-pub ends_other : (m : Option Content) (s : Socket) → IsSaidAs m said.Other → IsEnded m heard.Other s s
-ends_other None s is = (refl, refl)
-ends_other (Some (text bytes)) s is = absurd is
-ends_other (Some (binary bytes)) s is = absurd (cc is)
-ends_other (Some (ping bytes)) s is = (refl, refl)
-ends_other (Some (pong bytes)) s is = (refl, refl)
-ends_other (Some (close frame)) s is = absurd (cc is)
+pub IsEnded-Other : (m : Option Content) (s : Socket) → IsSaidAs m said.Other → IsEnded m heard.Other s s
+IsEnded-Other None s is = (refl, refl)
+IsEnded-Other (Some (text bytes)) s is = absurd is
+IsEnded-Other (Some (binary bytes)) s is = absurd (cc is)
+IsEnded-Other (Some (ping bytes)) s is = (refl, refl)
+IsEnded-Other (Some (pong bytes)) s is = (refl, refl)
+IsEnded-Other (Some (close frame)) s is = absurd (cc is)

@@ -28,13 +28,13 @@ sends role (Some f) old new e h =
     h.2 ∙ ap (λ z. old ++ z) (ap (λ m. encode_frame (whole_header f.opcode m) f.payload) bare ∙ sym (append-nil (encode_frame (whole_header f.opcode None) f.payload)))
 
 -- a read that completes is a step of the socket
-pub step_is : (r : Result (FrameStatus (ℕ × Effect)) Error) (conn behind : Connection) (p : Socket) (input output : List ℕ) (step : Step) (s : Said) → conn.role ≡ Server
+pub IsRead-Returns : (r : Result (FrameStatus (ℕ × Effect)) Error) (conn behind : Connection) (p : Socket) (input output : List ℕ) (step : Step) (s : Said) → conn.role ≡ Server
     → ((x : ℕ × Effect) → r ≡ Ok (Complete x) → x.1.next.role ≡ conn.role) → Returns r input (Complete step) → ReadLeaves r conn behind p.output output
     → drop step.consumed input ≡ drop step.consumed p.input → IsSaidAs (option_map (received_content input) step.message) s
     → IsRead r (read.Frame s) p (record (forget p) { protocol = Some behind; input = drop step.consumed input; output = output })
-step_is (Err e) conn behind p input output step s server stays returns leaves kept said_as = absurd returns
-step_is (Ok (Partial n)) conn behind p input output step s server stays returns leaves kept said_as = absurd (cc returns)
-step_is (Ok (Complete x)) conn behind p input output step s server stays returns leaves kept said_as =
+IsRead-Returns (Err e) conn behind p input output step s server stays returns leaves kept said_as = absurd returns
+IsRead-Returns (Ok (Partial n)) conn behind p input output step s server stays returns leaves kept said_as = absurd (cc returns)
+IsRead-Returns (Ok (Complete x)) conn behind p input output step s server stays returns leaves kept said_as =
     let said : IsSaidAs x.1.message s = subst (λ m. IsSaidAs m s) returns.1.0 said_as in
     let rest : drop step.consumed input ≡ drop x.0 p.input = kept ∙ ap (λ n. drop n p.input) returns.0 in
     let sent : output ≡ p.output ++ flat_map item_bytes (answers x.1.reply) = sends behind.role x.1.reply p.output output (ap (λ (c : Connection). c.role) leaves.0 ∙ (stays x refl ∙ server)) leaves.1 in

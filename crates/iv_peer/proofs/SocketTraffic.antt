@@ -14,8 +14,8 @@ use Rattle.websocket.specs.Stream.{prepend, read_all}
 use Rattle.iv_peer.specs.Socket.{Item, Socket, IsAccepted, accepted, answer, answers, at_start, bad_request, close_of, closed, ended, ending, failed, fault_code, framed, fresh, is_open, item_bytes, offering, passing, refused, stepped, telling, told, told_text, took, upgrade_required}
 use Rattle.iv_peer.specs.Hearing.{Hears, IsServer, IsWaiting, IsWaitingAt, accepts, refuses_other, refuses_bad, refuses_long, frames, fails, text_in}
 use Rattle.iv_peer.specs.Lives.{Carries, CarriesAt, Decodes, IsOpened, IsUnopened, Lives, answer_of, answers_in, begins, closes, ends, frame, hears, listed, nothing, replies_of, sends, takes, tells, text_of, texts_in, texts_of}
-use Rattle.iv_peer.proofs.FrameBytes.{decodes_all, decodes_more, decodes_on, waits_all}
-use Rattle.iv_peer.proofs.Roles.{role_stays}
+use Rattle.iv_peer.proofs.FrameBytes.{read_all-Decodes, Decodes-next, Decodes-append, read_all-Partial}
+use Rattle.iv_peer.proofs.Roles.{role-read_step}
 
 none_some : {X : Type 0} (a : X) → None ≡ Some a → ⊥
 none_some a h = cc h
@@ -63,8 +63,8 @@ all_by : (hs ts : List (List ℕ)) (s : Socket) (conn : Connection) → s.protoc
 all_by hs ts s conn at o waits =
     let now = o.lives waits.0 in
     let w : IsWaitingAt (Some conn) s.input = subst (λ k. IsWaitingAt k s.input) at waits.1 in
-    decodes_all at_start o.last o.body o.rest s.effects o.decodes
-    ∙ ((λ i. prepend s.effects (read_all (now.1.0 i) (now.1.1 i))) ∙ (ap (prepend s.effects) (waits_all conn s.input w.0 w.1)
+    read_all-Decodes at_start o.last o.body o.rest s.effects o.decodes
+    ∙ ((λ i. prepend s.effects (read_all (now.1.0 i) (now.1.1 i))) ∙ (ap (prepend s.effects) (read_all-Partial conn s.input w.0 w.1)
     ∙ (λ i. record { effects = append-nil s.effects i; end = Ok (conn, s.input) })))
 
 opened_is : (hs ts : List (List ℕ)) (s : Socket) (conn : Connection) → s.protocol ≡ Some conn → Opened hs ts s conn → IsOpened hs ts s conn
@@ -123,7 +123,7 @@ took_at hs ts s bytes (Some conn) o = record {
   request = accepted_on s.read bytes o.head o.body o.accept o.request;
   last = o.last;
   rest = o.rest ++ bytes;
-  decodes = decodes_on at_start o.last o.body o.rest bytes s.effects o.decodes;
+  decodes = Decodes-append at_start o.last o.body o.rest bytes s.effects o.decodes;
   heard = o.heard;
   offered = o.offered;
   told = o.told;
@@ -181,7 +181,7 @@ stepped_opened hs ts s conn n e over read o =
       request = o.request;
       last = e.next;
       rest = drop n o.rest;
-      decodes = decodes_more at_start o.last o.body o.rest s.effects n e o.decodes ((λ i. read_step (now.1.0 i) (now.1.1 i)) ∙ read);
+      decodes = Decodes-next at_start o.last o.body o.rest s.effects n e o.decodes ((λ i. read_step (now.1.0 i) (now.1.1 i)) ∙ read);
       heard = ap (λ z. z ++ listed (text_in e.message)) o.heard ∙ sym (texts_more s.effects e);
       offered = frames_more (response_bytes o.accept []) s.items (answers e.reply) s.offered o.offered;
       told = o.told ∙ sym (told_more s.items e.reply);
@@ -229,7 +229,7 @@ heard_frame hs ts s conn n e over at read c =
     record {
       sent = ending_sent e.message h (offering_sent (flat_map item_bytes (answers e.reply)) s c.sent);
       carries = subst (CarriedAt (hs ++ listed (text_in e.message)) ts (framed n e s)) (sym same) (ending_opened (hs ++ listed (text_in e.message)) ts e.message h e.next over o);
-      serves = λ k is. ap (λ (z : Connection). z.role) (some_same k e.next (sym is ∙ same)) ∙ (role_stays conn s.input (n, e) read ∙ c.serves conn at);
+      serves = λ k is. ap (λ (z : Connection). z.role) (some_same k e.next (sym is ∙ same)) ∙ (role-read_step conn s.input (n, e) read ∙ c.serves conn at);
     }
 
 -- ---- all that happens
@@ -416,8 +416,8 @@ shown_at : (hs ts : List (List ℕ)) (s : Socket) (k : Option Connection) → s.
 shown_at hs ts s None at u = u
 shown_at hs ts s (Some conn) at o = opened_is hs ts s conn at o
 
-pub lives_carry : (hs ts : List (List ℕ)) (s : Socket) → Lives hs ts s → Carries hs ts s
-lives_carry hs ts s l = let c = carried hs ts s l in record { sent = c.sent; carries = shown_at hs ts s s.protocol refl c.carries }
+pub Carries-Lives : (hs ts : List (List ℕ)) (s : Socket) → Lives hs ts s → Carries hs ts s
+Carries-Lives hs ts s l = let c = carried hs ts s l in record { sent = c.sent; carries = shown_at hs ts s s.protocol refl c.carries }
 
-pub lives_serve : (hs ts : List (List ℕ)) (s : Socket) → Lives hs ts s → IsServer s
-lives_serve hs ts s l = (carried hs ts s l).serves
+pub IsServer-Lives : (hs ts : List (List ℕ)) (s : Socket) → Lives hs ts s → IsServer s
+IsServer-Lives hs ts s l = (carried hs ts s l).serves

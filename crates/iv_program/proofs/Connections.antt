@@ -24,11 +24,11 @@ pub none_served : (lines : ℕ) (s : State) (e : Engine) → IsBehind s e → Ha
 none_served lines s e b = record { commands = []; count = refl; most = tt; given = tt; behind = b }
 
 -- a run, and then all is hung up
-pub one_served : (lines : ℕ) (s : State) (mid new : Engine) → HasRun lines s mid → ((t : State) → IsBehind t mid → IsBehind (hung t) new) → HasServed lines 1 s new
-one_served lines s mid new h f = record { commands = h.commands ∷ []; count = refl; most = (h.most, tt); given = (h.given, tt); behind = f (run s h.commands).state h.behind }
+pub HasServed-HasRun : (lines : ℕ) (s : State) (mid new : Engine) → HasRun lines s mid → ((t : State) → IsBehind t mid → IsBehind (hung t) new) → HasServed lines 1 s new
+HasServed-HasRun lines s mid new h f = record { commands = h.commands ∷ []; count = refl; most = (h.most, tt); given = (h.given, tt); behind = f (run s h.commands).state h.behind }
 
-pub more_served : (lines n m : ℕ) (s : State) (mid new : Engine) → HasServed lines n s mid → ((t : State) → IsBehind t mid → HasServed lines m t new) → HasServed lines (n + m) s new
-more_served lines n m s mid new h f =
+pub HasServed-plus : (lines n m : ℕ) (s : State) (mid new : Engine) → HasServed lines n s mid → ((t : State) → IsBehind t mid → HasServed lines m t new) → HasServed lines (n + m) s new
+HasServed-plus lines n m s mid new h f =
     let last = f (served s h.commands) h.behind in
     record {
       commands = h.commands ++ last.commands;
@@ -38,8 +38,8 @@ more_served lines n m s mid new h f =
       behind = subst (λ (t : State). IsBehind t new) (served_behind s h.commands last.commands) last.behind;
     }
 
-pub closed_numbers : (f : Frame) → IsClosed f → AreNumbersUnique f
-closed_numbers f h = record {
+pub AreNumbersUnique-IsClosed : (f : Frame) → IsClosed f → AreNumbersUnique f
+AreNumbersUnique-IsClosed f h = record {
   unique = subst AreUnique (sym h.subscriptions) tt;
   given = subst (AreGiven f.last) (sym h.subscriptions) tt;
 }
@@ -47,28 +47,28 @@ closed_numbers f h = record {
 -- ---- what was written
 
 -- all of it is a front of it
-pub all_front : (old new : Option (List ℕ)) (bytes : List ℕ) → Appends old new bytes → (n : ℕ) × Appends old new (take n bytes)
-all_front old new bytes h = (length bytes, subst (Appends old new) (sym (take-length bytes)) h)
+pub Appends-take_of_all : (old new : Option (List ℕ)) (bytes : List ℕ) → Appends old new bytes → (n : ℕ) × Appends old new (take n bytes)
+Appends-take_of_all old new bytes h = (length bytes, subst (Appends old new) (sym (take-length bytes)) h)
 
-pub second : (a b new : Bool) → new ≡ (a || b) → a ≡ false → new ≡ b
-second true b new e f = cc
-second false b new e f = e
+pub or-first_false : (a b new : Bool) → new ≡ (a || b) → a ≡ false → new ≡ b
+or-first_false true b new e f = cc
+or-first_false false b new e f = e
 
 -- where a result is Ok, what holds of each state behind
-pub at_ok : {T E : Type 0} (r : Result T E) (P Q : State → Type 0) → OnOk r ((s : State) → P s → Q s) → (s : State) → P s → OnOk r (Q s)
-at_ok (Ok x) P Q h s p = h s p
-at_ok (Err e) P Q h s p = tt
+pub OnOk-at_state : {T E : Type 0} (r : Result T E) (P Q : State → Type 0) → OnOk r ((s : State) → P s → Q s) → (s : State) → P s → OnOk r (Q s)
+OnOk-at_state (Ok x) P Q h s p = h s p
+OnOk-at_state (Err e) P Q h s p = tt
 
 -- ---- hanging up
 
-pub closed_by : (old new : Engine) → new ≡ hung_up old → IsClosed new.frame
-closed_by old new e = record {
+pub IsClosed-hung_up : (old new : Engine) → new ≡ hung_up old → IsClosed new.frame
+IsClosed-hung_up old new e = record {
   sessions = ap (λ (x : Engine). x.frame.sessions) e;
   subscriptions = ap (λ (x : Engine). x.frame.subscriptions) e;
 }
 
-pub stays_failed : (old new : Engine) → (old.failed ≡ false → new ≡ hung_up old) → (old.failed ≡ true → new ≡ old) → new.failed ≡ old.failed
-stays_failed old new f g = by old.failed refl
+pub failed-hung_up : (old new : Engine) → (old.failed ≡ false → new ≡ hung_up old) → (old.failed ≡ true → new ≡ old) → new.failed ≡ old.failed
+failed-hung_up old new f g = by old.failed refl
   where
     by : (b : Bool) → old.failed ≡ b → new.failed ≡ old.failed
     by true e = ap (λ (x : Engine). x.failed) (g e)

@@ -10,14 +10,14 @@ use Rattle.iv_lines.specs.declared.lines.RunFault.TheVariants as run
 abbrev ran : ℕ → Option (List ℕ) → Option (List ℕ) → Option (List ℕ) → Option (List ℕ) → Engine → Run
 ran lines given left taken written now = record { lines = lines; given = given; left = left; taken = taken; written = written; now = now }
 
-pub ended : (cap : ℕ) (f g : RunFault) (lines : ℕ) (given left taken written : Option (List ℕ)) (now : Engine) → f ≡ g → IsAnswered (start cap) (ran lines given left taken written now) (Err f) → (seen : Engine) × IsAnswered (start cap) (ran lines given left taken written seen) (Err g)
-ended cap f g lines given left taken written now e h = let P : RunFault → Type 0 = λ k. IsAnswered (start cap) (ran lines given left taken written now) (Err k) in (now, subst P e h)
+pub IsAnswered-Err : (cap : ℕ) (f g : RunFault) (lines : ℕ) (given left taken written : Option (List ℕ)) (now : Engine) → f ≡ g → IsAnswered (start cap) (ran lines given left taken written now) (Err f) → (seen : Engine) × IsAnswered (start cap) (ran lines given left taken written seen) (Err g)
+IsAnswered-Err cap f g lines given left taken written now e h = let P : RunFault → Type 0 = λ k. IsAnswered (start cap) (ran lines given left taken written now) (Err k) in (now, subst P e h)
 
 nothing_more : (old : Option (List ℕ)) → Appends old old []
 nothing_more None = tt
 nothing_more (Some xs) = sym (append-nil xs)
 
 -- no engine was made: no line was answered
-pub nothing_answered : (cap lines : ℕ) (given left taken : Option (List ℕ)) → 1 ≤ lines → (now : Engine) × IsAnswered (start cap) (ran lines given left taken taken now) (Err run.Memory)
-nothing_answered cap lines None left taken h = (record { frame = start_frame cap; tables = []; rounds = []; failed = true }, tt)
-nothing_answered cap lines (Some bs) left taken h = (record { frame = start_frame cap; tables = []; rounds = []; failed = true }, (0, omega arith, (refl, nothing_more taken)))
+pub IsAnswered-Memory_at_start : (cap lines : ℕ) (given left taken : Option (List ℕ)) → 1 ≤ lines → (now : Engine) × IsAnswered (start cap) (ran lines given left taken taken now) (Err run.Memory)
+IsAnswered-Memory_at_start cap lines None left taken h = (record { frame = start_frame cap; tables = []; rounds = []; failed = true }, tt)
+IsAnswered-Memory_at_start cap lines (Some bs) left taken h = (record { frame = start_frame cap; tables = []; rounds = []; failed = true }, (0, omega arith, (refl, nothing_more taken)))

@@ -18,9 +18,9 @@ as_many [] (b ∷ bs) (suc i) l = absurd (omega (arith, l))
 as_many (x ∷ xs) [] (suc i) l = absurd (omega (arith, l))
 as_many (x ∷ xs) (b ∷ bs) (suc i) l = ap suc (as_many xs bs i (omega (arith, l)))
 
-pub differing_more : (xs bs : List Bool) (i : ℕ) (flags new : List Bool) → length xs ≡ length bs → i < length xs
+pub differing-take_next : (xs bs : List Bool) (i : ℕ) (flags new : List Bool) → length xs ≡ length bs → i < length xs
     → flags ≡ differing (take i xs) (take i bs) → new ≡ flags ++ differ (get_or xs i false) (get_or bs i false) ∷ [] → new ≡ differing (take (i + 1) xs) (take (i + 1) bs)
-differing_more xs bs i flags new many low so_far is =
+differing-take_next xs bs i flags new many low so_far is =
     let a = get_or xs i false in
     let b = get_or bs i false in
     is ∙ ap (λ fs. fs ++ differ a b ∷ []) so_far

@@ -6,10 +6,10 @@ use Rattle.std.specs.List.{AllByRecursion}
 use Rattle.iv_circuit.specs.Circuits.{Running}
 use Rattle.iv_readers.specs.Changes.{AreHeldAlike}
 use Rattle.iv_readers.specs.Held.{AreHeld, AreLeftTo, AreSameBut, AreThoseRead, Reading, held_at, is_held, is_read_at, read_from}
-use Rattle.iv_readers.proofs.Held.{held_set, same_number}
+use Rattle.iv_readers.proofs.Held.{AreHeld-set, same_number}
 use Rattle.iv_readers.proofs.Lists.{is_self}
-use Rattle.iv_readers.proofs.Partly.{other_not, readers_held}
-use Rattle.iv_readers.proofs.PlaceFlags.{held_low}
+use Rattle.iv_readers.proofs.Partly.{not_same-eq_false, readers_held}
+use Rattle.iv_readers.proofs.PlaceFlags.{lt-is_held}
 
 clash : false ≡ true → ⊥
 clash q = cc
@@ -53,10 +53,10 @@ all_read all [] sub = tt
 all_read all (r ∷ rs) sub = (sub r.at (ap (λ b. b || is_read_at rs r.at) (is_self r.at)), all_read all rs (λ i h. sub i (or_right (r.at == i) (is_read_at rs i) h)))
 
 -- the circuit of each is held
-pub held_of : (hs : List (Option Running)) (rs : List Reading) (place : ℕ) (r : Reading) → AreHeld hs rs → place < length rs → r ≡ get_or rs place r → is_held hs r.at ≡ true
-held_of hs [] place r a low at = absurd (omega arith)
-held_of hs (x ∷ rs) zero r a low at = ap (λ (y : Reading). is_held hs y.at) at ∙ a.0
-held_of hs (x ∷ rs) (suc place) r a low at = held_of hs rs place r a.1 (omega arith) at
+pub is_held-AreHeld : (hs : List (Option Running)) (rs : List Reading) (place : ℕ) (r : Reading) → AreHeld hs rs → place < length rs → r ≡ get_or rs place r → is_held hs r.at ≡ true
+is_held-AreHeld hs [] place r a low at = absurd (omega arith)
+is_held-AreHeld hs (x ∷ rs) zero r a low at = ap (λ (y : Reading). is_held hs y.at) at ∙ a.0
+is_held-AreHeld hs (x ∷ rs) (suc place) r a low at = is_held-AreHeld hs rs place r a.1 (omega arith) at
 
 -- each reads its place
 pub own_read : (rs : List Reading) → AllByRecursion (λ r. is_read_at rs r.at ≡ true) rs
@@ -87,11 +87,11 @@ module _ (rs : List Reading) (old new : List (Option Running)) (at : ℕ) (kept 
     (others : AreSameBut at old new) where
   there_at : (i : ℕ) (b : Bool) → (i == at) ≡ b → is_read_at rs i ≡ true → is_held new i ≡ is_held old i
   there_at i true e h = ap (λ hs. is_held hs i) (kept (subst (λ n. is_read_at rs n ≡ true) (same_number i at e) h))
-  there_at i false e h = others.there i (other_not i at e)
+  there_at i false e h = others.there i (not_same-eq_false i at e)
 
   same_at : (i : ℕ) (b : Bool) → (i == at) ≡ b → is_read_at rs i ≡ true → held_at new i ≡ held_at old i
   same_at i true e h = ap (λ hs. held_at hs i) (kept (subst (λ n. is_read_at rs n ≡ true) (same_number i at e) h))
-  same_at i false e h = others.same i (other_not i at e)
+  same_at i false e h = others.same i (not_same-eq_false i at e)
 
   here : (b : Bool) → is_read_at rs at ≡ b → is_held new at ≡ true → is_read_at rs at ≡ true
   here true e h = e
@@ -101,7 +101,7 @@ module _ (rs : List Reading) (old new : List (Option Running)) (at : ℕ) (kept 
   read_at i true e was h =
       let same = same_number i at e in
       subst (λ n. is_read_at rs n ≡ true) (sym same) (here (is_read_at rs at) refl (subst (λ n. is_held new n ≡ true) same h))
-  read_at i false e was h = let apart = other_not i at e in was apart (sym (others.there i apart) ∙ h)
+  read_at i false e was h = let apart = not_same-eq_false i at e in was apart (sym (others.there i apart) ∙ h)
 
   pub left_one : ((i : ℕ) → (i ≡ at → ⊥) → is_held old i ≡ true → is_read_at rs i ≡ true) → AreLeftTo rs old new
   left_one was = record {
@@ -140,22 +140,22 @@ below i at low apart = by (i == at) refl
     by true e = absurd (apart (same_number i at e))
     by false e = grind (arith, nat_tests)
 
-pub left_none : (rs : List Reading) (hs : List (Option Running)) → AreLeftBelow 0 rs hs hs
-left_none rs hs = record { there = λ i h. refl; same = λ i h. refl; read = λ i low h. absurd (omega (arith, low)) }
+pub AreLeftBelow-none : (rs : List Reading) (hs : List (Option Running)) → AreLeftBelow 0 rs hs hs
+AreLeftBelow-none rs hs = record { there = λ i h. refl; same = λ i h. refl; read = λ i low h. absurd (omega (arith, low)) }
 
-pub left_next : (rs : List Reading) (old mid new : List (Option Running)) (at : ℕ) → AreLeftBelow at rs old mid → (is_read_at rs at ≡ true → new ≡ mid) → (is_read_at rs at ≡ false → is_held new at ≡ false)
+pub AreLeftBelow-next : (rs : List Reading) (old mid new : List (Option Running)) (at : ℕ) → AreLeftBelow at rs old mid → (is_read_at rs at ≡ true → new ≡ mid) → (is_read_at rs at ≡ false → is_held new at ≡ false)
     → AreSameBut at mid new → AreLeftBelow (at + 1) rs old new
-left_next rs old mid new at h kept gone others = record {
+AreLeftBelow-next rs old mid new at h kept gone others = record {
   there = λ i r. one_there rs mid new at kept gone others i r ∙ h.there i r;
   same = λ i r. one_same rs mid new at kept gone others i r ∙ h.same i r;
   read = λ i low k. one_read rs mid new at kept gone others i (λ apart was. h.read i (below i at low apart) was) k;
 }
 
-pub left_all : (rs : List Reading) (old new : List (Option Running)) (n : ℕ) → length new ≤ n → AreLeftBelow n rs old new → AreLeftTo rs old new
-left_all rs old new n end h = record {
+pub AreLeftTo-AreLeftBelow : (rs : List Reading) (old new : List (Option Running)) (n : ℕ) → length new ≤ n → AreLeftBelow n rs old new → AreLeftTo rs old new
+AreLeftTo-AreLeftBelow rs old new n end h = record {
   there = h.there;
   same = h.same;
-  read = λ i k. h.read i (let low = held_low new i k in omega (arith, low, end)) k;
+  read = λ i k. h.read i (let low = lt-is_held new i k in omega (arith, low, end)) k;
 }
 
 -- ---- one more is held
@@ -167,7 +167,7 @@ module _ (at : ℕ) (hs new : List (Option Running)) (others : AreSameBut at hs 
     where
       by : (b : Bool) → (i == at) ≡ b → is_read_at (rs ++ r ∷ []) i ≡ true
       by true e = subst (λ n. is_read_at (rs ++ r ∷ []) n ≡ true) (is ∙ sym (same_number i at e)) (read_last rs r)
-      by false e = read_more i rs r (was.read i (sym (others.there i (other_not i at e)) ∙ h))
+      by false e = read_more i rs r (was.read i (sym (others.there i (not_same-eq_false i at e)) ∙ h))
 
   -- and it goes again
   pub read_again : is_held new at ≡ false → (i : ℕ) → is_held new i ≡ true → is_read_at rs i ≡ true
@@ -175,7 +175,7 @@ module _ (at : ℕ) (hs new : List (Option Running)) (others : AreSameBut at hs 
     where
       by : (b : Bool) → (i == at) ≡ b → is_read_at rs i ≡ true
       by true e = absurd (clash (sym gone ∙ sym (ap (is_held new) (same_number i at e)) ∙ h))
-      by false e = was.read i (sym (others.there i (other_not i at e)) ∙ h)
+      by false e = was.read i (sym (others.there i (not_same-eq_false i at e)) ∙ h)
 
   -- and a reader turns to it
   pub read_turned : (place : ℕ) (r turned : Reading) → place < length rs → r ≡ get_or rs place r → turned.at ≡ at → (i : ℕ) → (i ≡ r.at → ⊥) → is_held new i ≡ true → is_read_at (set rs place turned) i ≡ true
@@ -183,7 +183,7 @@ module _ (at : ℕ) (hs new : List (Option Running)) (others : AreSameBut at hs 
     where
       by : (b : Bool) → (i == at) ≡ b → is_read_at (set rs place turned) i ≡ true
       by true e = subst (λ n. is_read_at (set rs place turned) n ≡ true) (is ∙ sym (same_number i at e)) (read_new rs place turned low)
-      by false e = read_set i rs place r turned here apart (was.read i (sym (others.there i (other_not i at e)) ∙ h))
+      by false e = read_set i rs place r turned here apart (was.read i (sym (others.there i (not_same-eq_false i at e)) ∙ h))
 
 module _ (rs : List Reading) (hs : List (Option Running)) (place : ℕ) (r turned : Reading) (low : place < length rs) (here : r ≡ get_or rs place r) where
   abbrev now : List Reading
@@ -195,11 +195,11 @@ module _ (rs : List Reading) (hs : List (Option Running)) (place : ℕ) (r turne
     where
       by : (b : Bool) → (i == r.at) ≡ b → is_read_at now i ≡ true
       by true e = subst (λ n. is_read_at now n ≡ true) (same ∙ sym (same_number i r.at e)) (read_new rs place turned low)
-      by false e = read_set i rs place r turned here (other_not i r.at e) h
+      by false e = read_set i rs place r turned here (not_same-eq_false i r.at e) h
 
   pub opened_those : turned.at ≡ r.at → AreThoseRead rs hs → AreThoseRead now hs
   opened_those same was = record {
-    held = held_set hs rs place turned was.held (ap (is_held hs) same ∙ held_of hs rs place r was.held low here);
+    held = AreHeld-set hs rs place turned was.held (ap (is_held hs) same ∙ is_held-AreHeld hs rs place r was.held low here);
     read = λ i h. read_same same i (was.read i h);
   }
 
@@ -210,7 +210,7 @@ module _ (rs : List Reading) (hs : List (Option Running)) (place : ℕ) (r turne
         (λ i apart h. read_set i rs place r turned here (λ e. apart (e ∙ sym own)) (was.read i h))
 
     pub turned_those : is_held hs turned.at ≡ true → AreThoseRead rs hs → AreThoseRead now new
-    turned_those there was = left_those now hs new (still was) (held_set hs rs place turned was.held there)
+    turned_those there was = left_those now hs new (still was) (AreHeld-set hs rs place turned was.held there)
 
     pub turned_shown : AreThoseRead rs hs → map (read_from new) now ≡ map (read_from hs) now
     turned_shown was = left_shown now hs new (still was)
@@ -224,15 +224,15 @@ module _ (at : ℕ) (hs mid : List (Option Running)) (others : AreSameBut at hs 
       (λ i apart h. read_turned at hs mid others rs was place r turned low here is i (λ e. apart (e ∙ sym own)) h)
 
   pub renewed_those : AreHeld mid rs → is_held mid turned.at ≡ true → AreThoseRead (set rs place turned) new
-  renewed_those held there = left_those (set rs place turned) mid new renewed_left (held_set mid rs place turned held there)
+  renewed_those held there = left_those (set rs place turned) mid new renewed_left (AreHeld-set mid rs place turned held there)
 
   pub renewed_shown : map (read_from new) (set rs place turned) ≡ map (read_from mid) (set rs place turned)
   renewed_shown = left_shown (set rs place turned) mid new renewed_left
 
 -- those that are held are held still
-pub those_alike : (rs : List Reading) (hs new : List (Option Running)) → AreHeldAlike hs new → AreThoseRead rs hs → AreThoseRead rs new
-those_alike rs hs new alike was = record { held = readers_held hs new alike rs was.held; read = λ i h. was.read i (sym (alike i) ∙ h) }
+pub AreThoseRead-AreHeldAlike : (rs : List Reading) (hs new : List (Option Running)) → AreHeldAlike hs new → AreThoseRead rs hs → AreThoseRead rs new
+AreThoseRead-AreHeldAlike rs hs new alike was = record { held = readers_held hs new alike rs was.held; read = λ i h. was.read i (sym (alike i) ∙ h) }
 
 -- the same twice
-pub same_twice : (at : ℕ) (hs mid new : List (Option Running)) → AreSameBut at hs mid → AreSameBut at mid new → AreSameBut at hs new
-same_twice at hs mid new a b = record { there = λ i apart. b.there i apart ∙ a.there i apart; same = λ i apart. b.same i apart ∙ a.same i apart }
+pub AreSameBut-trans : (at : ℕ) (hs mid new : List (Option Running)) → AreSameBut at hs mid → AreSameBut at mid new → AreSameBut at hs new
+AreSameBut-trans at hs mid new a b = record { there = λ i apart. b.there i apart ∙ a.there i apart; same = λ i apart. b.same i apart ∙ a.same i apart }

@@ -18,21 +18,21 @@ use Rattle.iv_request.specs.Forms.{is_among, keys_pass}
 use Rattle.iv_request.specs.Request.{passing, each, given_or, positive_of, row_of, update_of, op_at, does_at, entry, entry_of, is_session, command, request}
 use Rattle.iv_request.specs.Documents.{data_of}
 use Rattle.iv_reading.specs.Pulled.{Pulls, Adds, DoesNothing, Does, MakesParts, MakesWrite, name_of, op_by, entries_by, session_by}
-use Rattle.iv_request.proofs.Keys.{left_true, right_true, both_true, put_passes}
-use Rattle.iv_request.proofs.BorrowedValues.{put_at}
-use Rattle.iv_reading.proofs.TokensAndValues.{deeper}
-use Rattle.iv_request.proofs.Well.{positive_well}
+use Rattle.iv_request.proofs.Keys.{left_true, right_true, both_true, keys_pass-put}
+use Rattle.iv_request.proofs.BorrowedValues.{get_member-of_put}
+use Rattle.iv_reading.proofs.TokensAndValues.{IsNext-le}
+use Rattle.iv_request.proofs.Well.{is_positive-positive_of}
 
 same : (k : List ℕ) (d : Data) (ms : Members) → bytes_eq k k ≡ true → get_member k (put k d ms) ≡ Some d
-same k d ms e = put_at k k d ms true e
+same k d ms e = get_member-of_put k k d ms true e
 
 other : (q k : List ℕ) (d : Data) (ms : Members) → bytes_eq k q ≡ false → get_member q (put k d ms) ≡ get_member q ms
-other q k d ms e = put_at q k d ms false e
+other q k d ms e = get_member-of_put q k d ms false e
 
 -- ---- keys
 
 one_passes : (test : List ℕ → Bool) (k : List ℕ) (d : Data) (ms : Members) → test k ≡ true → keys_pass test ms ≡ true → keys_pass test (put k d ms) ≡ true
-one_passes test k d ms e h = put_passes test k d ms ∙ both_true (test k) (keys_pass test ms) e h
+one_passes test k d ms e h = keys_pass-put test k d ms ∙ both_true (test k) (keys_pass test ms) e h
 
 wider : (a b c : Bool) → (a || c) ≡ true → (a || (b || c)) ≡ true
 wider true b c h = refl
@@ -193,8 +193,8 @@ entry_if bytes view r o rel op copies d e u h =
 -- ---- what is next, by its key
 
 -- the update of two rows
-pub update_made : (old new : List Cell) (a b : Data) → row_of a ≡ Some old → row_of b ≡ Some new → update_of (array (item a (item b no_items))) ≡ Some (update old new)
-update_made old new a b e u = ap (option_and_then (λ x. option_map (update x) (row_of b))) e ∙ ap (option_map (update old)) u
+pub update_of-row_of : (old new : List Cell) (a b : Data) → row_of a ≡ Some old → row_of b ≡ Some new → update_of (array (item a (item b no_items))) ≡ Some (update old new)
+update_of-row_of old new a b e u = ap (option_and_then (λ x. option_map (update x) (row_of b))) e ∙ ap (option_map (update old)) u
 
 abbrev op_chosen : Bool → Bool → Bool → Data → Option Op
 op_chosen i e u d = cond i (option_map insert (row_of d)) (cond e (option_map delete (row_of d)) (cond u (update_of d) None))
@@ -204,7 +204,7 @@ pub inserts_next : (k : List ℕ) (ts rest : List Token) (r : Option (List Cell)
 inserts_next k ts rest None i p = tt
 inserts_next k ts rest (Some row) i p = (
   p.0,
-  deeper 1 2 ts p.0 rest (omega arith) p.1,
+  IsNext-le 1 2 ts p.0 rest (omega arith) p.1,
   ap (λ b. op_chosen b (bytes_eq k (codes "delete")) (bytes_eq k (codes "update")) (data_of p.0)) i ∙ ap (option_map insert) p.2,
 )
 
@@ -213,7 +213,7 @@ pub deletes_next : (k : List ℕ) (ts rest : List Token) (r : Option (List Cell)
 deletes_next k ts rest None i e p = tt
 deletes_next k ts rest (Some row) i e p = (
   p.0,
-  deeper 1 2 ts p.0 rest (omega arith) p.1,
+  IsNext-le 1 2 ts p.0 rest (omega arith) p.1,
   (λ t. op_chosen (i t) (e t) (bytes_eq k (codes "update")) (data_of p.0)) ∙ ap (option_map delete) p.2,
 )
 
@@ -228,13 +228,13 @@ key_is k m e = (bytes_eq-Decides k m).0 e
 -- a value is next that gives the members this part
 adds : {X : Type 0} (a b : ℕ) (f : Data → Option X) (k : List ℕ) (ms : Members) (P : Members → Type 0) (ts rest : List Token) (x : X) → a ≤ b → Pulls a f ts x rest → ((d : Data) → f d ≡ Some x → P (put k d ms))
     → Adds b k ms P ts rest
-adds a b f k ms P ts rest x le p makes = (p.0, deeper a b ts p.0 rest le p.1, makes (data_of p.0) p.2)
+adds a b f k ms P ts rest x le p makes = (p.0, IsNext-le a b ts p.0 rest le p.1, makes (data_of p.0) p.2)
 
-pub on_next : {S : Type 0} (bytes : S → List ℕ) (r : Option S) (k : List ℕ) (ts rest : List Token) (ms : Members) (rel : Option (List ℕ)) (op : Option Op) (copies : ℕ) → bytes_eq k (codes "on") ≡ true → is_some r ≡ true
+pub Adds-on : {S : Type 0} (bytes : S → List ℕ) (r : Option S) (k : List ℕ) (ts rest : List Token) (ms : Members) (rel : Option (List ℕ)) (op : Option Op) (copies : ℕ) → bytes_eq k (codes "on") ≡ true → is_some r ≡ true
     → IfSome r (λ name. Pulls 0 name_of ts (bytes name) rest) → MakesParts (object ms) rel op copies
     → Adds 2 k ms (λ ns. MakesParts (object ns) (option_map bytes r) op copies) ts rest
-on_next bytes None k ts rest ms rel op copies e some p h = cc
-on_next bytes (Some name) k ts rest ms rel op copies e some p h =
+Adds-on bytes None k ts rest ms rel op copies e some p h = cc
+Adds-on bytes (Some name) k ts rest ms rel op copies e some p h =
     adds 0 2 name_of k ms (λ ns. MakesParts (object ns) (Some (bytes name)) op copies) ts rest (bytes name) (omega arith) p
     (λ d made. is_on k d ms rel op copies (bytes name) (key_is k (codes "on") e) made h)
 
@@ -243,20 +243,20 @@ kept_copies : (z : ℤ) → is_positive (copies_of z) ≡ true → copies_of (to
 kept_copies (pos n) e = ap copies_of (to_z-of_z w64 (pos n) (record { sfits = ltb-true n 9223372036854775808 (right_true (nat_le 1 n) (nat_lt n 9223372036854775808) e) }))
 kept_copies (negsuc n) e = cc
 
-pub copies_next : (z : ℤ) (k : List ℕ) (ts rest : List Token) (ms : Members) (rel : Option (List ℕ)) (op : Option Op) (before : ℕ) → bytes_eq k (codes "copies") ≡ true → Pulls 0 positive_of ts (copies_of z) rest
+pub Adds-copies : (z : ℤ) (k : List ℕ) (ts rest : List Token) (ms : Members) (rel : Option (List ℕ)) (op : Option Op) (before : ℕ) → bytes_eq k (codes "copies") ≡ true → Pulls 0 positive_of ts (copies_of z) rest
     → MakesParts (object ms) rel op before → Adds 2 k ms (λ ns. MakesParts (object ns) rel op (copies_of (to_z w64 (of_z w64 z)))) ts rest
-copies_next z k ts rest ms rel op before e p h =
-    let kept = kept_copies z (subst (λ o. IfSome o (λ n. is_positive n ≡ true)) p.2 (positive_well (data_of p.0))) in
+Adds-copies z k ts rest ms rel op before e p h =
+    let kept = kept_copies z (subst (λ o. IfSome o (λ n. is_positive n ≡ true)) p.2 (is_positive-positive_of (data_of p.0))) in
     subst (λ n. Adds 2 k ms (λ ns. MakesParts (object ns) rel op n) ts rest) (sym kept)
     (adds 0 2 positive_of k ms (λ ns. MakesParts (object ns) rel op (copies_of z)) ts rest (copies_of z) (omega arith) p
     (λ d made. has_copies k d ms rel op before (copies_of z) (key_is k (codes "copies") e) made h))
 
-pub op_next : {S : Type 0} (view : S → Op) (r was : Option S) (k : List ℕ) (ts rest : List Token) (ms : Members) (rel : Option (List ℕ)) (copies : ℕ) → is_some was ≡ false → is_some r ≡ true
+pub Adds-op : {S : Type 0} (view : S → Op) (r was : Option S) (k : List ℕ) (ts rest : List Token) (ms : Members) (rel : Option (List ℕ)) (copies : ℕ) → is_some was ≡ false → is_some r ≡ true
     → IfSome r (λ op. Pulls 2 (op_by k) ts (view op) rest) → MakesParts (object ms) rel (option_map view was) copies
     → Adds 2 k ms (λ ns. MakesParts (object ns) rel (option_map view r) copies) ts rest
-op_next view None was k ts rest ms rel copies none some p h = cc
-op_next view (Some op) (Some before) k ts rest ms rel copies none some p h = cc
-op_next view (Some op) None k ts rest ms rel copies none some p h =
+Adds-op view None was k ts rest ms rel copies none some p h = cc
+Adds-op view (Some op) (Some before) k ts rest ms rel copies none some p h = cc
+Adds-op view (Some op) None k ts rest ms rel copies none some p h =
     adds 2 2 (op_by k) k ms (λ ns. MakesParts (object ns) rel (Some (view op)) copies) ts rest (view op) (omega arith) p
     (λ d made. does_this k d ms rel copies (view op) made h)
 
@@ -311,24 +311,24 @@ are_there (Some d) es e = refl
 pub write_made : (ms : Members) (n : ℕ) (es : List Entry) → MakesWrite (object ms) true (Some n) (Some es) → request (object ms) ≡ Some (command n (machine.write es))
 write_made ms n es h = rw (h.asks, h.word refl, are_there (get_member (codes "entries") ms) es h.writes, h.only, h.writes) refl
 
-pub do_next : (k : List ℕ) (ts rest : List Token) (ms : Members) (before now : Bool) (session : Option ℕ) (entries : Option (List Entry)) → bytes_eq k (codes "do") ≡ true → Pulls 0 as_str ts (codes "write") rest
+pub Adds-do : (k : List ℕ) (ts rest : List Token) (ms : Members) (before now : Bool) (session : Option ℕ) (entries : Option (List Entry)) → bytes_eq k (codes "do") ≡ true → Pulls 0 as_str ts (codes "write") rest
     → MakesWrite (object ms) before session entries → Adds 4 k ms (λ ns. MakesWrite (object ns) now session entries) ts rest
-do_next k ts rest ms before now session entries e p h =
+Adds-do k ts rest ms before now session entries e p h =
     adds 0 4 as_str k ms (λ ns. MakesWrite (object ns) now session entries) ts rest (codes "write") (omega arith) p
     (λ d made. is_do k d ms before now session entries (key_is k (codes "do") e) made h)
 
-pub session_next : (r : Option ℕ) (k : List ℕ) (ts rest : List Token) (ms : Members) (is_write : Bool) (before : Option ℕ) (entries : Option (List Entry)) → bytes_eq k (codes "session") ≡ true → is_some r ≡ true
+pub Adds-session : (r : Option ℕ) (k : List ℕ) (ts rest : List Token) (ms : Members) (is_write : Bool) (before : Option ℕ) (entries : Option (List Entry)) → bytes_eq k (codes "session") ≡ true → is_some r ≡ true
     → IfSome r (λ n. Pulls 0 session_by ts n rest) → MakesWrite (object ms) is_write before entries → Adds 4 k ms (λ ns. MakesWrite (object ns) is_write r entries) ts rest
-session_next None k ts rest ms is_write before entries e some p h = cc
-session_next (Some n) k ts rest ms is_write before entries e some p h =
+Adds-session None k ts rest ms is_write before entries e some p h = cc
+Adds-session (Some n) k ts rest ms is_write before entries e some p h =
     adds 0 4 session_by k ms (λ ns. MakesWrite (object ns) is_write (Some n) entries) ts rest n (omega arith) p
     (λ d made. has_session k d ms is_write before n entries (key_is k (codes "session") e) made h)
 
-pub entries_next : {S : Type 0} (view : S → List Entry) (r : Option S) (k : List ℕ) (ts rest : List Token) (ms : Members) (is_write : Bool) (session : Option ℕ) (before : Option (List Entry))
+pub Adds-entries : {S : Type 0} (view : S → List Entry) (r : Option S) (k : List ℕ) (ts rest : List Token) (ms : Members) (is_write : Bool) (session : Option ℕ) (before : Option (List Entry))
     → bytes_eq k (codes "entries") ≡ true → is_some r ≡ true → IfSome r (λ es. Pulls 4 entries_by ts (view es) rest) → MakesWrite (object ms) is_write session before
     → Adds 4 k ms (λ ns. MakesWrite (object ns) is_write session (option_map view r)) ts rest
-entries_next view None k ts rest ms is_write session before e some p h = cc
-entries_next view (Some es) k ts rest ms is_write session before e some p h =
+Adds-entries view None k ts rest ms is_write session before e some p h = cc
+Adds-entries view (Some es) k ts rest ms is_write session before e some p h =
     adds 4 4 entries_by k ms (λ ns. MakesWrite (object ns) is_write session (Some (view es))) ts rest (view es) (omega arith) p
     (λ d made. has_entries k d ms is_write session before (view es) (key_is k (codes "entries") e) made h)
 

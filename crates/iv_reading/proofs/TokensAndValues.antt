@@ -22,18 +22,18 @@ use Rattle.iv_machine.specs.Act.{Command}
 use Rattle.iv_request.specs.Request.{passing, each, list_of, cell_of, request}
 use Rattle.iv_request.specs.Reading.{asked, reading_by}
 use Rattle.iv_reading.specs.Pulled.{IsNext, Pulls, Adds, Closes, natural_by, items_after, HasRead, members_after, HasFound}
-use Rattle.iv_request.proofs.Each.{behind_nothing, behind_cons}
+use Rattle.iv_request.proofs.Each.{behind-none, behind-cons}
 use Rattle.iv_request.proofs.Keys.{both_true}
-use Rattle.iv_request.proofs.BorrowedValues.{read_fits}
-use Rattle.iv_reading.proofs.Lines.{asks}
+use Rattle.iv_request.proofs.BorrowedValues.{read-fits}
+use Rattle.iv_reading.proofs.Lines.{reading_by-request}
 
 -- ---- a value
 
-pub deeper : (a b : ℕ) (ts : List Token) (j : Json) (rest : List Token) → a ≤ b → IsNext a ts j rest → IsNext b ts j rest
-deeper a b ts j rest le h = record { read = λ depth d. h.read depth (omega arith); fit = h.fit }
+pub IsNext-le : (a b : ℕ) (ts : List Token) (j : Json) (rest : List Token) → a ≤ b → IsNext a ts j rest → IsNext b ts j rest
+IsNext-le a b ts j rest le h = record { read = λ depth d. h.read depth (omega arith); fit = h.fit }
 
 pub pulls_deeper : {X : Type 0} (a b : ℕ) (f : Data → Option X) (ts : List Token) (x : X) (rest : List Token) → a ≤ b → Pulls a f ts x rest → Pulls b f ts x rest
-pulls_deeper a b f ts x rest le h = (h.0, deeper a b ts h.0 rest le h.1, h.2)
+pulls_deeper a b f ts x rest le h = (h.0, IsNext-le a b ts h.0 rest le h.1, h.2)
 
 -- where an array ends no value begins
 no_value_at : (A : List Token → Option (Items × List Token)) (O : List Token → Option (Members × List Token)) (ts rest : List Token) (j : Json) → value_with A O ts ≡ Some (j, rest) → after_end_array ts ≡ None
@@ -66,19 +66,19 @@ pub nothing_before : {A : Type 0} (r : Option (A × List Token)) → r ≡ parse
 nothing_before None = refl
 nothing_before (Some p) = refl
 
-pub none_read : {X : Type 0} (levels : ℕ) (f : Data → Option X) (ts : List Token) → HasRead levels f ts [] ts
-none_read levels f ts = record {
+pub HasRead-none : {X : Type 0} (levels : ℕ) (f : Data → Option X) (ts : List Token) → HasRead levels f ts [] ts
+HasRead-none levels f ts = record {
   turns = length ts;
   done = [];
   enough = omega arith;
   read = λ depth d. nothing_before (items (value depth) (length ts) ts);
   fit = λ more. refl;
-  made = λ more. behind_nothing (each f (items_of more));
+  made = λ more. behind-none (each f (items_of more));
 }
 
 made_one : {X : Type 0} (f : Data → Option X) (xs : List X) (x : X) (d : Data) (rest : Option (List X)) → f d ≡ Some x
     → option_map (λ ys. xs ++ ys) (option_and_then (λ x. option_map (λ ys. x ∷ ys) rest) (f d)) ≡ option_map (λ ys. (xs ++ x ∷ []) ++ ys) rest
-made_one f xs x d rest e = ap (λ o. option_map (λ ys. xs ++ ys) (option_and_then (λ x. option_map (λ ys. x ∷ ys) rest) o)) e ∙ behind_cons xs x rest
+made_one f xs x d rest e = ap (λ o. option_map (λ ys. xs ++ ys) (option_and_then (λ x. option_map (λ ys. x ∷ ys) rest) o)) e ∙ behind-cons xs x rest
 
 pub one_read : {X : Type 0} (levels : ℕ) (f : Data → Option X) (first : List Token) (xs : List X) (ts : List Token) (x : X) (rest : List Token) → length rest < length ts
     → HasRead levels f first xs ts → Pulls levels f ts x rest → HasRead levels f first (xs ++ x ∷ []) rest
@@ -96,23 +96,23 @@ one_read levels f first xs ts x rest less h p = record {
 }
 
 -- a value more is read into a list
-pub one_kept : {X : Type 0} (levels : ℕ) (f : Data → Option X) (first ts us rest : List Token) (xs ys : List X) (x : X) → us ≡ ts → length rest < length us → ys ≡ xs ++ x ∷ []
+pub HasRead-push : {X : Type 0} (levels : ℕ) (f : Data → Option X) (first ts us rest : List Token) (xs ys : List X) (x : X) → us ≡ ts → length rest < length us → ys ≡ xs ++ x ∷ []
     → HasRead levels f first xs ts → Pulls levels f us x rest → HasRead levels f first ys rest
-one_kept levels f first ts us rest xs ys x e less pushed h p =
+HasRead-push levels f first ts us rest xs ys x e less pushed h p =
     subst (λ zs. HasRead levels f first zs rest) (sym pushed) (one_read levels f first xs us x rest less (subst (λ vs. HasRead levels f first xs vs) (sym e) h) p)
 
-pub one_more : {S X : Type 0} (levels : ℕ) (f : Data → Option X) (view : S → X) (first ts us rest : List Token) (vs ws : List S) (v : S) → us ≡ ts → length rest < length us → ws ≡ vs ++ v ∷ []
+pub HasRead-push_map : {S X : Type 0} (levels : ℕ) (f : Data → Option X) (view : S → X) (first ts us rest : List Token) (vs ws : List S) (v : S) → us ≡ ts → length rest < length us → ws ≡ vs ++ v ∷ []
     → HasRead levels f first (map view vs) ts → Pulls levels f us (view v) rest → HasRead levels f first (map view ws) rest
-one_more levels f view first ts us rest vs ws v e less pushed h p =
-    one_kept levels f first ts us rest (map view vs) (map view ws) (view v) e less (ap (map view) pushed ∙ map-append view vs (v ∷ [])) h p
+HasRead-push_map levels f view first ts us rest vs ws v e less pushed h p =
+    HasRead-push levels f first ts us rest (map view vs) (map view ws) (view v) e less (ap (map view) pushed ∙ map-append view vs (v ∷ [])) h p
 
 behind_all : {X : Type 0} (xs : List X) → option_map (λ ys. xs ++ ys) (Some []) ≡ Some xs
 behind_all xs = ap Some (append-nil xs)
 
--- the array is closed
-pub all_read : {X : Type 0} (levels : ℕ) (f : Data → Option X) (first : List Token) (xs : List X) (ts rest : List Token) → HasRead levels f first xs ts → after_end_array ts ≡ Some rest
+-- the array is Pulls-Closes
+pub Pulls-list_of : {X : Type 0} (levels : ℕ) (f : Data → Option X) (first : List Token) (xs : List X) (ts rest : List Token) → HasRead levels f first xs ts → after_end_array ts ≡ Some rest
     → Pulls (levels + 1) (list_of f) (Token.begin_array ∷ first) xs rest
-all_read levels f first xs ts rest h e =
+Pulls-list_of levels f first xs ts rest h e =
     let js = items_after h.done no_items in
     let inner : (depth : ℕ) → levels ≤ depth → items (value depth) (length first) first ≡ Some (js, rest) =
     λ depth d. h.read depth d ∙ ap (parse_map (items_after h.done)) (items_end (value depth) h.turns ts rest h.enough e) in (
@@ -125,11 +125,11 @@ all_read levels f first xs ts rest h e =
     )
 
 -- an array of two
-pub pair_read : {X Y : Type 0} (levels : ℕ) (f : Data → Option X) (g : Data → Option Y) (first ts us rest : List Token) (x y : X) (z : Y) → length ts < length first → length us < length ts
+pub Pulls-two : {X Y : Type 0} (levels : ℕ) (f : Data → Option X) (g : Data → Option Y) (first ts us rest : List Token) (x y : X) (z : Y) → length ts < length first → length us < length ts
     → Pulls levels f first x ts → Pulls levels f ts y us → after_end_array us ≡ Some rest
     → ((a b : Data) → f a ≡ Some x → f b ≡ Some y → g (serde_json.array (serde_json.item a (serde_json.item b serde_json.no_items))) ≡ Some z)
     → Pulls (levels + 1) g (Token.begin_array ∷ first) z rest
-pair_read levels f g first ts us rest x y z less lesser p q e makes =
+Pulls-two levels f g first ts us rest x y z less lesser p q e makes =
     let js = item p.0 (item q.0 no_items) in
     let inner : (depth : ℕ) → levels ≤ depth → items (value depth) (length first) first ≡ Some (js, rest) =
     λ depth d.
@@ -183,7 +183,7 @@ one_found levels first found ts s rest k j less h e p =
       made = λ more. ap (λ ms. members_of ms serde_json.no_members) (one_member_after h.done (k, j) more) ∙ h.made (member k j more);
     }
 
--- the object is closed
+-- the object is Pulls-Closes
 pub all_found : {X : Type 0} (levels : ℕ) (f : Data → Option X) (x : X) (first : List Token) (found : serde_json.Members) (ts rest : List Token) → HasFound levels first found ts → read_key ts ≡ Some (None, rest)
     → f (serde_json.object found) ≡ Some x → Pulls (levels + 1) f (Token.begin_object ∷ first) x rest
 all_found levels f x first found ts rest h e made =
@@ -210,39 +210,39 @@ pulls_number f s ts n x e made = (
   ap (λ m. f (number_or_null m)) e ∙ made,
 )
 
-pub pulls_string : {X : Type 0} (f : Data → Option X) (s : List ℕ) (ts : List Token) (x : X) → f (serde_json.string s) ≡ Some x → Pulls 0 f (Token.string s ∷ ts) x ts
-pulls_string f s ts x made = (json.string s, record { read = λ depth d. value_is depth (Token.string s ∷ ts); fit = refl }, made)
+pub Pulls-string : {X : Type 0} (f : Data → Option X) (s : List ℕ) (ts : List Token) (x : X) → f (serde_json.string s) ≡ Some x → Pulls 0 f (Token.string s ∷ ts) x ts
+Pulls-string f s ts x made = (json.string s, record { read = λ depth d. value_is depth (Token.string s ∷ ts); fit = refl }, made)
 
-pub pulls_boolean : {X : Type 0} (f : Data → Option X) (b : Bool) (ts : List Token) (x : X) → f (serde_json.boolean b) ≡ Some x → Pulls 0 f (Token.boolean b ∷ ts) x ts
-pulls_boolean f b ts x made = (json.boolean b, record { read = λ depth d. value_is depth (Token.boolean b ∷ ts); fit = refl }, made)
+pub Pulls-boolean : {X : Type 0} (f : Data → Option X) (b : Bool) (ts : List Token) (x : X) → f (serde_json.boolean b) ≡ Some x → Pulls 0 f (Token.boolean b ∷ ts) x ts
+Pulls-boolean f b ts x made = (json.boolean b, record { read = λ depth d. value_is depth (Token.boolean b ∷ ts); fit = refl }, made)
 
 -- where tokens begin is known by an equation
-pub pulls_at : {X : Type 0} (levels : ℕ) (f : Data → Option X) (ts us : List Token) (x : X) (rest : List Token) → ts ≡ us → Pulls levels f us x rest → Pulls levels f ts x rest
-pulls_at levels f ts us x rest e p = subst (λ vs. Pulls levels f vs x rest) (sym e) p
+pub Pulls-same_tokens : {X : Type 0} (levels : ℕ) (f : Data → Option X) (ts us : List Token) (x : X) (rest : List Token) → ts ≡ us → Pulls levels f us x rest → Pulls levels f ts x rest
+Pulls-same_tokens levels f ts us x rest e p = subst (λ vs. Pulls levels f vs x rest) (sym e) p
 
 -- x passes
-pub pulls_passing : {X : Type 0} (levels : ℕ) (f : Data → Option X) (t : X → Bool) (ts : List Token) (x : X) (rest : List Token) → Pulls levels f ts x rest → t x ≡ true → Pulls levels (λ d. option_and_then (passing t) (f d)) ts x rest
-pulls_passing levels f t ts x rest p e = (p.0, p.1, ap (option_and_then (passing t)) p.2 ∙ ap (λ b. cond b (Some x) None) e)
+pub Pulls-passing : {X : Type 0} (levels : ℕ) (f : Data → Option X) (t : X → Bool) (ts : List Token) (x : X) (rest : List Token) → Pulls levels f ts x rest → t x ≡ true → Pulls levels (λ d. option_and_then (passing t) (f d)) ts x rest
+Pulls-passing levels f t ts x rest p e = (p.0, p.1, ap (option_and_then (passing t)) p.2 ∙ ap (λ b. cond b (Some x) None) e)
 
-pub by_natural : (s : List ℕ) (r : Option ℕ) (ts us : List Token) → us ≡ Token.number s ∷ ts → r ≡ option_and_then as_u64 (number_of s) → IfSome r (λ n. Pulls 0 natural_by us n ts)
-by_natural s None ts us e h = tt
-by_natural s (Some n) ts us e h = by_number (number_of s) refl (sym h)
+pub Pulls-natural_by : (s : List ℕ) (r : Option ℕ) (ts us : List Token) → us ≡ Token.number s ∷ ts → r ≡ option_and_then as_u64 (number_of s) → IfSome r (λ n. Pulls 0 natural_by us n ts)
+Pulls-natural_by s None ts us e h = tt
+Pulls-natural_by s (Some n) ts us e h = by_number (number_of s) refl (sym h)
   where
     by_number : (o : Option Num) → number_of s ≡ o → option_and_then as_u64 o ≡ Some n → Pulls 0 natural_by us n ts
     by_number None a b = cc
-    by_number (Some m) a b = pulls_at 0 natural_by us (Token.number s ∷ ts) n ts e (pulls_number natural_by s ts m n a b)
+    by_number (Some m) a b = Pulls-same_tokens 0 natural_by us (Token.number s ∷ ts) n ts e (pulls_number natural_by s ts m n a b)
 
-pub by_whole : (s : List ℕ) (r : Option Value) (ts us : List Token) → us ≡ Token.number s ∷ ts → IfSome r (λ v. option_map num (option_and_then as_i64 (number_of s)) ≡ Some (view v)) → IfSome r (λ v. Pulls 0 cell_of us (view v) ts)
-by_whole s None ts us e h = tt
-by_whole s (Some v) ts us e h = by_number (number_of s) refl h
+pub Pulls-cell_of_number : (s : List ℕ) (r : Option Value) (ts us : List Token) → us ≡ Token.number s ∷ ts → IfSome r (λ v. option_map num (option_and_then as_i64 (number_of s)) ≡ Some (view v)) → IfSome r (λ v. Pulls 0 cell_of us (view v) ts)
+Pulls-cell_of_number s None ts us e h = tt
+Pulls-cell_of_number s (Some v) ts us e h = by_number (number_of s) refl h
   where
     by_number : (o : Option Num) → number_of s ≡ o → option_map num (option_and_then as_i64 o) ≡ Some (view v) → Pulls 0 cell_of us (view v) ts
     by_number None a b = cc
-    by_number (Some m) a b = pulls_at 0 cell_of us (Token.number s ∷ ts) (view v) ts e (pulls_number cell_of s ts m (view v) a b)
+    by_number (Some m) a b = Pulls-same_tokens 0 cell_of us (Token.number s ∷ ts) (view v) ts e (pulls_number cell_of s ts m (view v) a b)
 
-pub by_text : (s : List ℕ) (r : Option Value) (ts us : List Token) → us ≡ Token.string s ∷ ts → option_map view r ≡ passing is_well_cell (text s) → IfSome r (λ v. Pulls 0 cell_of us (view v) ts)
-by_text s None ts us e h = tt
-by_text s (Some v) ts us e h = pulls_at 0 cell_of us (Token.string s ∷ ts) (view v) ts e (pulls_string cell_of s ts (view v) (sym h))
+pub Pulls-cell_of_text : (s : List ℕ) (r : Option Value) (ts us : List Token) → us ≡ Token.string s ∷ ts → option_map view r ≡ passing is_well_cell (text s) → IfSome r (λ v. Pulls 0 cell_of us (view v) ts)
+Pulls-cell_of_text s None ts us e h = tt
+Pulls-cell_of_text s (Some v) ts us e h = Pulls-same_tokens 0 cell_of us (Token.string s ∷ ts) (view v) ts e (Pulls-string cell_of s ts (view v) (sym h))
 
 -- from `first` on members were read that are P, and at `ts` more may come
 abbrev pub Reaches : ℕ → (serde_json.Members → Type 0) → List Token → List Token → Type 0
@@ -251,9 +251,9 @@ Reaches levels P first ts = (found : serde_json.Members) × HasFound levels firs
 pub reach_none : (levels : ℕ) (P : serde_json.Members → Type 0) (ts : List Token) → P serde_json.no_members → Reaches levels P ts ts
 reach_none levels P ts h = (serde_json.no_members, none_found levels ts, h)
 
-pub reach_more : (levels : ℕ) (P Q : serde_json.Members → Type 0) (first ts s rest : List Token) (k : List ℕ) → length rest < length s → read_key ts ≡ Some (Some k, s)
+pub Reaches-Adds : (levels : ℕ) (P Q : serde_json.Members → Type 0) (first ts s rest : List Token) (k : List ℕ) → length rest < length s → read_key ts ≡ Some (Some k, s)
     → ((found : serde_json.Members) → P found → Adds levels k found Q s rest) → Reaches levels P first ts → Reaches levels Q first rest
-reach_more levels P Q first ts s rest k less e adds h =
+Reaches-Adds levels P Q first ts s rest k less e adds h =
     let a = adds h.0 h.2 in
     (put k (data_of a.0) h.0, one_found levels first h.0 ts s rest k a.0 less h.1 e a.1, a.2)
 
@@ -262,27 +262,27 @@ reach_end levels P first ts rest e h = (h.0, ts, h.1, e, h.2)
 
 -- ---- what an object makes
 
-pub closed : {X : Type 0} (levels : ℕ) (f : Data → Option X) (P : serde_json.Members → Type 0) (r : Option X) (us ts rest : List Token) → us ≡ Token.begin_object ∷ ts → Closes levels P ts rest
+pub Pulls-Closes : {X : Type 0} (levels : ℕ) (f : Data → Option X) (P : serde_json.Members → Type 0) (r : Option X) (us ts rest : List Token) → us ≡ Token.begin_object ∷ ts → Closes levels P ts rest
     → IfSome r (λ x. (found : serde_json.Members) → P found → f (serde_json.object found) ≡ Some x) → IfSome r (λ x. Pulls (levels + 1) f us x rest)
-closed levels f P None us ts rest e c makes = tt
-closed levels f P (Some x) us ts rest e c makes =
-    pulls_at (levels + 1) f us (Token.begin_object ∷ ts) x rest e (all_found levels f x ts c.0 c.1 rest c.2 c.3 (makes c.0 c.4))
+Pulls-Closes levels f P None us ts rest e c makes = tt
+Pulls-Closes levels f P (Some x) us ts rest e c makes =
+    Pulls-same_tokens (levels + 1) f us (Token.begin_object ∷ ts) x rest e (all_found levels f x ts c.0 c.1 rest c.2 c.3 (makes c.0 c.4))
 
 -- ---- a whole text
 
 -- its value is next, and nothing is behind it
 pub document_read : {X : Type 0} (levels : ℕ) (f : Data → Option X) (line : List ℕ) (ts : List Token) (x : X) → levels ≤ 127 → ts ≡ tokens line → Pulls levels f ts x [] → option_and_then f (read line) ≡ Some x
-document_read levels f line ts x le e p = ap (option_and_then f) (sym (read_fits line ts p.0 (p.1.read 127 le) e p.1.fit)) ∙ p.2
+document_read levels f line ts x le e p = ap (option_and_then f) (sym (read-fits line ts p.0 (p.1.read 127 le) e p.1.fit)) ∙ p.2
 
 -- no token was next
-pub none_next : (r : Option ReadToken) (ts us : List Token) → is_some r ≡ false → Yields ts r us → ts ≡ []
-none_next None ts us e h = h.0
-none_next (Some t) ts us e h = cc
+pub no_tokens-Yields : (r : Option ReadToken) (ts us : List Token) → is_some r ≡ false → Yields ts r us → ts ≡ []
+no_tokens-Yields None ts us e h = h.0
+no_tokens-Yields (Some t) ts us e h = cc
 
 -- the command of a line
-pub line_read : {S : Type 0} (view : S → Command) (P : serde_json.Members → Type 0) (r : Option S) (line : List ℕ) (ts us rest : List Token) → ts ≡ tokens line → ts ≡ Token.begin_object ∷ us → Closes 4 P us rest → rest ≡ []
+pub reading_by-Closes : {S : Type 0} (view : S → Command) (P : serde_json.Members → Type 0) (r : Option S) (line : List ℕ) (ts us rest : List Token) → ts ≡ tokens line → ts ≡ Token.begin_object ∷ us → Closes 4 P us rest → rest ≡ []
     → IfSome r (λ c. (found : serde_json.Members) → P found → request (serde_json.object found) ≡ Some (view c)) → IfSome r (λ c. reading_by (read line) ≡ asked (view c))
-line_read view P None line ts us rest e b c none makes = tt
-line_read view P (Some x) line ts us rest e b c none makes =
-    asks (read line) (view x)
-    (document_read 5 request line ts (view x) (omega arith) e (subst (λ vs. Pulls 5 request ts (view x) vs) none (closed 4 request P (Some (view x)) ts us rest b c makes)))
+reading_by-Closes view P None line ts us rest e b c none makes = tt
+reading_by-Closes view P (Some x) line ts us rest e b c none makes =
+    reading_by-request (read line) (view x)
+    (document_read 5 request line ts (view x) (omega arith) e (subst (λ vs. Pulls 5 request ts (view x) vs) none (Pulls-Closes 4 request P (Some (view x)) ts us rest b c makes)))

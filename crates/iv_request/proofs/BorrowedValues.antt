@@ -58,20 +58,20 @@ mutual
 abbrev whole : Option (json.Json × List Token) → Option Data
 whole o = option_and_then of_json (option_and_then (λ p. if_last p.0 p.1) o)
 
-pub read_fits : (text : List ℕ) (ts : List Token) (j : json.Json) → value 127 ts ≡ Some (j, []) → ts ≡ tokens text → fits j ≡ true → Some (data_of j) ≡ read text
-read_fits text ts j h e f = sym (ap (λ us. whole (value 127 us)) (sym e) ∙ ap whole h ∙ of_json_is j ∙ ap (λ b. cond b (Some (data_of j)) None) f)
+pub read-fits : (text : List ℕ) (ts : List Token) (j : json.Json) → value 127 ts ≡ Some (j, []) → ts ≡ tokens text → fits j ≡ true → Some (data_of j) ≡ read text
+read-fits text ts j h e f = sym (ap (λ us. whole (value 127 us)) (sym e) ∙ ap whole h ∙ of_json_is j ∙ ap (λ b. cond b (Some (data_of j)) None) f)
 
-pub read_unfit : (text : List ℕ) (ts : List Token) (j : json.Json) → value 127 ts ≡ Some (j, []) → ts ≡ tokens text → fits j ≡ false → None ≡ read text
-read_unfit text ts j h e f = sym (ap (λ us. whole (value 127 us)) (sym e) ∙ ap whole h ∙ of_json_is j ∙ ap (λ b. cond b (Some (data_of j)) None) f)
+pub read-unfit : (text : List ℕ) (ts : List Token) (j : json.Json) → value 127 ts ≡ Some (j, []) → ts ≡ tokens text → fits j ≡ false → None ≡ read text
+read-unfit text ts j h e f = sym (ap (λ us. whole (value 127 us)) (sym e) ∙ ap whole h ∙ of_json_is j ∙ ap (λ b. cond b (Some (data_of j)) None) f)
 
-pub read_more : (text : List ℕ) (ts : List Token) (j : json.Json) (t : Token) (us : List Token) → value 127 ts ≡ Some (j, t ∷ us) → ts ≡ tokens text → None ≡ read text
-read_more text ts j t us h e = sym (ap (λ us. whole (value 127 us)) (sym e) ∙ ap whole h)
+pub read-tokens_left : (text : List ℕ) (ts : List Token) (j : json.Json) (t : Token) (us : List Token) → value 127 ts ≡ Some (j, t ∷ us) → ts ≡ tokens text → None ≡ read text
+read-tokens_left text ts j t us h e = sym (ap (λ us. whole (value 127 us)) (sym e) ∙ ap whole h)
 
 -- ---- the value at a key
 
-pub put_at : (q k : List ℕ) (d : Data) (ms : Members) (b : Bool) → bytes_eq k q ≡ b → get_member q (put k d ms) ≡ cond b (Some d) (get_member q ms)
-put_at q k d ms true h = subst (λ x. get_member x (put k d ms) ≡ Some d) ((bytes_eq-Decides k q).0 h) (get_member-put k d ms)
-put_at q k d ms false h = get_member-put_other q k d ms (λ e. apart (sym ((bytes_eq-Decides k q).1 (sym e)) ∙ h))
+pub get_member-of_put : (q k : List ℕ) (d : Data) (ms : Members) (b : Bool) → bytes_eq k q ≡ b → get_member q (put k d ms) ≡ cond b (Some d) (get_member q ms)
+get_member-of_put q k d ms true h = subst (λ x. get_member x (put k d ms) ≡ Some d) ((bytes_eq-Decides k q).0 h) (get_member-put k d ms)
+get_member-of_put q k d ms false h = get_member-put_other q k d ms (λ e. apart (sym ((bytes_eq-Decides k q).1 (sym e)) ∙ h))
   where
     apart : true ≡ false → ⊥
     apart x = cc
@@ -91,7 +91,7 @@ member_is : (q : List ℕ) (ms : json.Members) (found : Members) → get_member 
 member_is q json.no_members found = refl
 member_is q (json.member k j ms) found =
     member_is q ms (put k (data_of j) found)
-    ∙ ap (later (option_map data_of (find.get_member q ms))) (put_at q k (data_of j) found (bytes_eq k q) refl)
+    ∙ ap (later (option_map data_of (find.get_member q ms))) (get_member-of_put q k (data_of j) found (bytes_eq k q) refl)
     ∙ later_one (find.get_member q ms) (bytes_eq k q) j (get_member q found)
 
 later_none : (o : Option Data) → later o None ≡ o
@@ -131,11 +131,11 @@ mapped_twice : (o : Option (Bor (Value Global))) → option_map (λ v. value_dat
 mapped_twice None = refl
 mapped_twice (Some v) = refl
 
-pub found_is : (r : Option (Bor (Value Global))) (q : List ℕ) (j : json.Json) → option_map (λ v. value_view v.now) r ≡ find.get q j → option_map (λ v. value_data v.now) r ≡ get q (data_of j)
-found_is r q j h = mapped_twice r ∙ ap (option_map data_of) h ∙ sym (get_is q j)
+pub get-value_data : (r : Option (Bor (Value Global))) (q : List ℕ) (j : json.Json) → option_map (λ v. value_view v.now) r ≡ find.get q j → option_map (λ v. value_data v.now) r ≡ get q (data_of j)
+get-value_data r q j h = mapped_twice r ∙ ap (option_map data_of) h ∙ sym (get_is q j)
 
-pub item_found : (r : Option (Bor (Value Global))) (n : ℕ) (j : json.Json) → option_map (λ v. value_view v.now) r ≡ find.at n j → option_map (λ v. value_data v.now) r ≡ at n (data_of j)
-item_found r n j h = mapped_twice r ∙ ap (option_map data_of) h ∙ sym (at_is n j)
+pub at-value_data : (r : Option (Bor (Value Global))) (n : ℕ) (j : json.Json) → option_map (λ v. value_view v.now) r ≡ find.at n j → option_map (λ v. value_data v.now) r ≡ at n (data_of j)
+at-value_data r n j h = mapped_twice r ∙ ap (option_map data_of) h ∙ sym (at_is n j)
 
 -- ---- a list
 
@@ -143,5 +143,5 @@ items_len_is : (vs : List (Value Global)) → items_len (items_data vs) ≡ leng
 items_len_is [] = refl
 items_len_is (v ∷ vs) = ap suc (items_len_is vs)
 
-pub counted : (v : Vec (Value Global) Global) (n : ℕ) → n ≡ vec_len v → n ≡ items_len (items_data v.items)
-counted v n h = h ∙ v.ok.0 ∙ sym (items_len_is v.items)
+pub items_len-vec_len : (v : Vec (Value Global) Global) (n : ℕ) → n ≡ vec_len v → n ≡ items_len (items_data v.items)
+items_len-vec_len v n h = h ∙ v.ok.0 ∙ sym (items_len_is v.items)

@@ -167,5 +167,5 @@ act_asked n (create_policy q) s h p =
 act_asked n (drop_policy rel name) s h p = rw (s, left_true (is_name rel) _ h, right_true (is_name rel) _ h) refl
 act_asked n (unsubscribe number) s h p = rw (s, h) refl
 
-pub command_asked : (c : Command) → is_well_command c ≡ true → is_small_act c.act ≡ true → request (command_data c) ≡ Some c
-command_asked c h p = act_asked c.session c.act (left_true (is_session c.session) (is_well_act c.act) h) (right_true (is_session c.session) (is_well_act c.act) h) p
+pub request-command_data : (c : Command) → is_well_command c ≡ true → is_small_act c.act ≡ true → request (command_data c) ≡ Some c
+request-command_data c h p = act_asked c.session c.act (left_true (is_session c.session) (is_well_act c.act) h) (right_true (is_session c.session) (is_well_act c.act) h) p

@@ -13,15 +13,15 @@ use Rattle.serde_json.specs.Find.{of_integer}
 own : IsNumeralModel (AllDigits 10) (digits_value 10)
 own = numerals_by_value (AllDigits 10) tells_digits
 
--- one digit more
-pub more : (bs : List ℕ) (i : ℕ) → i < length bs → AllDigits 10 (take i bs) → (get_or bs i 0 + 208) % 256 ≤ 9 → get_or bs i 0 < 256
+-- one digit digits_value-take_next
+pub digits_value-take_next : (bs : List ℕ) (i : ℕ) → i < length bs → AllDigits 10 (take i bs) → (get_or bs i 0 + 208) % 256 ≤ 9 → get_or bs i 0 < 256
     → (digits_value 10 (take i bs) * 10 + (get_or bs i 0 + 208) % 256 ≡ digits_value 10 (take (i + 1) bs)) × AllDigits 10 (take (i + 1) bs)
-more bs i h all digit byte =
+digits_value-take_next bs i h all digit byte =
     let is = digit_value_digit (get_or bs i 0) (omega arith) in
     (omega (arith, digits_value_more 10 bs i h), digits_more 10 bs i h all (omega arith))
 
-pub below : (bs : List ℕ) (i k : ℕ) → AllDigits 10 (take i bs) → i ≤ k → digits_value 10 (take i bs) < 10 ^ k
-below bs i k h le = digits_value_short own (take i bs) k h (omega (arith, length-take i bs))
+pub lt-digits_value : (bs : List ℕ) (i k : ℕ) → AllDigits 10 (take i bs) → i ≤ k → digits_value 10 (take i bs) < 10 ^ k
+lt-digits_value bs i k h le = digits_value_short own (take i bs) k h (omega (arith, length-take i bs))
 
 abbrev written : List ℕ → Parts
 written ds = record { whole = ds; point = false; fraction = []; exponent_negative = false; exponent = []; len = length (ds ++ []) }
@@ -44,8 +44,8 @@ minus_is : (n : ℕ) → 0 < n → negative (with_sign true n) ≡ of_integer (n
 minus_is zero h = absurd (omega arith)
 minus_is (suc n) h = refl
 
-pub negative_is : (ds : List ℕ) → IsNumeral 10 ds → length ds ≤ 18 → 0 < digits_value 10 ds
+pub number_from-negative : (ds : List ℕ) → IsNumeral 10 ds → length ds ≤ 18 → 0 < digits_value 10 ds
     → number_from true (scan ds) ≡ Some (of_integer (neg_ℤ (pos (digits_value 10 ds))))
-negative_is ds h le some =
+number_from-negative ds h le some =
     let fits : digits_value 10 ds ≤ 2 ^ 63 = omega (arith, digits_value_short own ds 18 h.1 le) in
     ap (number_from true) (scan_digits ds h.1) ∙ rw (append-nil ds) (rw (lt-ltb _ _ h.0, lt-ltb _ _ some, le-leb _ _ fits)) ∙ ap Some (minus_is (digits_value 10 ds) some)

@@ -18,8 +18,8 @@ use Rattle.iv_request.specs.Names.{keys_seen}
 abbrev pub compare : List ℕ → List ℕ → Ordering
 compare = slice_cmp nat_cmp
 
-pub same_key : (k m : List ℕ) → compare k m ≡ Equal → k ≡ m
-same_key k m h = (bytes_eq-Decides k m).0 (sym (is_eq-slice_cmp k m) ∙ ap is_eq h)
+pub same-compare_Equal : (k m : List ℕ) → compare k m ≡ Equal → k ≡ m
+same-compare_Equal k m h = (bytes_eq-Decides k m).0 (sym (is_eq-slice_cmp k m) ∙ ap is_eq h)
 
 abbrev pub Member : Type 0
 Member = Bor (List ℕ) × Value Global
@@ -45,14 +45,14 @@ twice true c = refl
 twice false c = refl
 
 -- a member that comes or takes the place of one
-pub put_passes : (test : List ℕ → Bool) (k : List ℕ) (d : Data) (ms : Members) → keys_pass test (put k d ms) ≡ (test k && keys_pass test ms)
-put_passes test k d no_members = refl
-put_passes test k d (member m e ms) = part (compare k m) refl (put_passes test k d ms)
+pub keys_pass-put : (test : List ℕ → Bool) (k : List ℕ) (d : Data) (ms : Members) → keys_pass test (put k d ms) ≡ (test k && keys_pass test ms)
+keys_pass-put test k d no_members = refl
+keys_pass-put test k d (member m e ms) = part (compare k m) refl (keys_pass-put test k d ms)
   where
     part : (o : Ordering) → compare k m ≡ o → keys_pass test (put k d ms) ≡ (test k && keys_pass test ms)
         → keys_pass test (match_ordering o (member k d (member m e ms)) (member m d ms) (member m e (put k d ms))) ≡ (test k && (test m && keys_pass test ms))
     part Less h rest = refl
-    part Equal h rest = twice (test m) (keys_pass test ms) ∙ ap (λ x. test x && (test m && keys_pass test ms)) (sym (same_key k m h))
+    part Equal h rest = twice (test m) (keys_pass test ms) ∙ ap (λ x. test x && (test m && keys_pass test ms)) (sym (same-compare_Equal k m h))
     part Greater h rest = ap (λ b. test m && b) rest ∙ swapped (test m) (test k) (keys_pass test ms)
 
 joined : (a b c : Bool) → (b && (a && c)) ≡ ((a && b) && c)
@@ -64,7 +64,7 @@ members_pass : (test : List ℕ → Bool) (ms : List Member) (found : Members) �
 members_pass test [] found = refl
 members_pass test (m ∷ ms) found =
     members_pass test ms (put m.0.now (value_data m.1) found)
-    ∙ ap (λ b. list_all (λ n. test n.0.now) ms && b) (put_passes test m.0.now (value_data m.1) found)
+    ∙ ap (λ b. list_all (λ n. test n.0.now) ms && b) (keys_pass-put test m.0.now (value_data m.1) found)
     ∙ joined (test m.0.now) (list_all (λ n. test n.0.now) ms) (keys_pass test found)
 
 none_follows : (b : Bool) → (b && true) ≡ b
@@ -72,8 +72,8 @@ none_follows true = refl
 none_follows false = refl
 
 -- each key of the members passes
-pub all_pass : (test : List ℕ → Bool) (ms : List Member) → list_all (λ m. test m.0.now) ms ≡ keys_pass test (members_of (members_view ms) no_members)
-all_pass test ms = sym (members_pass test ms no_members ∙ none_follows (list_all (λ m. test m.0.now) ms))
+pub list_all-keys_pass : (test : List ℕ → Bool) (ms : List Member) → list_all (λ m. test m.0.now) ms ≡ keys_pass test (members_of (members_view ms) no_members)
+list_all-keys_pass test ms = sym (members_pass test ms no_members ∙ none_follows (list_all (λ m. test m.0.now) ms))
 
 abbrev Keys : Type 0
 Keys = List (Bor (List ℕ))

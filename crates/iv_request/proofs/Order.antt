@@ -19,7 +19,7 @@ use Rattle.iv_request.specs.Forms.{Form, form_of, is_among, keys_pass, keys_pass
 use Rattle.iv_request.specs.Order.{HaveTheSame, IsReordered, same, lists, objects, AreReordered, no_more, one_more, IsFound, neither, both}
 use Rattle.iv_request.specs.Reading.{asked_by, reading_by, reading_of, value_of}
 use Rattle.iv_request.specs.Request.{passing, each, list_of, count, name_at, positive_of, given_or, kind_of, column, column_of, is_schema, columns_at, privilege_named, privilege_of, cell_of, row_of, update_of, op_at, does_at, entry, entry_of, grantee_named, granting, granting_of, grant_by, revoke_by, membership, membership_of, grant_role_by, revoke_role_by, policy_command_named, policy_command_of, grantee_of, grantees_of, everyone, some_text, scope, scope_at, policy, policy_of, has_its_texts, act_for, is_session, command, request}
-use Rattle.iv_request.proofs.Keys.{compare, same_key, left_true, right_true, both_true}
+use Rattle.iv_request.proofs.Keys.{compare, same-compare_Equal, left_true, right_true, both_true}
 
 -- ---- which keys there are
 
@@ -30,7 +30,7 @@ passes_at test (member k d ms) h q e = part (compare q k) refl (passes_at test m
   where
     part : (o : Ordering) → compare q k ≡ o → (is_some (get_member q ms) ≡ true → test q ≡ true) → is_some (match_ordering o (get_member q ms) (Some d) (get_member q ms)) ≡ true → test q ≡ true
     part Less c rest f = rest f
-    part Equal c rest f = ap test (same_key q k c) ∙ left_true (test k) (keys_pass test ms) h
+    part Equal c rest f = ap test (same-compare_Equal q k c) ∙ left_true (test k) (keys_pass test ms) h
     part Greater c rest f = rest f
 
 own_key : (k : List ℕ) (d : Data) (ms : Members) → is_some (get_member k (member k d ms)) ≡ true
@@ -290,12 +290,12 @@ request_alike d e h i =
     (option_and_then (passing is_session) (option_and_then as_u64 (then_kept as_number (λ d e. number_kept) (h (codes "session")) i)))
 
 -- the order of the keys of a request
-pub keys_in_any_order : (d e : Data) → HaveTheSame d e → request d ≡ request e
-keys_in_any_order d e h = request_alike d e (λ key. found_equal (get key d) (get key e) (h key))
+pub request-HaveTheSame : (d e : Data) → HaveTheSame d e → request d ≡ request e
+request-HaveTheSame d e h = request_alike d e (λ key. found_equal (get key d) (get key e) (h key))
 
 -- the order of the keys of a request and of the values in it
-pub keys_within_in_any_order : (d e : Data) → IsReordered d e → request d ≡ request e
-keys_within_in_any_order d e h = request_alike d e (found h)
+pub request-IsReordered : (d e : Data) → IsReordered d e → request d ≡ request e
+request-IsReordered d e h = request_alike d e (found h)
 
-pub lines_in_any_order : (a b : List ℕ) (d e : Data) → value_of a ≡ Some d → value_of b ≡ Some e → IsReordered d e → reading_of a ≡ reading_of b
-lines_in_any_order a b d e p q h = ap reading_by p ∙ ap asked_by (keys_within_in_any_order d e h) ∙ sym (ap reading_by q)
+pub reading_of-IsReordered : (a b : List ℕ) (d e : Data) → value_of a ≡ Some d → value_of b ≡ Some e → IsReordered d e → reading_of a ≡ reading_of b
+reading_of-IsReordered a b d e p q h = ap reading_by p ∙ ap asked_by (request-IsReordered d e h) ∙ sym (ap reading_by q)

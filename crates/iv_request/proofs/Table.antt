@@ -21,8 +21,8 @@ seen_twice : (r : Option (Bor Form)) → option_map (λ f. form_seen f.now) r �
 seen_twice None = refl
 seen_twice (Some f) = refl
 
-pub seen : (text : List ℕ) (r : Option (Bor Form)) (fs : List Form) → option_map (λ f. f.now) r ≡ find (λ f. bytes_eq f.text.now text) fs → option_map (λ f. form_seen f.now) r ≡ find (λ f. bytes_eq f.text text) (map form_seen fs)
-seen text r fs h = seen_twice r ∙ (λ i. option_map form_seen (h i)) ∙ seen_found text fs
+pub find-form_seen : (text : List ℕ) (r : Option (Bor Form)) (fs : List Form) → option_map (λ f. f.now) r ≡ find (λ f. bytes_eq f.text.now text) fs → option_map (λ f. form_seen f.now) r ≡ find (λ f. bytes_eq f.text text) (map form_seen fs)
+find-form_seen text r fs h = seen_twice r ∙ (λ i. option_map form_seen (h i)) ∙ seen_found text fs
 
 -- the forms as they stand in the code: that of writes first
 abbrev pub write_first : List asked.Form
@@ -32,5 +32,5 @@ in_order : (text : List ℕ) (b : Bool) → bytes_eq (codes "write") text ≡ b 
 in_order text true e = subst (λ t. find (λ f. bytes_eq f.text t) write_first ≡ form_of t) ((bytes_eq-Decides (codes "write") text).0 e) refl
 in_order text false e = rw e refl
 
-pub seen_forms : (text : List ℕ) {o : Option asked.Form} → o ≡ find (λ f. bytes_eq f.text text) write_first → o ≡ form_of text
-seen_forms text h = h ∙ in_order text (bytes_eq (codes "write") text) refl
+pub form_of-find : (text : List ℕ) {o : Option asked.Form} → o ≡ find (λ f. bytes_eq f.text text) write_first → o ≡ form_of text
+form_of-find text h = h ∙ in_order text (bytes_eq (codes "write") text) refl

@@ -119,8 +119,8 @@ op_well d =
 found_well : {X : Type 0} (P : X → Type 0) (x : X) (f : Data → Option X) (key : List ℕ) (d : Data) → P x → ((v : Data) → IfSome (f v) P) → IfSome (found_or x f key d) P
 found_well P x f key d p h = given_well P x f (get key d) p h
 
-pub positive_well : (d : Data) → IfSome (positive_of d) (λ n. is_positive n ≡ true)
-positive_well d =
+pub is_positive-positive_of : (d : Data) → IfSome (positive_of d) (λ n. is_positive n ≡ true)
+is_positive-positive_of d =
     let o : Option ℕ = option_and_then as_u64 (as_number d) in
     weaker (λ (n : ℕ). (is_positive n ≡ true) × Unit {0}) (λ (n : ℕ). is_positive n ≡ true) (positive_of d) (passes (λ (n : ℕ). Unit {0}) is_positive o (nothing_more o)) (λ n h. h.0)
 
@@ -129,7 +129,7 @@ entry_well d =
     chosen (λ (e : machine.Entry). is_well_entry e ≡ true) _ _ None
     (bound (λ (s : List ℕ). is_name s ≡ true) (λ (e : machine.Entry). is_well_entry e ≡ true) (λ rel. option_and_then (λ op. option_map (entry rel op) (copies_at d)) (op_at d)) (name_at (codes "on") d) (name_well (codes "on") d)
     (λ rel p. bound IsWellOp (λ (e : machine.Entry). is_well_entry e ≡ true) (λ op. option_map (entry rel op) (copies_at d)) (op_at d) (op_well d)
-    (λ op q. mapped (λ (n : ℕ). is_positive n ≡ true) (λ (e : machine.Entry). is_well_entry e ≡ true) (entry rel op) (copies_at d) (found_well (λ (n : ℕ). is_positive n ≡ true) 1 positive_of (codes "copies") d refl positive_well)
+    (λ op q. mapped (λ (n : ℕ). is_positive n ≡ true) (λ (e : machine.Entry). is_well_entry e ≡ true) (entry rel op) (copies_at d) (found_well (λ (n : ℕ). is_positive n ≡ true) 1 positive_of (codes "copies") d refl is_positive-positive_of)
     (λ n r. both_true (is_name rel) (list_all is_well (rows_in op) && is_positive n) p (both_true (list_all is_well (rows_in op)) (is_positive n) q r)))))
     tt
 
@@ -272,7 +272,7 @@ unsubscribe_well : (d : Data) → IfSome (unsubscribe_of d) IsWellAct
 unsubscribe_well d =
     let o : Option Data = get (codes "sub") d in
     mapped (λ (n : ℕ). is_positive n ≡ true) IsWellAct machine.unsubscribe (option_and_then positive_of o)
-    (bound (λ (x : Data). Unit {0}) (λ (n : ℕ). is_positive n ≡ true) positive_of o (nothing_more o) (λ x _. positive_well x)) (λ n h. h)
+    (bound (λ (x : Data). Unit {0}) (λ (n : ℕ). is_positive n ≡ true) positive_of o (nothing_more o) (λ x _. is_positive-positive_of x)) (λ n h. h)
 
 act_well : (word : Word) (d : Data) → IfSome (act_for word d) IsWellAct
 act_well Begin d = begin_well d
@@ -302,15 +302,16 @@ session_well d =
     let o : Option ℕ = option_and_then as_u64 (option_and_then as_number (get (codes "session") d)) in
     weaker (λ (n : ℕ). (is_session n ≡ true) × Unit {0}) (λ (n : ℕ). is_session n ≡ true) (session_of d) (passes (λ (n : ℕ). Unit {0}) is_session o (nothing_more o)) (λ n h. h.0)
 
-pub request_well : (d : Data) → IfSome (request d) (λ c. is_well_command c ≡ true)
-request_well d =
+pub is_well_command-request : (d : Data) → IfSome (request d) (λ c. is_well_command c ≡ true)
+is_well_command-request d =
     bound (λ (n : ℕ). is_session n ≡ true) (λ (c : machine.Command). is_well_command c ≡ true) (λ n. option_map (command n) (asked_act d)) (session_of d) (session_well d)
     (λ n p. mapped IsWellAct (λ (c : machine.Command). is_well_command c ≡ true) (command n) (asked_act d) (asked_well d) (λ a q. both_true (is_session n) (is_well_act a) p q))
 
 -- the command that was read
-pub well_by : (d : Data) (c : machine.Command) → Some c ≡ request d → is_well_command c ≡ true
-well_by d c e = let P : Option machine.Command → Type 0 = λ o. IfSome o (λ k. is_well_command k ≡ true) in subst P (sym e) (request_well d)
+pub is_well_command-of_request : (d : Data) (c : machine.Command) → Some c ≡ request d → is_well_command c ≡ true
+is_well_command-of_request d c e =
+    let P : Option machine.Command → Type 0 = λ o. IfSome o (λ k. is_well_command k ≡ true) in subst P (sym e) (is_well_command-request d)
 
 -- the act that was read
-pub act_by : (word : Word) (d : Data) (a : machine.Act) → Some a ≡ act_for word d → is_well_act a ≡ true
-act_by word d a e = let P : Option machine.Act → Type 0 = λ o. IfSome o IsWellAct in subst P (sym e) (act_well word d)
+pub is_well_act-act_for : (word : Word) (d : Data) (a : machine.Act) → Some a ≡ act_for word d → is_well_act a ≡ true
+is_well_act-act_for word d a e = let P : Option machine.Act → Type 0 = λ o. IfSome o IsWellAct in subst P (sym e) (act_well word d)

@@ -22,22 +22,22 @@ use Rattle.iv_steps.specs.Steps.{Fact, all_carried, at_place, carried, first_ref
 abbrev pub with_one : ℕ → State → State
 with_one role u = record u { frame = record u.frame { sessions = record { number = 1; role = role } ∷ []; subscriptions = []; last = 0 } }
 
-pub acts_alone : (role : ℕ) (u : State) (act : Act) → is_shared act ≡ true → settled act (after (with_one role u) 1 act) ≡ with_one role (after u 1 act)
-acts_alone role u (begin name) h = absurd (false≢true h)
-acts_alone role u finish h = absurd (false≢true h)
-acts_alone role u (create_role name) h = refl
-acts_alone role u (create_table name owner columns) h = refl
-acts_alone role u (create_view name owner query) h = refl
-acts_alone role u (grant rel privileges to) h = refl
-acts_alone role u (revoke rel privileges to) h = refl
-acts_alone role u (grant_role group to) h = refl
-acts_alone role u (revoke_role group to) h = refl
-acts_alone role u (row_security rel enable force) h = refl
-acts_alone role u (create_policy p) h = refl
-acts_alone role u (drop_policy rel name) h = refl
-acts_alone role u (subscribe rel) h = absurd (false≢true h)
-acts_alone role u (unsubscribe k) h = absurd (false≢true h)
-acts_alone role u (write entries) h = refl
+pub settled-is_shared : (role : ℕ) (u : State) (act : Act) → is_shared act ≡ true → settled act (after (with_one role u) 1 act) ≡ with_one role (after u 1 act)
+settled-is_shared role u (begin name) h = absurd (false≢true h)
+settled-is_shared role u finish h = absurd (false≢true h)
+settled-is_shared role u (create_role name) h = refl
+settled-is_shared role u (create_table name owner columns) h = refl
+settled-is_shared role u (create_view name owner query) h = refl
+settled-is_shared role u (grant rel privileges to) h = refl
+settled-is_shared role u (revoke rel privileges to) h = refl
+settled-is_shared role u (grant_role group to) h = refl
+settled-is_shared role u (revoke_role group to) h = refl
+settled-is_shared role u (row_security rel enable force) h = refl
+settled-is_shared role u (create_policy p) h = refl
+settled-is_shared role u (drop_policy rel name) h = refl
+settled-is_shared role u (subscribe rel) h = absurd (false≢true h)
+settled-is_shared role u (unsubscribe k) h = absurd (false≢true h)
+settled-is_shared role u (write entries) h = refl
 
 -- ---- roles and relations stay
 
@@ -90,9 +90,9 @@ pub record Led (s t : State) : Type 0 where
   pub whole : IsWhole (shared s) → IsWhole (shared now)
   pub grows : Grows s now
 
-pub some_then : {A B : Type 0} (o : Option A) (f : A → Option B) (b : B) → option_and_then f o ≡ Some b → (P : Type 0) → ((a : A) → o ≡ Some a → f a ≡ Some b → P) → P
-some_then None f b h P go = cc
-some_then (Some a) f b h P go = go a refl h
+pub option_and_then-Some : {A B : Type 0} (o : Option A) (f : A → Option B) (b : B) → option_and_then f o ≡ Some b → (P : Type 0) → ((a : A) → o ≡ Some a → f a ≡ Some b → P) → P
+option_and_then-Some None f b h P go = cc
+option_and_then-Some (Some a) f b h P go = go a refl h
 
 carries : (f : Fact) (u t : State) → carried f (shared u) ≡ Some t → Led u t
 carries f u t h = by (is_shared f.act) refl h
@@ -107,7 +107,7 @@ carries f u t h = by (is_shared f.act) refl h
     done x y k p q r =
         let a = passes (begin f.role) (shared u) x p in
         let b = passes f.act (with_one role u) y (subst (λ z. passed f.act z ≡ Some y) a.is q) in
-        let alone = acts_alone role u f.act k in
+        let alone = settled-is_shared role u f.act k in
         let c = passes finish (with_one role v) t (subst (λ z. passed finish z ≡ Some t) (b.is ∙ alone) r) in
         record {
           now = v;
@@ -122,14 +122,14 @@ carries f u t h = by (is_shared f.act) refl h
     by : (b : Bool) → is_shared f.act ≡ b
         → cond b (option_and_then (passed finish) (option_and_then (passed f.act) (passed (begin f.role) (shared u)))) None ≡ Some t → Led u t
     by false k p = cc
-    by true k p = some_then (option_and_then (passed f.act) (passed (begin f.role) (shared u))) (passed finish) t p (Led u t) (λ y q r.
-        some_then (passed (begin f.role) (shared u)) (passed f.act) y q (Led u t) (λ x p1 q1. done x y k p1 q1 r))
+    by true k p = option_and_then-Some (option_and_then (passed f.act) (passed (begin f.role) (shared u))) (passed finish) t p (Led u t) (λ y q r.
+        option_and_then-Some (passed (begin f.role) (shared u)) (passed f.act) y q (Led u t) (λ x p1 q1. done x y k p1 q1 r))
 
-pub all_carry : (fs : List Fact) (u t : State) → all_carried fs (shared u) ≡ Some t → Led u t
-all_carry [] u t h = let same : shared u ≡ t = cc in record { now = u; is = sym same; whole = λ w. w; grows = grows_not u }
-all_carry (f ∷ fs) u t h = some_then (carried f (shared u)) (all_carried fs) t h (Led u t) (λ x p q.
+pub Led-all_carried : (fs : List Fact) (u t : State) → all_carried fs (shared u) ≡ Some t → Led u t
+Led-all_carried [] u t h = let same : shared u ≡ t = cc in record { now = u; is = sym same; whole = λ w. w; grows = grows_not u }
+Led-all_carried (f ∷ fs) u t h = option_and_then-Some (carried f (shared u)) (all_carried fs) t h (Led u t) (λ x p q.
     let a = carries f u x p in
-    let b = all_carry fs a.now t (subst (λ z. all_carried fs z ≡ Some t) a.is q) in
+    let b = Led-all_carried fs a.now t (subst (λ z. all_carried fs z ≡ Some t) a.is q) in
     record { now = b.now; is = b.is; whole = λ w. b.whole (a.whole w); grows = grows_then u a.now b.now a.grows b.grows })
 
 -- ---- which fact is refused
@@ -153,7 +153,7 @@ module _ (f : Fact) (u : State) (h : is_shared f.act ≡ true) where
   begun a = passed_some (begin f.role) (shared u) a
 
   done : refusal (with_one role u) 1 f.act ≡ None → passed f.act (with_one role u) ≡ Some (with_one role v)
-  done b = passed_some f.act (with_one role u) b ∙ ap Some (acts_alone role u f.act h)
+  done b = passed_some f.act (with_one role u) b ∙ ap Some (settled-is_shared role u f.act h)
 
   finished : passed finish (with_one role v) ≡ Some (shared v)
   finished = passed_some finish (with_one role v) refl
@@ -194,6 +194,6 @@ module _ (f : Fact) (u : State) (h : is_shared f.act ≡ true) where
       by None a = ap (λ x. is_some (at_place n (refusal x 1 f.act) (option_and_then (first_refused (n + 1) fs) (carried f (shared u))))) (same_begun a)
           ∙ act (refusal (with_one role u) 1 f.act) a refl
 
-pub one_refused : (n : ℕ) (fs : List Fact) (u : State) → AllByRecursion (λ f. is_shared f.act ≡ true) fs → is_some (first_refused n fs (shared u)) ≡ not (is_some (all_carried fs (shared u)))
-one_refused n [] u a = refl
-one_refused n (f ∷ fs) u a = refused_or_carried f u a.0 n fs (one_refused (n + 1) fs (after u 1 f.act) a.1)
+pub first_refused-all_carried : (n : ℕ) (fs : List Fact) (u : State) → AllByRecursion (λ f. is_shared f.act ≡ true) fs → is_some (first_refused n fs (shared u)) ≡ not (is_some (all_carried fs (shared u)))
+first_refused-all_carried n [] u a = refl
+first_refused-all_carried n (f ∷ fs) u a = refused_or_carried f u a.0 n fs (first_refused-all_carried (n + 1) fs (after u 1 f.act) a.1)

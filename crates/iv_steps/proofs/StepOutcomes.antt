@@ -29,7 +29,7 @@ use Rattle.iv_machine.proofs.Readers.{subscription_of-each}
 use Rattle.iv_machine.proofs.Sound.{IsKept, IsWhole, MayRead-IsWhole, IsKept-settled, IsWhole-IsSoundState}
 use Rattle.iv_steps.specs.Laws.{FactsDecide, IsStep, IsTold, NoneIsBetween, NothingIsTold, RefusalsAreFound, StepsAreTold}
 use Rattle.iv_steps.specs.Steps.{Fact, all_carried, among, looked_at, shared}
-use Rattle.iv_steps.proofs.FactSteps.{Grows, all_carry, one_refused}
+use Rattle.iv_steps.proofs.FactSteps.{Grows, Led-all_carried, first_refused-all_carried}
 
 -- ---- who is left may read
 
@@ -71,8 +71,8 @@ left_whole s u k w g = record {
   served = served (among s (shared u)) s.frame.subscriptions;
 }
 
-pub whole_sound : (s : State) → IsWhole s → IsSoundState s
-whole_sound s k = record {
+pub IsSoundState-IsWhole : (s : State) → IsWhole s → IsSoundState s
+IsSoundState-IsWhole s k = record {
   numbers = k.frame.numbers;
   ordered = k.frame.ordered;
   readers = All-from_recursion (MayRead s.frame) s.frame.subscriptions (MayRead-IsWhole s k);
@@ -242,7 +242,7 @@ module _ (s new : State) (es : List Subscription) (is : new.frame.subscriptions 
 
 told_behind : (fs : List Fact) (s u : State) → IsSoundState s → all_carried fs (shared s) ≡ Some (shared u) → IsWhole (shared u) → Grows s u → IsStep fs s (looked_at s (among s (shared u)))
 told_behind fs s u k c w g = let es = s.frame.subscriptions in let new = left s u in let ends = ending (among s (shared u)) in let whole = left_whole s u (IsWhole-IsSoundState s k).frame w g in record {
-  sound = whole_sound new whole;
+  sound = IsSoundState-IsWhole new whole;
   shared = c;
   sessions = refl;
   last = refl;
@@ -258,9 +258,9 @@ told_behind fs s u k c w g = let es = s.frame.subscriptions in let new = left s 
     unread j false h = inl (has_number-filter j (λ e. not (is_some (ending (among s (shared u)) e))) s.frame.subscriptions h)
 
 -- with nobody there
-pub nobody_whole : (s : State) → IsSoundState s → IsWhole (shared s)
+pub IsWhole-shared : (s : State) → IsSoundState s → IsWhole (shared s)
 unfolding IsDistinct
-nobody_whole s k = record {
+IsWhole-shared s k = record {
   frame = record {
     numbers = record { unique = tt; given = tt };
     numbered = record { relations = k.numbered.relations; guards = k.numbered.guards };
@@ -281,10 +281,10 @@ steps_are_told fs s o k h = by (all_carried fs (shared s)) refl h
     by : (t : Option State) → all_carried fs (shared s) ≡ t → option_map (λ u. looked_at s (among s u)) t ≡ Some o → IsStep fs s o
     by None c p = cc
     by (Some t) c p =
-        let x = all_carry fs s t c in
+        let x = Led-all_carried fs s t c in
         let same : looked_at s (among s t) ≡ o = cc in
         subst (IsStep fs s) (ap (λ v. looked_at s (among s v)) (sym x.is) ∙ same)
-        (told_behind fs s x.now k (c ∙ ap Some x.is) (x.whole (nobody_whole s k)) x.grows)
+        (told_behind fs s x.now k (c ∙ ap Some x.is) (x.whole (IsWhole-shared s k)) x.grows)
 
 -- ---- of nothing
 
@@ -333,4 +333,5 @@ pub none_is_between : NoneIsBetween
 none_is_between facts others s h = ap (option_map (λ t. looked_at s (among s t))) h
 
 pub refusals_are_found : RefusalsAreFound
-refusals_are_found facts s all = one_refused 1 facts s all ∙ sym (ap not (is_mapped (λ t. looked_at s (among s t)) (all_carried facts (shared s))))
+refusals_are_found facts s all =
+    first_refused-all_carried 1 facts s all ∙ sym (ap not (is_mapped (λ t. looked_at s (among s t)) (all_carried facts (shared s))))

@@ -14,19 +14,19 @@ two : (a b c d : ℕ) → ((a == b) && (c == d)) ≡ true → (a ≡ b) × (c �
 two a b c d h = (grind (arith, nat_tests), grind (arith, nat_tests))
 
 -- what is for the role and the relation has both
-pub for_is : (role rel : ℕ) (k : RoleCircuit) → is_for role rel k ≡ true → (k.role ≡ role) × (k.rel ≡ rel)
-for_is role rel k h = two k.role role k.rel rel h
+pub same-is_for : (role rel : ℕ) (k : RoleCircuit) → is_for role rel k ≡ true → (k.role ≡ role) × (k.rel ≡ rel)
+same-is_for role rel k h = two k.role role k.rel rel h
 
 -- the place that is there
-pub place_there : (o : Option ℕ) → is_some o ≡ true → (i : ℕ) × (o ≡ Some i)
-place_there None h = cc
-place_there (Some i) h = (i, refl)
+pub Some-is_some : (o : Option ℕ) → is_some o ≡ true → (i : ℕ) × (o ≡ Some i)
+Some-is_some None h = cc
+Some-is_some (Some i) h = (i, refl)
 
 -- what is read at an index, as an index
-pub slot_is : {X : Type 0} (xs : List X) (i : ℕ) (x : X) → i < length xs → x ≡ get_or xs i x → slice_get xs i ≡ Some x
-slot_is [] i x l at = absurd (omega arith)
-slot_is (y ∷ xs) zero x l at = ap (λ z. Some z) (sym at)
-slot_is (y ∷ xs) (suc i) x l at = slot_is xs i x (omega arith) at
+pub slice_get-of_get_or : {X : Type 0} (xs : List X) (i : ℕ) (x : X) → i < length xs → x ≡ get_or xs i x → slice_get xs i ≡ Some x
+slice_get-of_get_or [] i x l at = absurd (omega arith)
+slice_get-of_get_or (y ∷ xs) zero x l at = ap (λ z. Some z) (sym at)
+slice_get-of_get_or (y ∷ xs) (suc i) x l at = slice_get-of_get_or xs i x (omega arith) at
 
 -- ---- what is pushed where none passes has the place behind the others
 
@@ -98,7 +98,7 @@ module _ (role rel : ℕ) where
     -- what follows at each place from what holds there holds of it
     module _ (P : RoleCircuit → X → Type 0) (Q : X → Type 0) (go : (k : RoleCircuit) (x : X) → k.role ≡ role → k.rel ≡ rel → P k x → Q x) where
       one : (k : RoleCircuit) (x : X) → is_for role rel k ≡ true → P k x → Q x
-      one k x t h = let b = for_is role rel k t in go k x b.0 b.1 h
+      one k x t h = let b = same-is_for role rel k t in go k x b.0 b.1 h
 
       each_index : (ks : List RoleCircuit) (xs : List X) (i : ℕ) (d : RoleCircuit) → Each P ks xs → i < length ks → is_for role rel (get_or ks i d) ≡ true → Q (beside none role rel ks xs)
       each_index [] xs i d h low t = absurd (omega arith)
@@ -113,6 +113,6 @@ module _ (role rel : ℕ) where
       pub beside_each : (ks : List RoleCircuit) (xs : List X) → Each P ks xs → is_some (position (is_for role rel) ks) ≡ true → Q (beside none role rel ks xs)
       beside_each [] xs h t = cc
       beside_each (k ∷ ks) xs h t =
-          let i = place_there (position (is_for role rel) (k ∷ ks)) t in
+          let i = Some-is_some (position (is_for role rel) (k ∷ ks)) t in
           let p = position-Some (is_for role rel) (k ∷ ks) i.0 k i.1 in
           each_index (k ∷ ks) xs i.0 k h p.0 p.1

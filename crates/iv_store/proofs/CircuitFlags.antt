@@ -11,10 +11,10 @@ use Rattle.iv_store.specs.Turned.{WasRead}
 use Rattle.iv_store.proofs.Touches.{scans_alike}
 
 -- a circuit scans the table where its plan does
-pub scan_flag : (e : Store) (k : RoleCircuit) (table : ℕ) → WasRead e k → list_any (λ s. s.table == table) (scans_of k.circuit.node) ≡ scans_at e.catalog k.rel table
-scan_flag e k table was = sym (scans_alike (λ t. t == table) k.circuit.node) ∙ ap (λ p. list_any (λ t. t == table) (shape_scans p)) was.is.plan
+pub list_any-WasRead : (e : Store) (k : RoleCircuit) (table : ℕ) → WasRead e k → list_any (λ s. s.table == table) (scans_of k.circuit.node) ≡ scans_at e.catalog k.rel table
+list_any-WasRead e k table was = sym (scans_alike (λ t. t == table) k.circuit.node) ∙ ap (λ p. list_any (λ t. t == table) (shape_scans p)) was.is.plan
 
 -- none is missing where none was found
-pub missing_flag : {A B : Type 0} (f : A → B) (o : Option A) (p : Option B) → option_map f o ≡ p → is_some o ≡ not (not (is_some p))
-missing_flag f None p h = ap (λ x. not (not (is_some x))) h
-missing_flag f (Some a) p h = ap (λ x. not (not (is_some x))) h
+pub is_some-twice_not : {A B : Type 0} (f : A → B) (o : Option A) (p : Option B) → option_map f o ≡ p → is_some o ≡ not (not (is_some p))
+is_some-twice_not f None p h = ap (λ x. not (not (is_some x))) h
+is_some-twice_not f (Some a) p h = ap (λ x. not (not (is_some x))) h

@@ -26,13 +26,13 @@ use Rattle.iv_database.specs.Stands.{Stands}
 use Rattle.iv_command.specs.Views.{line_of}
 use Rattle.iv_command.specs.declared.command.Line.{Line}
 use Rattle.iv_command.specs.declared.command.Reply.TheVariants.{Ok}
-use Rattle.iv_store.proofs.SubscriptionRounds.{IsBeside, all_beside, left_rounds, same_rounds, those_counted}
+use Rattle.iv_store.proofs.SubscriptionRounds.{IsBeside, AllByRecursion-IsBeside, rounds_of-without_unread, rounds_of-same_circuits, those_counted}
 use Rattle.iv_store.proofs.DroppedCircuits.{left_have, left_read, left_there}
-use Rattle.iv_store.proofs.SubscriptionViews.{difference_none, each_found}
-use Rattle.iv_readers.proofs.Lists.{all_zip}
+use Rattle.iv_store.proofs.SubscriptionViews.{difference-itself, subscription_of-each}
+use Rattle.iv_readers.proofs.Lists.{AllByRecursion-zip}
 use Rattle.iv_store.proofs.Sound.{circuits_stay}
-use Rattle.iv_store.proofs.RequestSteps.{no_lines, no_refusal, none_ends, none_settled}
-use Rattle.iv_store.proofs.UnmovedSubscriptions.{IsUnmoved, other_sessions, still_read, still_shown, still_within}
+use Rattle.iv_store.proofs.RequestSteps.{flat_map-each_nothing, not_refused-Ok, ending-Stands, filter-Stands}
+use Rattle.iv_store.proofs.UnmovedSubscriptions.{IsUnmoved, IsUnmoved-same_session, still_read, still_shown, still_within}
 
 -- ---- what is left of the subscriptions, whose sessions are as before
 
@@ -46,7 +46,7 @@ module _ (e : Store) (h : IsSoundStore e) (ss : List Session) (p : Subscription 
   c = without_unread b
 
   unmoved : (s : Subscription) → p s ≡ true → IsUnmoved e c s
-  unmoved s k = other_sessions e ss (filter p e.subscriptions) c.circuits s (same s k)
+  unmoved s k = IsUnmoved-same_session e ss (filter p e.subscriptions) c.circuits s (same s k)
 
   -- what each that is left had
   left : (P Q : Subscription → Type 0) → ((s : Subscription) → p s ≡ true → P s → Q s) → AllByRecursion P e.subscriptions → AllByRecursion Q (filter p e.subscriptions)
@@ -77,8 +77,8 @@ module _ (e : Store) (h : IsSoundStore e) (ss : List Session) (p : Subscription 
 
   -- and each has the rounds that it had
   pub left_counted : AllByRecursion (λ s. beside_number s.number (rounds c) ≡ beside_number s.number (rounds e)) (filter p e.subscriptions)
-  left_counted = those_counted e c left_sound.stored (λ s was now. now ≡ was) (left (IsBeside e) (IsBeside e) (λ s k b. b) (all_beside e h.stored))
-      (all_zip (λ s. rounds_of c s ≡ rounds_of b s) (IsUnmoved e c) (λ s. rounds_of c s ≡ rounds_of e s) (filter p e.subscriptions) (λ s k u. k ∙ same_rounds e b s refl u.acts) (left_rounds b all_open) all_unmoved)
+  left_counted = those_counted e c left_sound.stored (λ s was now. now ≡ was) (left (IsBeside e) (IsBeside e) (λ s k b. b) (AllByRecursion-IsBeside e h.stored))
+      (AllByRecursion-zip (λ s. rounds_of c s ≡ rounds_of b s) (IsUnmoved e c) (λ s. rounds_of c s ≡ rounds_of e s) (filter p e.subscriptions) (λ s k u. k ∙ rounds_of-same_circuits e b s refl u.acts) (rounds_of-without_unread b all_open) all_unmoved)
 
   module _ (T : Lists) (stands : Stands T e.tables) where
     -- each that is left is found before and now
@@ -86,29 +86,30 @@ module _ (e : Store) (h : IsSoundStore e) (ss : List Session) (p : Subscription 
     IsLeft s = (p s ≡ true) × (subscription_of e.subscriptions s.number ≡ Some s)
 
     each_left : AllByRecursion IsLeft (filter p e.subscriptions)
-    each_left = left (λ s. subscription_of e.subscriptions s.number ≡ Some s) IsLeft (λ s k f. (k, f)) (each_found e.subscriptions h.stored.numbers.unique)
+    each_left =
+      left (λ s. subscription_of e.subscriptions s.number ≡ Some s) IsLeft (λ s k f. (k, f)) (subscription_of-each e.subscriptions h.stored.numbers.unique)
 
     still : (s : Subscription) → IsLeft s → subscription_of (filter p e.subscriptions) s.number ≡ Some s → shown (at c T) s.number ≡ shown (at e T) s.number
     still s x f = ap (λ o. if_some o [] (view_shown (at c T))) f ∙ still_shown e c s (unmoved s x.0) T stands ∙ sym (ap (λ o. if_some o [] (view_shown (at e T))) x.1)
 
     quiet : (s : Subscription) → shown (at c T) s.number ≡ shown (at e T) s.number → ending (at c T) s ≡ None → line_for (at e T) (at c T) (ending (at c T)) s ≡ []
-    quiet s v k = (λ i. machine_line (k i) s (difference (shown (at e T) s.number) (v i))) ∙ ap (machine_line None s) (difference_none (shown (at e T) s.number))
+    quiet s v k = (λ i. machine_line (k i) s (difference (shown (at e T) s.number) (v i))) ∙ ap (machine_line None s) (difference-itself (shown (at e T) s.number))
 
     still_each : AllByRecursion (λ s. shown (at c T) s.number ≡ shown (at e T) s.number) (filter p e.subscriptions)
-    still_each = all_zip IsLeft (λ s. subscription_of (filter p e.subscriptions) s.number ≡ Some s) (λ s. shown (at c T) s.number ≡ shown (at e T) s.number) (filter p e.subscriptions) still each_left (each_found (filter p e.subscriptions) left_sound.stored.numbers.unique)
+    still_each = AllByRecursion-zip IsLeft (λ s. subscription_of (filter p e.subscriptions) s.number ≡ Some s) (λ s. shown (at c T) s.number ≡ shown (at e T) s.number) (filter p e.subscriptions) still each_left (subscription_of-each (filter p e.subscriptions) left_sound.stored.numbers.unique)
 
     pub left_quiet : flat_map (line_for (at e T) (at c T) (ending (at c T))) (filter p e.subscriptions) ≡ []
-    left_quiet = no_lines (line_for (at e T) (at c T) (ending (at c T))) (filter p e.subscriptions)
-        (all_zip (λ s. shown (at c T) s.number ≡ shown (at e T) s.number) (λ s. ending (at c T) s ≡ None) (λ s. line_for (at e T) (at c T) (ending (at c T)) s ≡ []) (filter p e.subscriptions) quiet still_each (none_ends c T left_sound stands))
+    left_quiet = flat_map-each_nothing (line_for (at e T) (at c T) (ending (at c T))) (filter p e.subscriptions)
+        (AllByRecursion-zip (λ s. shown (at c T) s.number ≡ shown (at e T) s.number) (λ s. ending (at c T) s ≡ None) (λ s. line_for (at e T) (at c T) (ending (at c T)) s ≡ []) (filter p e.subscriptions) quiet still_each (ending-Stands c T left_sound stands))
 
     abbrev at_left : List Subscription → State
     at_left subs = at (record c { subscriptions = subs }) T
 
     pub left_sent : flat_map (line_for (at e T) (at_left (filter (λ s. not (is_some (ending (at c T) s))) (filter p e.subscriptions))) (ending (at c T))) (filter p e.subscriptions) ≡ []
-    left_sent = ap (λ subs. flat_map (line_for (at e T) (at_left subs) (ending (at c T))) (filter p e.subscriptions)) (none_settled c T left_sound stands) ∙ left_quiet
+    left_sent = ap (λ subs. flat_map (line_for (at e T) (at_left subs) (ending (at c T))) (filter p e.subscriptions)) (filter-Stands c T left_sound stands) ∙ left_quiet
 
     pub left_settled : at_left (filter (λ s. not (is_some (ending (at c T) s))) (filter p e.subscriptions)) ≡ at c T
-    left_settled = ap at_left (none_settled c T left_sound stands)
+    left_settled = ap at_left (filter-Stands c T left_sound stands)
 
 -- ---- a session
 
@@ -147,7 +148,7 @@ module _ (e new : Store) (n : ℕ) (lines : Vec Line) (h : IsSoundStore e) (none
         );
         left = λ T s. subst (λ (t : State). IsBehind t (seen new)) (sym (left_settled e h ss p roles same T s))
             (subst (λ (v : Store). IsBehind (at (without_unread (without_session n e)) T) (seen v)) (sym k) (record { frame = refl; rows = s }));
-        accepts = no_refusal Ok refl;
+        accepts = not_refused-Ok Ok refl;
         rounds = subst (λ (v : Store). AreCounted (seen e) finish (seen v)) (sym k) (left_counted e h ss p roles same);
         sound = subst IsSoundStore (sym k) (left_sound e h ss p roles same);
       }
@@ -166,14 +167,14 @@ module _ (e new : Store) (n : ℕ) (lines : Vec Line) (h : IsSoundStore e) (none
         );
         left = λ T s. subst (λ (t : State). IsBehind t (seen new)) (sym (left_settled e h e.sessions p h.stored.database.roles same T s))
             (subst (λ (v : Store). IsBehind (at (without_unread (without_subscription number e)) T) (seen v)) (sym k) (record { frame = refl; rows = s }));
-        accepts = no_refusal Ok refl;
+        accepts = not_refused-Ok Ok refl;
         rounds = subst (λ (v : Store). AreCounted (seen e) (unsubscribe number) (seen v)) (sym k) (left_counted e h e.sessions p h.stored.database.roles same);
         sound = subst IsSoundStore (sym k) (left_sound e h e.sessions p h.stored.database.roles same);
       }
 
 -- ---- the tests
 
-pub is_opened : (o : Option RoleId) (s : Option Session) → option_map (λ r. r.0) o ≡ option_map (λ x. x.role) s → is_some o ≡ true → is_some s ≡ true
-is_opened None s h k = cc
-is_opened (Some r) None h k = cc
-is_opened (Some r) (Some s) h k = refl
+pub is_some-same_role : (o : Option RoleId) (s : Option Session) → option_map (λ r. r.0) o ≡ option_map (λ x. x.role) s → is_some o ≡ true → is_some s ≡ true
+is_some-same_role None s h k = cc
+is_some-same_role (Some r) None h k = cc
+is_some-same_role (Some r) (Some s) h k = refl

@@ -7,9 +7,9 @@ use Rattle.iv_machine.proofs.SubscriptionPlaces.{all_kept}
 use Rattle.iv_store.specs.Finished.{without_unread}
 use Rattle.iv_store.specs.Store.{IsOpen, Store, frame_of, is_read, place_of}
 use Rattle.iv_readers.specs.Readers.{RoleCircuit}
-use Rattle.iv_store.proofs.Beside.{for_is}
-use Rattle.iv_readers.proofs.Lists.{all_map, all_zip}
-use Rattle.iv_store.proofs.Unread.{kept_place, reads_own}
+use Rattle.iv_store.proofs.Beside.{same-is_for}
+use Rattle.iv_readers.proofs.Lists.{AllByRecursion-map, AllByRecursion-zip}
+use Rattle.iv_store.proofs.Unread.{is_some-position_filter, list_any-session_acts_as}
 
 module _ (e : Store) where
   -- those that are left have what all had, and are read
@@ -26,9 +26,11 @@ module _ (e : Store) where
   one_there : (s : Subscription) → Reads s → is_some (place_of e s) ≡ true → is_some (place_of (without_unread e) s) ≡ true
   one_there s own there =
       let role = actor (frame_of e) s.session in
-      kept_place (frame_of e) role s.rel e.circuits (λ k t. let b = for_is role s.rel k t in own k b.0 b.1) there
+      is_some-position_filter (frame_of e) role s.rel e.circuits (λ k t. let b = same-is_for role s.rel k t in own k b.0 b.1) there
 
   pub left_there : AllByRecursion (IsOpen e) e.subscriptions → AllByRecursion (λ s. is_some (place_of e s) ≡ true) e.subscriptions
       → AllByRecursion (λ s. is_some (place_of (without_unread e) s) ≡ true) e.subscriptions
-  left_there shows there = all_zip Reads (λ s. is_some (place_of e s) ≡ true) (λ s. is_some (place_of (without_unread e) s) ≡ true) e.subscriptions one_there
-      (reads_own (frame_of e) e.subscriptions (all_map (IsOpen e) (λ s. is_open (frame_of e) s.session ≡ true) e.subscriptions (λ s o. o.session) shows)) there
+  left_there shows there =
+    AllByRecursion-zip Reads (λ s. is_some (place_of e s) ≡ true) (λ s. is_some (place_of (without_unread e) s) ≡ true) e.subscriptions one_there
+      (list_any-session_acts_as (frame_of e) e.subscriptions
+        (AllByRecursion-map (IsOpen e) (λ s. is_open (frame_of e) s.session ≡ true) e.subscriptions (λ s o. o.session) shows)) there

@@ -11,19 +11,19 @@ use Rattle.iv_store.specs.Engine.{Engine, IsBehind, hung_up}
 use Rattle.iv_store.proofs.SubscriptionRounds.{none_listed}
 use Rattle.iv_store.proofs.RunLines.{shown_by}
 
-pub closed_behind : (s : State) (e new : Engine) → new ≡ hung_up e → IsBehind s e → IsBehind (hung s) new
-closed_behind s e new h b = subst (λ (v : Engine). IsBehind (hung s) v) (sym h) (record { frame = ap (λ (f : Frame). record f { sessions = []; subscriptions = [] }) b.frame; rows = b.rows })
+pub IsBehind-hung_up : (s : State) (e new : Engine) → new ≡ hung_up e → IsBehind s e → IsBehind (hung s) new
+IsBehind-hung_up s e new h b = subst (λ (v : Engine). IsBehind (hung s) v) (sym h) (record { frame = ap (λ (f : Frame). record f { sessions = []; subscriptions = [] }) b.frame; rows = b.rows })
 
 abbrev pub without_sessions : Store → Store
 without_sessions e = record e { sessions = []; subscriptions = []; circuits = [] }
 
 -- what is shown of it
-pub closed_shown : (e k : Store) (failed : Bool) → k ≡ without_sessions e → shown_by k failed ≡ hung_up (shown_by e failed)
-closed_shown e k failed h = ap (λ (v : Store). shown_by v failed) h
+pub shown_by-without_sessions : (e k : Store) (failed : Bool) → k ≡ without_sessions e → shown_by k failed ≡ hung_up (shown_by e failed)
+shown_by-without_sessions e k failed h = ap (λ (v : Store). shown_by v failed) h
     ∙ ap (λ xs. record (shown_by (without_sessions e) failed) { rounds = xs }) (none_listed (rounds_of (without_sessions e)) 0 (suc e.last))
 
-pub all_closed : (e : Store) → IsSoundStore e → IsSoundStore (without_sessions e)
-all_closed e h = record {
+pub IsSoundStore-without_sessions : (e : Store) → IsSoundStore e → IsSoundStore (without_sessions e)
+IsSoundStore-without_sessions e h = record {
   stored = record {
     numbers = record { unique = tt; given = tt };
     database = sessions_stored (database_of e) h.stored.database [] tt;
@@ -37,8 +37,8 @@ all_closed e h = record {
 }
 
 -- and the last number may be forgotten
-pub nobody_sound : (e : Store) → IsSoundStore e → IsSoundStore (nobody_in e)
-nobody_sound e h = record {
+pub IsSoundStore-nobody_in : (e : Store) → IsSoundStore e → IsSoundStore (nobody_in e)
+IsSoundStore-nobody_in e h = record {
   stored = record {
     numbers = record { unique = tt; given = tt };
     database = sessions_stored (database_of e) h.stored.database [] tt;

@@ -5,24 +5,24 @@ use Rattle.std.proofs.lemmas.List.{map-append, take_all, take_more}
 use Rattle.std.specs.List.{AllByRecursion}
 use Rattle.iv_readers.specs.Each.{Each}
 
-pub all_at : {X : Type 0} (P : X → Type 0) (xs : List X) (i : ℕ) (x : X) → AllByRecursion P xs → i < length xs → x ≡ get_or xs i x → P x
-all_at P [] i x h l at = absurd (omega arith)
-all_at P (y ∷ ys) zero x h l at = subst P (sym at) h.0
-all_at P (y ∷ ys) (suc i) x h l at = all_at P ys i x h.1 (omega arith) at
+pub AllByRecursion-get_or : {X : Type 0} (P : X → Type 0) (xs : List X) (i : ℕ) (x : X) → AllByRecursion P xs → i < length xs → x ≡ get_or xs i x → P x
+AllByRecursion-get_or P [] i x h l at = absurd (omega arith)
+AllByRecursion-get_or P (y ∷ ys) zero x h l at = subst P (sym at) h.0
+AllByRecursion-get_or P (y ∷ ys) (suc i) x h l at = AllByRecursion-get_or P ys i x h.1 (omega arith) at
 
-pub map_at : {X Y : Type 0} (f : X → Y) (xs : List X) (i : ℕ) (x : X) → i < length xs → x ≡ get_or xs i x → f x ≡ get_or (map f xs) i (f x)
-map_at f [] i x l at = absurd (omega arith)
-map_at f (y ∷ ys) zero x l at = ap f at
-map_at f (y ∷ ys) (suc i) x l at = map_at f ys i x (omega arith) at
+pub get_or-map_place : {X Y : Type 0} (f : X → Y) (xs : List X) (i : ℕ) (x : X) → i < length xs → x ≡ get_or xs i x → f x ≡ get_or (map f xs) i (f x)
+get_or-map_place f [] i x l at = absurd (omega arith)
+get_or-map_place f (y ∷ ys) zero x l at = ap f at
+get_or-map_place f (y ∷ ys) (suc i) x l at = get_or-map_place f ys i x (omega arith) at
 
 -- a list that grows by what a function makes of each
-pub map_more : {X Y : Type 0} (f : X → Y) (xs : List X) (i : ℕ) (x : X) (y : Y) (ys new : List Y) → i < length xs → x ≡ get_or xs i x → ys ≡ map f (take i xs) → y ≡ f x → new ≡ ys ++ y ∷ [] → new ≡ map f (take (i + 1) xs)
-map_more f xs i x y ys new low at so_far one is =
+pub map-take_next : {X Y : Type 0} (f : X → Y) (xs : List X) (i : ℕ) (x : X) (y : Y) (ys new : List Y) → i < length xs → x ≡ get_or xs i x → ys ≡ map f (take i xs) → y ≡ f x → new ≡ ys ++ y ∷ [] → new ≡ map f (take (i + 1) xs)
+map-take_next f xs i x y ys new low at so_far one is =
     is ∙ (λ j. so_far j ++ one j ∷ []) ∙ sym (map-append f (take i xs) (x ∷ []))
     ∙ sym (ap (map f) (take_more xs i x low ∙ ap (λ z. take i xs ++ z ∷ []) (sym at)))
 
-pub map_whole : {X Y : Type 0} (f : X → Y) (xs : List X) (k : ℕ) (ys : List Y) → length xs ≤ k → ys ≡ map f (take k xs) → ys ≡ map f xs
-map_whole f xs k ys l h = h ∙ ap (map f) (take_all k xs l)
+pub map-take_whole : {X Y : Type 0} (f : X → Y) (xs : List X) (k : ℕ) (ys : List Y) → length xs ≤ k → ys ≡ map f (take k xs) → ys ≡ map f xs
+map-take_whole f xs k ys l h = h ∙ ap (map f) (take_all k xs l)
 
 module _ {X Y : Type 0} (P : X → Y → Type 0) where
   each_pushed : (xs : List X) (ys : List Y) (x : X) (y : Y) → Each P xs ys → P x y → Each P (xs ++ x ∷ []) (ys ++ y ∷ [])
@@ -49,11 +49,11 @@ take_none : (n : ℕ) → take {A = Bool} n [] ≡ []
 take_none zero = refl
 take_none (suc n) = refl
 
-pub all_true : {X : Type 0} (xs : List X) (n m : ℕ) (old new : List Bool) → old ≡ [] → m ≡ length xs → new ≡ take n old ++ replicate m true → new ≡ map (λ x. true) xs
-all_true xs n m old new none long is =
+pub map-replicate_true : {X : Type 0} (xs : List X) (n m : ℕ) (old new : List Bool) → old ≡ [] → m ≡ length xs → new ≡ take n old ++ replicate m true → new ≡ map (λ x. true) xs
+map-replicate_true xs n m old new none long is =
     is ∙ (λ i. take n (none i) ++ replicate m true) ∙ ap (λ (bs : List Bool). bs ++ replicate m true) (take_none n) ∙ splat_is_map xs m true (sym long)
 
 -- what holds of each holds beside what stands for it
-pub each_map : {X Y : Type 0} (P : X → Y → Type 0) (f : X → Y) (xs : List X) → ((x : X) → P x (f x)) → Each P xs (map f xs)
-each_map P f [] go = tt
-each_map P f (x ∷ xs) go = (go x, each_map P f xs go)
+pub Each-map : {X Y : Type 0} (P : X → Y → Type 0) (f : X → Y) (xs : List X) → ((x : X) → P x (f x)) → Each P xs (map f xs)
+Each-map P f [] go = tt
+Each-map P f (x ∷ xs) go = (go x, Each-map P f xs go)

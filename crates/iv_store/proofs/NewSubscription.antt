@@ -40,18 +40,18 @@ use Rattle.iv_command.specs.declared.command.Refusal.TheVariants.{Limit}
 use Rattle.iv_command.specs.declared.command.Reply.{Reply}
 use Rattle.iv_command.specs.declared.stop.Stop.{Stop}
 use Rattle.iv_command.specs.declared.stop.Stop.TheVariants.{Refused, Memory}
-use Rattle.iv_store.proofs.Beside.{is_own, place_pushed, slot_is}
-use Rattle.iv_store.proofs.RelationCircuits.{same_circuit, serves_circuit}
-use Rattle.iv_store.proofs.SubscriptionRounds.{all_beside, all_given, next_none, now_counted, rounds_more}
-use Rattle.iv_readers.proofs.RowLists.{from_none}
-use Rattle.iv_store.proofs.ListPairs.{all_at}
+use Rattle.iv_store.proofs.Beside.{is_own, place_pushed, slice_get-of_get_or}
+use Rattle.iv_store.proofs.RelationCircuits.{IsCircuitFor-other_readers, IsCircuitFor-Serves}
+use Rattle.iv_store.proofs.SubscriptionRounds.{AllByRecursion-IsBeside, AllByRecursion-AreGiven, beside_number-next, now_counted, rounds_more}
+use Rattle.iv_readers.proofs.RowLists.{Moves-from_none}
+use Rattle.iv_store.proofs.ListPairs.{AllByRecursion-get_or}
 use Rattle.iv_store.proofs.OpenCircuit.{opened_have, opened_same, others_rounds, own_rounds}
-use Rattle.iv_store.proofs.ReplacedCircuits.{IsSameReader, place_same, read_still}
-use Rattle.iv_store.proofs.SubscriptionViews.{difference_none, shown_is}
-use Rattle.iv_readers.proofs.Lists.{all_map, all_zip}
-use Rattle.iv_store.proofs.RequestSteps.{IsShown, each_shown, no_lines, none_ends, none_settled, refused_step}
+use Rattle.iv_store.proofs.ReplacedCircuits.{IsSameReader, place_same, AllByRecursion-IsSameReader}
+use Rattle.iv_store.proofs.SubscriptionViews.{difference-itself, shown_is}
+use Rattle.iv_readers.proofs.Lists.{AllByRecursion-map, AllByRecursion-zip}
+use Rattle.iv_store.proofs.RequestSteps.{IsShown, AllByRecursion-IsShown, flat_map-each_nothing, ending-Stands, filter-Stands, IsRefused-frame_refusal}
 use Rattle.iv_store.proofs.Totals.{circuits_within, total_counts}
-use Rattle.iv_store.proofs.Unread.{place_found, place_more, reads_it}
+use Rattle.iv_store.proofs.Unread.{place_found, is_some-position_append, and-session_acts_as}
 
 -- ---- what is kept
 
@@ -114,7 +114,7 @@ placed_lines false g e f fs gs h k l = λ j. h j ++ l j
 
 inserted_lines : (g : Subscription → List machine.Line) (e : Subscription) (fs : List Subscription) → AllByRecursion (λ f. g f ≡ []) fs → flat_map g (insert_subscription e fs) ≡ g e
 inserted_lines g e [] h = append-nil (g e)
-inserted_lines g e (f ∷ fs) h = placed_lines (nat_lt e.session f.session) g e f fs (insert_subscription e fs) h.0 (no_lines g fs h.1) (inserted_lines g e fs h.1)
+inserted_lines g e (f ∷ fs) h = placed_lines (nat_lt e.session f.session) g e f fs (insert_subscription e fs) h.0 (flat_map-each_nothing g fs h.1) (inserted_lines g e fs h.1)
 
 not_found : (k : ℕ) (es : List Subscription) → list_any (λ f. k == f.number) es ≡ false → subscription_of es k ≡ None
 not_found k [] n = refl
@@ -164,7 +164,7 @@ module _ (e : Store) (n k : ℕ) (name : Name) (h : IsSoundStore e) (x : IsOpena
   -- ---- its circuits
 
   still : (c : RoleCircuit) → IsRoleCircuit e c → IsRoleCircuit new c
-  still c i = record { known = i.known; is = same_circuit e new.subscriptions new.circuits new.last c.role (plan_at e.catalog c.rel) c.circuit i.is; opened = i.opened }
+  still c i = record { known = i.known; is = IsCircuitFor-other_readers e new.subscriptions new.circuits new.last c.role (plan_at e.catalog c.rel) c.circuit i.is; opened = i.opened }
 
   fresh : (c : RoleCircuit) → IsNewFor e (actor (frame_of e) n) k c → IsRoleCircuit new c
   fresh c i = still c (record {
@@ -177,7 +177,7 @@ module _ (e : Store) (n k : ℕ) (name : Name) (h : IsSoundStore e) (x : IsOpena
   old_read c r = any_inserted (λ y. (y.rel == c.rel) && session_acts_as (frame_of e) y.session c.role) s e.subscriptions r
 
   new_read : (c : RoleCircuit) → IsNewFor e (actor (frame_of e) n) k c → is_read (frame_of new) c ≡ true
-  new_read c i = own_inserted (λ y. (y.rel == c.rel) && session_acts_as (frame_of e) y.session c.role) s e.subscriptions (reads_it (frame_of e) s c x.opened i.acts i.shows)
+  new_read c i = own_inserted (λ y. (y.rel == c.rel) && session_acts_as (frame_of e) y.session c.role) s e.subscriptions (and-session_acts_as (frame_of e) s c x.opened i.acts i.shows)
 
   opens : (c : RoleCircuit) → IsRoleCircuit new c → IsRoleCircuit new (opened_to s.number c)
   opens c i = record { known = i.known; is = i.is; opened = record { came = i.opened.came; each = (self_le c.circuit.rounds, i.opened.each) } }
@@ -187,7 +187,7 @@ module _ (e : Store) (n k : ℕ) (name : Name) (h : IsSoundStore e) (x : IsOpena
 
   old_place : (y : Subscription) → is_some (place_of e y) ≡ true → is_some (place_of new y) ≡ true
   old_place y t = ap (λ (o : Option ℕ). is_some o) (place_same (actor (frame_of e) y.session) y.rel (e.circuits ++ added) new.circuits readers)
-      ∙ place_more (is_for (actor (frame_of e) y.session) y.rel) e.circuits added t
+      ∙ is_some-position_append (is_for (actor (frame_of e) y.session) y.rel) e.circuits added t
 
   new_place : is_some (place_of new s) ≡ true
   new_place = ap (λ (o : Option ℕ). is_some o) (place_same (actor (frame_of e) n) k (e.circuits ++ added) new.circuits readers ∙ first)
@@ -197,17 +197,18 @@ module _ (e : Store) (n k : ℕ) (name : Name) (h : IsSoundStore e) (x : IsOpena
     stored = record {
       numbers = numbers;
       database = h.stored.database;
-      shows = all_inserted (IsOpen new) s e.subscriptions (record { session = x.opened; known = x.below }) (all_map (IsOpen e) (IsOpen new) e.subscriptions (λ y o. record { session = o.session; known = o.known }) h.stored.shows);
+      shows = all_inserted (IsOpen new) s e.subscriptions (record { session = x.opened; known = x.below }) (AllByRecursion-map (IsOpen e) (IsOpen new) e.subscriptions (λ y o. record { session = o.session; known = o.known }) h.stored.shows);
     };
-    served = all_inserted (λ y. may_read new y ≡ true) s e.subscriptions (ap (λ o. not (is_some o)) x.reads) (all_map (λ y. may_read e y ≡ true) (λ y. may_read new y ≡ true) e.subscriptions (λ y r. r) h.served);
-    within = all_inserted (IsWithin new) s e.subscriptions fits (all_map (IsWithin e) (IsWithin new) e.subscriptions (λ y w. w) h.within);
+    served = all_inserted (λ y. may_read new y ≡ true) s e.subscriptions (ap (λ o. not (is_some o)) x.reads) (AllByRecursion-map (λ y. may_read e y ≡ true) (λ y. may_read new y ≡ true) e.subscriptions (λ y r. r) h.served);
+    within = all_inserted (IsWithin new) s e.subscriptions fits (AllByRecursion-map (IsWithin e) (IsWithin new) e.subscriptions (λ y w. w) h.within);
     circuits = opened_have s.number (IsRoleCircuit new) opens place (e.circuits ++ added)
-        (all_joined (IsRoleCircuit new) e.circuits added (all_map (IsRoleCircuit e) (IsRoleCircuit new) e.circuits still h.circuits) (all_map (IsNewFor e (actor (frame_of e) n) k) (IsRoleCircuit new) added fresh are));
+        (all_joined (IsRoleCircuit new) e.circuits added (AllByRecursion-map (IsRoleCircuit e) (IsRoleCircuit new) e.circuits still h.circuits) (AllByRecursion-map (IsNewFor e (actor (frame_of e) n) k) (IsRoleCircuit new) added fresh are));
     there = all_inserted (λ y. is_some (place_of new y) ≡ true) s e.subscriptions new_place
-        (all_map (λ y. is_some (place_of e y) ≡ true) (λ y. is_some (place_of new y) ≡ true) e.subscriptions old_place h.there);
-    read = read_still (frame_of new) (e.circuits ++ added) new.circuits readers (all_joined (λ c. is_read (frame_of new) c ≡ true) e.circuits added
-        (all_map (λ c. is_read (frame_of e) c ≡ true) (λ c. is_read (frame_of new) c ≡ true) e.circuits old_read h.read)
-        (all_map (IsNewFor e (actor (frame_of e) n) k) (λ c. is_read (frame_of new) c ≡ true) added new_read are));
+        (AllByRecursion-map (λ y. is_some (place_of e y) ≡ true) (λ y. is_some (place_of new y) ≡ true) e.subscriptions old_place h.there);
+    read =
+      AllByRecursion-IsSameReader (frame_of new) (e.circuits ++ added) new.circuits readers (all_joined (λ c. is_read (frame_of new) c ≡ true) e.circuits added
+        (AllByRecursion-map (λ c. is_read (frame_of e) c ≡ true) (λ c. is_read (frame_of new) c ≡ true) e.circuits old_read h.read)
+        (AllByRecursion-map (IsNewFor e (actor (frame_of e) n) k) (λ c. is_read (frame_of new) c ≡ true) added new_read are));
   }
 
   -- ---- its rounds, and those of the others
@@ -222,10 +223,10 @@ module _ (e : Store) (n k : ℕ) (name : Name) (h : IsSoundStore e) (x : IsOpena
     there : is_some (place_of e y) ≡ true
 
   were_open : AllByRecursion WasOpen e.subscriptions
-  were_open = all_zip (λ y. is_some (place_of e y) ≡ true) (λ y. (beside_number y.number (rounds e) ≡ rounds_of e y) × (y.number ≤ e.last)) WasOpen e.subscriptions
+  were_open = AllByRecursion-zip (λ y. is_some (place_of e y) ≡ true) (λ y. (beside_number y.number (rounds e) ≡ rounds_of e y) × (y.number ≤ e.last)) WasOpen e.subscriptions
       (λ y t b. record { beside = b.0; given = b.1; there = t }) h.there
-      (all_zip (λ y. beside_number y.number (rounds e) ≡ rounds_of e y) (λ y. y.number ≤ e.last) (λ y. (beside_number y.number (rounds e) ≡ rounds_of e y) × (y.number ≤ e.last)) e.subscriptions
-      (λ y b g. (b, g)) (all_beside e h.stored) (all_given e.last e.subscriptions h.stored.numbers.given))
+      (AllByRecursion-zip (λ y. beside_number y.number (rounds e) ≡ rounds_of e y) (λ y. y.number ≤ e.last) (λ y. (beside_number y.number (rounds e) ≡ rounds_of e y) × (y.number ≤ e.last)) e.subscriptions
+      (λ y b g. (b, g)) (AllByRecursion-IsBeside e h.stored) (AllByRecursion-AreGiven e.last e.subscriptions h.stored.numbers.given))
 
   old_rounds : (y : Subscription) → WasOpen y → rounds_of new y ≡ beside_number y.number (rounds e)
   old_rounds y o = others_rounds s.number (role_of y) y.rel y.number (below_next y.number e.last o.given) place (e.circuits ++ added)
@@ -233,11 +234,11 @@ module _ (e : Store) (n k : ℕ) (name : Name) (h : IsSoundStore e) (x : IsOpena
       ∙ sym o.beside
 
   new_rounds : rounds_of new s ≡ beside_number s.number (rounds e)
-  new_rounds = own_rounds s.number (actor (frame_of e) n) k (e.circuits ++ added) place first ∙ sym (next_none e)
+  new_rounds = own_rounds s.number (actor (frame_of e) n) k (e.circuits ++ added) place first ∙ sym (beside_number-next e)
 
   pub opened_counted : AreCounted (seen e) (subscribe name) (seen new)
   opened_counted = now_counted e new opened_sound.stored (λ y was now. now ≡ was) (all_inserted (λ y. rounds_of new y ≡ beside_number y.number (rounds e)) s e.subscriptions new_rounds
-      (all_map WasOpen (λ y. rounds_of new y ≡ beside_number y.number (rounds e)) e.subscriptions old_rounds were_open))
+      (AllByRecursion-map WasOpen (λ y. rounds_of new y ≡ beside_number y.number (rounds e)) e.subscriptions old_rounds were_open))
 
   module _ (T : Lists) (stands : Stands T e.tables) where
     after_is : after (at e T) n (subscribe name) ≡ at new T
@@ -250,19 +251,19 @@ module _ (e : Store) (n k : ℕ) (name : Name) (h : IsSoundStore e) (x : IsOpena
     before = ap (λ o. if_some o [] (view_shown (at e T))) (not_found (e.last + 1) e.subscriptions (has_number-next e.last e.subscriptions h.stored.numbers.given))
 
     pub opened_left : settled (subscribe name) (after (at e T) n (subscribe name)) ≡ at new T
-    opened_left = ap (settled (subscribe name)) after_is ∙ ap (λ ss. at (record new { subscriptions = ss }) T) (none_settled new T opened_sound stands)
+    opened_left = ap (settled (subscribe name)) after_is ∙ ap (λ ss. at (record new { subscriptions = ss }) T) (filter-Stands new T opened_sound stands)
 
     -- what was open before gets no line
     old_line : (y : Subscription) → IsShown e y → IsShown new y → ending (at new T) y ≡ None → line_for (at e T) (at new T) (ending (at new T)) y ≡ []
     old_line y a b c = (λ i. machine_line (c i) y (difference (shown_is e T y a.found i) (shown_is new T y b.found i)))
-        ∙ ap (machine_line None y) (difference_none (shown_rows e T y))
+        ∙ ap (machine_line None y) (difference-itself (shown_rows e T y))
 
     new_shown : P s × AllByRecursion P e.subscriptions
     new_shown = all_uninserted P s e.subscriptions
-        (all_zip (IsShown new) (λ y. ending (at new T) y ≡ None) P new.subscriptions (λ y a b. (a, b)) (each_shown new opened_sound.stored) (none_ends new T opened_sound stands))
+        (AllByRecursion-zip (IsShown new) (λ y. ending (at new T) y ≡ None) P new.subscriptions (λ y a b. (a, b)) (AllByRecursion-IsShown new opened_sound.stored) (ending-Stands new T opened_sound stands))
 
     old_lines : AllByRecursion (λ y. line_for (at e T) (at new T) (ending (at new T)) y ≡ []) e.subscriptions
-    old_lines = all_zip (IsShown e) P (λ y. line_for (at e T) (at new T) (ending (at new T)) y ≡ []) e.subscriptions (λ y a b. old_line y a b.0 b.1) (each_shown e h.stored) new_shown.1
+    old_lines = AllByRecursion-zip (IsShown e) P (λ y. line_for (at e T) (at new T) (ending (at new T)) y ≡ []) e.subscriptions (λ y a b. old_line y a b.0 b.1) (AllByRecursion-IsShown e h.stored) new_shown.1
 
     -- and the new one its rows
     new_line : line_for (at e T) (at new T) (ending (at new T)) s ≡ machine_line None s (difference [] (shown_rows e T s))
@@ -270,7 +271,7 @@ module _ (e : Store) (n k : ℕ) (name : Name) (h : IsSoundStore e) (x : IsOpena
 
     pub opened_sent : sent e T n (subscribe name) ≡ machine_line None s (difference [] (shown_rows e T s))
     opened_sent = (λ i. changes (subscribe name) (at e T) (after_is i) (settled (subscribe name) (after_is i)))
-        ∙ ap (λ ss. flat_map (line_for (at e T) (at (record new { subscriptions = ss }) T) (ending (at new T))) new.subscriptions) (none_settled new T opened_sound stands)
+        ∙ ap (λ ss. flat_map (line_for (at e T) (at (record new { subscriptions = ss }) T) (ending (at new T))) new.subscriptions) (filter-Stands new T opened_sound stands)
         ∙ inserted_lines (line_for (at e T) (at new T) (ending (at new T))) s e.subscriptions old_lines
         ∙ new_line
 
@@ -280,9 +281,9 @@ subscribed_no_refusal k r h = cc
 -- ---- its circuit, and its first lines
 
 -- a role comes to a circuit of what the relation shows to it
-pub come_at : (e new : Store) (role rel place : ℕ) (c : Running) → position (is_for role rel) e.circuits ≡ None → IsCircuitFor e role (plan_at e.catalog rel) c → place ≡ length e.circuits
+pub HasCircuitAt-HasComeTo : (e new : Store) (role rel place : ℕ) (c : Running) → position (is_for role rel) e.circuits ≡ None → IsCircuitFor e role (plan_at e.catalog rel) c → place ≡ length e.circuits
     → (ks : List RoleCircuit) → HasComeTo e.circuits role rel c ks → new ≡ record e { circuits = ks } → HasCircuitAt e role rel place new
-come_at e d role rel place c none is at ks come state =
+HasCircuitAt-HasComeTo e d role rel place c none is at ks come state =
     let k = come_to role rel come.at c in
     let left : d ≡ record e { circuits = e.circuits ++ k ∷ [] } = state ∙ ap (λ cs. record e { circuits = cs }) come.added in
     record {
@@ -296,34 +297,34 @@ come_at e d role rel place c none is at ks come state =
     }
 
 -- a circuit that lets through what the role may see is one of the role
-pub like_is : (e : Store) → AllByRecursion (IsRoleCircuit e) e.circuits → (role rel : ℕ) (o : Option ℕ) → IfSome o (IsServed e.circuits e.known.rights role rel) → IfSome o (IsLike e role rel)
-like_is e are role rel None h = tt
-like_is e are role rel (Some place) h = record {
+pub IsLike-IsServed : (e : Store) → AllByRecursion (IsRoleCircuit e) e.circuits → (role rel : ℕ) (o : Option ℕ) → IfSome o (IsServed e.circuits e.known.rights role rel) → IfSome o (IsLike e role rel)
+IsLike-IsServed e are role rel None h = tt
+IsLike-IsServed e are role rel (Some place) h = record {
   low = h.low;
   is = λ k at.
-      let i = all_at (IsRoleCircuit e) e.circuits place k are h.low at in
-      subst (λ r. IsCircuitFor e role (plan_at e.catalog r) k.circuit) (h.shows k at) (serves_circuit e e.known.rights k.role role (plan_at e.catalog k.rel) k.circuit i.is (h.serves k at));
+      let i = AllByRecursion-get_or (IsRoleCircuit e) e.circuits place k are h.low at in
+      subst (λ r. IsCircuitFor e role (plan_at e.catalog r) k.circuit) (h.shows k at) (IsCircuitFor-Serves e e.known.rights k.role role (plan_at e.catalog k.rel) k.circuit i.is (h.serves k at));
 }
 
-pub first_lines : (e : Store) (place : ℕ) (k : RoleCircuit) → place < length e.circuits → k ≡ get_or e.circuits place k → (s : Subscription) (showed : Weighed) → showed ≡ total_of k.circuit.node
+pub AreFirstLines-machine_line : (e : Store) (place : ℕ) (k : RoleCircuit) → place < length e.circuits → k ≡ get_or e.circuits place k → (s : Subscription) (showed : Weighed) → showed ≡ total_of k.circuit.node
     → (rows : Weighed) → AreInOrder showed false rows → (lines : List machine.Line) → lines ≡ machine_line None s rows → AreFirstLines s (total_at e place) lines
-first_lines e place k low at s showed is rows order lines told all counts =
-    let total = ap (λ o. if_some o [] (λ (c : RoleCircuit). total_of c.circuit.node)) (slot_is e.circuits place k low at) ∙ sym is in
-    told ∙ ap (machine_line None s) (order [] all (from_none showed all (subst (λ (es : Weighed). Counts es all) total counts)))
+AreFirstLines-machine_line e place k low at s showed is rows order lines told all counts =
+    let total = ap (λ o. if_some o [] (λ (c : RoleCircuit). total_of c.circuit.node)) (slice_get-of_get_or e.circuits place k low at) ∙ sym is in
+    told ∙ ap (machine_line None s) (order [] all (Moves-from_none showed all (subst (λ (es : Weighed). Counts es all) total counts)))
 
 -- ---- the step
 
 -- the first tests refuse it
-pub not_acting : (e : Store) (n : ℕ) (name : Name) (stop : Stop) → IsActingOn (database_of e) n name (Err stop) → MayOpen e n name (Err stop)
-not_acting e n name (Refused r) told =
+pub MayOpen-IsActingOn : (e : Store) (n : ℕ) (name : Name) (stop : Stop) → IsActingOn (database_of e) n name (Err stop) → MayOpen e n name (Err stop)
+MayOpen-IsActingOn e n name (Refused r) told =
     let f = frame_of e in
     told (missing f (missing_for f (actor f n) (rel_of f.catalog name)) ∷ full 16 (count_by (λ s. n == s.session) f.subscriptions) ∷ full (2 ^ 63) (f.last + 1) ∷ [])
-not_acting e n name Memory told = tt
+MayOpen-IsActingOn e n name Memory told = tt
 
 -- all tests that look at no row
-pub not_opened : (e : Store) (n : ℕ) (name : Name) (stop : Stop) → MayOpen e n name (Err stop) → IsStep e n (subscribe name) (Err stop) e
-not_opened e n name (Refused r) told = refused_step e e n (subscribe name) r told refl
-not_opened e n name Memory told = tt
+pub IsStep-MayOpen : (e : Store) (n : ℕ) (name : Name) (stop : Stop) → MayOpen e n name (Err stop) → IsStep e n (subscribe name) (Err stop) e
+IsStep-MayOpen e n name (Refused r) told = IsRefused-frame_refusal e e n (subscribe name) r told refl
+IsStep-MayOpen e n name Memory told = tt
 
 module _ (e : Store) (n k : ℕ) (name : Name) (h : IsSoundStore e) (x : IsOpenable e n name k) (role : ℕ) (acts : role ≡ actor (frame_of e) n) where
   -- where what it would show is beyond the limits
@@ -352,11 +353,11 @@ module _ (e : Store) (n k : ℕ) (name : Name) (h : IsSoundStore e) (x : IsOpena
 
     circuits : AllByRecursion (IsRoleCircuit joined) joined.circuits
     circuits = all_joined (IsRoleCircuit joined) e.circuits added
-        (all_map (IsRoleCircuit e) (IsRoleCircuit joined) e.circuits
-        (λ c i. record { known = i.known; is = same_circuit e e.subscriptions joined.circuits e.last c.role (plan_at e.catalog c.rel) c.circuit i.is; opened = i.opened }) h.circuits)
-        (all_map (IsNewFor e (actor (frame_of e) n) k) (IsRoleCircuit joined) added (λ c i. record {
+        (AllByRecursion-map (IsRoleCircuit e) (IsRoleCircuit joined) e.circuits
+        (λ c i. record { known = i.known; is = IsCircuitFor-other_readers e e.subscriptions joined.circuits e.last c.role (plan_at e.catalog c.rel) c.circuit i.is; opened = i.opened }) h.circuits)
+        (AllByRecursion-map (IsNewFor e (actor (frame_of e) n) k) (IsRoleCircuit joined) added (λ c i. record {
           known = subst (λ rel. rel < length e.catalog) (sym i.shows) x.below;
-          is = same_circuit e e.subscriptions joined.circuits e.last c.role (plan_at e.catalog c.rel) c.circuit
+          is = IsCircuitFor-other_readers e e.subscriptions joined.circuits e.last c.role (plan_at e.catalog c.rel) c.circuit
               (subst (λ rel. IsCircuitFor e c.role (plan_at e.catalog rel) c.circuit) (sym i.shows) (subst (λ r. IsCircuitFor e r (plan_at e.catalog k) c.circuit) (sym i.acts) i.is));
           opened = unopened c i.came i.opened;
         }) are)

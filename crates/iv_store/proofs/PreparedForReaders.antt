@@ -33,16 +33,16 @@ use Rattle.iv_readers.specs.declared.changes.Prepared.{Prepared}
 use Rattle.iv_store.specs.declared.touching.Reader.{Reader}
 use Rattle.iv_store.specs.declared.touching.Touched.{Touched}
 use Rattle.iv_database.proofs.FrameTests.{and-true_both}
-use Rattle.iv_store.proofs.Beside.{for_is}
+use Rattle.iv_store.proofs.Beside.{same-is_for}
 use Rattle.iv_readers.proofs.Held.{same_number}
-use Rattle.iv_readers.proofs.Lists.{all_map, all_zip, is_self, apart, below_not}
+use Rattle.iv_readers.proofs.Lists.{AllByRecursion-map, AllByRecursion-zip, is_self, eq-above, eq-below}
 use Rattle.iv_store.proofs.Unread.{place_found}
 
 -- what stands at an index, whatever is read behind the end
-pub own_at : {X : Type 0} (xs : List X) (j : ℕ) (d : X) → j < length xs → get_or xs j d ≡ get_or xs j (get_or xs j d)
-own_at [] j d l = absurd (omega (arith, l))
-own_at (x ∷ xs) zero d l = refl
-own_at (x ∷ xs) (suc j) d l = own_at xs j d (omega (arith, l))
+pub get_or-own_default : {X : Type 0} (xs : List X) (j : ℕ) (d : X) → j < length xs → get_or xs j d ≡ get_or xs j (get_or xs j d)
+get_or-own_default [] j d l = absurd (omega (arith, l))
+get_or-own_default (x ∷ xs) zero d l = refl
+get_or-own_default (x ∷ xs) (suc j) d l = get_or-own_default xs j d (omega (arith, l))
 
 -- ---- circuits that are not touched
 
@@ -99,9 +99,9 @@ module _ (given : Given) (ts : List ℕ) (others : (t : ℕ) → list_any (λ s.
         by false e go = go (ap (λ b. b || list_any (λ j. j == at) is) (sym (sym same ∙ e)) ∙ any)
 
 -- the tables that do not change are given nothing
-pub no_change : (t : ℕ) (cs : List Change) → list_any (λ s. t == s) (map (λ c. c.rel) cs) ≡ false → change_at cs t ≡ []
-no_change t [] h = refl
-no_change t (c ∷ cs) h = by (t == c.rel) refl h (no_change t cs)
+pub change_at-not_changed : (t : ℕ) (cs : List Change) → list_any (λ s. t == s) (map (λ c. c.rel) cs) ≡ false → change_at cs t ≡ []
+change_at-not_changed t [] h = refl
+change_at-not_changed t (c ∷ cs) h = by (t == c.rel) refl h (change_at-not_changed t cs)
   where
     swap : (m n : ℕ) → (m == n) ≡ (n == m)
     swap m n = grind (arith, nat_tests)
@@ -112,7 +112,7 @@ no_change t (c ∷ cs) h = by (t == c.rel) refl h (no_change t cs)
     by false e k go = ap (λ b. cond b c.rows (change_at cs t)) (swap c.rel t ∙ e) ∙ go k
 
 pub given_none : (given : Given) (changes : List Change) → AreChangesGiven given changes → (t : ℕ) → list_any (λ s. t == s) (map (λ c. c.rel) changes) ≡ false → given t ≡ []
-given_none given changes is t none = empty (given t) (sym (rows_in-IsZSet (given t) (is.zsets t)) ∙ rows_in-SameZ (given t) [] (λ q. is.same t q ∙ ap (λ (es : Weighed). weight_of es q) (no_change t changes none)))
+given_none given changes is t none = empty (given t) (sym (rows_in-IsZSet (given t) (is.zsets t)) ∙ rows_in-SameZ (given t) [] (λ q. is.same t q ∙ ap (λ (es : Weighed). weight_of es q) (change_at-not_changed t changes none)))
   where
     empty : (es : Weighed) → length es ≡ 0 → es ≡ []
     empty [] h = refl
@@ -134,30 +134,30 @@ by_reader e given [] [] h = all_free e.circuits
 by_reader e given [] (p ∷ ps) h = absurd h
 by_reader e given (i ∷ is) [] h = absurd h
 by_reader e given (i ∷ is) (p ∷ ps) h =
-    all_zip (λ k. k.at ≡ i → IsMadeOf given k.circuit p) (λ k. Each (λ j q. (q.place ≡ j) × (k.at ≡ j → IsMadeOf given k.circuit q)) is ps)
+    AllByRecursion-zip (λ k. k.at ≡ i → IsMadeOf given k.circuit p) (λ k. Each (λ j q. (q.place ≡ j) × (k.at ≡ j → IsMadeOf given k.circuit q)) is ps)
     (λ k. Each (λ j q. (q.place ≡ j) × (k.at ≡ j → IsMadeOf given k.circuit q)) (i ∷ is) (p ∷ ps)) e.circuits
     (λ k m r. ((h.0.place, m), r)) h.0.made (by_reader e given is ps h.1)
 
-pub each_place : (e : Store) (given : Given) (is : List ℕ) (ps : List Prepared) → Each (IsMadeAt e given) is ps → places_in ps ≡ is
-each_place e given [] [] h = refl
-each_place e given [] (p ∷ ps) h = absurd h
-each_place e given (i ∷ is) [] h = absurd h
-each_place e given (i ∷ is) (p ∷ ps) h = λ j. h.0.place j ∷ each_place e given is ps h.1 j
+pub places_in-Each : (e : Store) (given : Given) (is : List ℕ) (ps : List Prepared) → Each (IsMadeAt e given) is ps → places_in ps ≡ is
+places_in-Each e given [] [] h = refl
+places_in-Each e given [] (p ∷ ps) h = absurd h
+places_in-Each e given (i ∷ is) [] h = absurd h
+places_in-Each e given (i ∷ is) (p ∷ ps) h = λ j. h.0.place j ∷ places_in-Each e given is ps h.1 j
 
-pub made_places : (e : Store) (given : Given) (is : List ℕ) (all : Option (Vec Prepared)) → AreMadeAt e given is all → IfSome all (λ ps. places_in ps.items ≡ is)
-made_places e given is None made = tt
-made_places e given is (Some ps) made = each_place e given is ps.items made
+pub places_in-AreMadeAt : (e : Store) (given : Given) (is : List ℕ) (all : Option (Vec Prepared)) → AreMadeAt e given is all → IfSome all (λ ps. places_in ps.items ≡ is)
+places_in-AreMadeAt e given is None made = tt
+places_in-AreMadeAt e given is (Some ps) made = places_in-Each e given is ps.items made
 
 -- what was made at the places of the circuits that scan one of the tables, where nothing is given for others
-pub prepared_by : (e : Store) (given : Given) (tables : List ℕ) → ((t : ℕ) → list_any (λ s. t == s) tables ≡ false → given t ≡ []) → (places : List ℕ) → ArePlaces tables e.circuits places
+pub AreMade-Each : (e : Store) (given : Given) (tables : List ℕ) → ((t : ℕ) → list_any (λ s. t == s) tables ≡ false → given t ≡ []) → (places : List ℕ) → ArePlaces tables e.circuits places
     → (ps : List Prepared) → Each (IsMadeAt e given) places ps → AreMade e given ps
-prepared_by e given tables others places at ps made =
-    let same : places_in ps ≡ places = each_place e given places ps made in
+AreMade-Each e given tables others places at ps made =
+    let same : places_in ps ≡ places = places_in-Each e given places ps made in
     record {
       rise = subst (AreRisingFrom 0) (sym same) at.rise;
       read = subst (AllByRecursion (IsPlace e.circuits)) (sym same) at.read;
       made = each_spread (λ k p. IsMadeOf given k.circuit p) ps e.circuits
-          (all_zip (λ k. Each (λ i p. (p.place ≡ i) × (k.at ≡ i → IsMadeOf given k.circuit p)) places ps) (λ k. list_any (λ i. i == k.at) places ≡ touches tables k.circuit)
+          (AllByRecursion-zip (λ k. Each (λ i p. (p.place ≡ i) × (k.at ≡ i → IsMadeOf given k.circuit p)) places ps) (λ k. list_any (λ i. i == k.at) places ≡ touches tables k.circuit)
           (λ k. IsMadeOf given k.circuit (prepared_for k.at ps)) e.circuits
           (λ k m any. made_for given tables others k.circuit k.at places ps m any) (by_reader e given places ps made) at.each);
     }
@@ -165,22 +165,22 @@ prepared_by e given tables others places at ps made =
 module _ (e : Store) (changes : List Change) (given : Given) (is : AreChangesGiven given changes) (places : List ℕ) (at : ArePlaces (map (λ c. c.rel) changes) e.circuits places) where
   pub prepared_all : (all : Option (Vec Prepared)) → AreMadeAt e given places all → ArePreparedFor e changes all
   prepared_all None made = (given, is, made)
-  prepared_all (Some ps) made = (given, is, prepared_by e given (map (λ c. c.rel) changes) (given_none given changes is) places at ps.items made)
+  prepared_all (Some ps) made = (given, is, AreMade-Each e given (map (λ c. c.rel) changes) (given_none given changes is) places at ps.items made)
 
 -- where no circuit scans one of the tables, nothing is prepared
-pub none_prepared : (e : Store) (changes : List Change) (places : List ℕ) (ps : Vec Prepared) → ps.items ≡ [] → places ≡ [] → ((t : ℕ) → IsZSet (change_at changes t))
+pub ArePreparedFor-none : (e : Store) (changes : List Change) (places : List ℕ) (ps : Vec Prepared) → ps.items ≡ [] → places ≡ [] → ((t : ℕ) → IsZSet (change_at changes t))
     → ArePlaces (map (λ c. c.rel) changes) e.circuits places → ArePreparedFor e changes (Some ps)
-none_prepared e changes places ps none no_places zsets at =
+ArePreparedFor-none e changes places ps none no_places zsets at =
     let given : Given = change_at changes in
     prepared_all e changes given (record { zsets = zsets; same = λ t q. refl }) places at (Some ps)
     (subst (λ is. Each (IsMadeAt e given) is ps.items) (sym no_places) (subst (Each (IsMadeAt e given) []) (sym none) tt))
 
 -- ---- at a place
 
-pub made_at : (e : Store) (given : Given) (i : ℕ) (p : Prepared) (c : Running) → p.place ≡ i → IsMadeOf given c p → AllByRecursion (λ k. k.at ≡ i → c ≡ k.circuit) e.circuits → IsMadeAt e given i p
-made_at e given i p c place made same = record {
+pub IsMadeAt-IsMadeOf : (e : Store) (given : Given) (i : ℕ) (p : Prepared) (c : Running) → p.place ≡ i → IsMadeOf given c p → AllByRecursion (λ k. k.at ≡ i → c ≡ k.circuit) e.circuits → IsMadeAt e given i p
+IsMadeAt-IsMadeOf e given i p c place made same = record {
   place = place;
-  made = all_map (λ k. k.at ≡ i → c ≡ k.circuit) (λ k. k.at ≡ i → IsMadeOf given k.circuit p) e.circuits (λ k is here. subst (λ x. IsMadeOf given x p) (is here) made) same;
+  made = AllByRecursion-map (λ k. k.at ≡ i → c ≡ k.circuit) (λ k. k.at ≡ i → IsMadeOf given k.circuit p) e.circuits (λ k is here. subst (λ x. IsMadeOf given x p) (is here) made) same;
 }
 
 -- none of a place below all
@@ -188,7 +188,7 @@ rows_none : (i m : ℕ) (ps : List Prepared) → i < m → AreRisingFrom m (plac
 rows_none i m [] low r = refl
 rows_none i m (p ∷ ps) low r =
     let above = r.0 in
-    ap (λ c. cond c (shared_rows p.rows) (rows_at i ps)) (apart p.place i (omega (arith, low, above))) ∙ rows_none i (suc p.place) ps (omega (arith, low, above)) r.1
+    ap (λ c. cond c (shared_rows p.rows) (rows_at i ps)) (eq-above p.place i (omega (arith, low, above))) ∙ rows_none i (suc p.place) ps (omega (arith, low, above)) r.1
 
 -- ---- the rows at a place, one after another
 
@@ -215,12 +215,13 @@ at_least m (q ∷ ps) r (suc j) d l =
     let low = r.0 in
     omega (arith, above, low)
 
-pub in_order : (m : ℕ) (ps : List Prepared) → AreRisingFrom m (places_in ps) → IsNonDecreasingBy (λ (p : Prepared). p.place) ps
-in_order m [] r i j d le lt = absurd (omega (arith, lt))
-in_order m (q ∷ ps) r zero zero d le lt = omega arith
-in_order m (q ∷ ps) r zero (suc j) d le lt = let above = at_least (suc q.place) ps r.1 j d (omega (arith, lt)) in omega (arith, above)
-in_order m (q ∷ ps) r (suc i) zero d le lt = absurd (omega (arith, le))
-in_order m (q ∷ ps) r (suc i) (suc j) d le lt = in_order (suc q.place) ps r.1 i j d (omega (arith, le)) (omega (arith, lt))
+pub IsNonDecreasingBy-AreRisingFrom : (m : ℕ) (ps : List Prepared) → AreRisingFrom m (places_in ps) → IsNonDecreasingBy (λ (p : Prepared). p.place) ps
+IsNonDecreasingBy-AreRisingFrom m [] r i j d le lt = absurd (omega (arith, lt))
+IsNonDecreasingBy-AreRisingFrom m (q ∷ ps) r zero zero d le lt = omega arith
+IsNonDecreasingBy-AreRisingFrom m (q ∷ ps) r zero (suc j) d le lt = let above = at_least (suc q.place) ps r.1 j d (omega (arith, lt)) in omega (arith, above)
+IsNonDecreasingBy-AreRisingFrom m (q ∷ ps) r (suc i) zero d le lt = absurd (omega (arith, le))
+IsNonDecreasingBy-AreRisingFrom m (q ∷ ps) r (suc i) (suc j) d le lt =
+    IsNonDecreasingBy-AreRisingFrom (suc q.place) ps r.1 i j d (omega (arith, le)) (omega (arith, lt))
 
 rows_past : (place m : ℕ) (ps : List Prepared) (i : ℕ) (p : Prepared) → AreRisingFrom m (places_in ps) → i < length ps → p ≡ get_or ps i p → place < p.place → rows_at place (drop i ps) ≡ []
 rows_past place m [] i p r low at above = absurd (omega (arith, low))
@@ -232,7 +233,7 @@ rows_skip place [] zero less = refl
 rows_skip place [] (suc i) less = refl
 rows_skip place (q ∷ ps) zero less = refl
 rows_skip place (q ∷ ps) (suc i) less =
-    ap (λ b. cond b (shared_rows q.rows) (rows_at place ps)) (below_not place q.place (ltb-true q.place place (less 0 q (omega arith) (omega arith))))
+    ap (λ b. cond b (shared_rows q.rows) (rows_at place ps)) (eq-below place q.place (ltb-true q.place place (less 0 q (omega arith) (omega arith))))
     ∙ rows_skip place ps i (λ k d low high. less (suc k) d (omega arith) (omega (arith, high)))
 
 -- the point from which on no place is below the one
@@ -281,7 +282,7 @@ module _ (role rel : ℕ) where
   at_place (x ∷ ks) i at h is =
       let p = position-Some (is_for role rel) (x ∷ ks) i x h in
       let k = get_or (x ∷ ks) i x in
-      let own : k ≡ get_or (x ∷ ks) i k = own_at (x ∷ ks) i x p.0 in
+      let own : k ≡ get_or (x ∷ ks) i k = get_or-own_default (x ∷ ks) i x p.0 in
       at_index (x ∷ ks) i k x p.0 p.1 p.2 own ∙ ap (λ n. Some n) (sym (is k own))
 
 -- the rows for a place are those of what was prepared for it
@@ -336,7 +337,7 @@ places_stay : (ts is : List ℕ) (ks : List RoleCircuit) (ps : List Prepared) (m
 places_stay ts is ks ps ms t a = record {
   rise = a.rise;
   each = flags_stay ts is ks ps ms t a.each;
-  read = all_map (IsPlace ks) (IsPlace ms) is (λ i h. place_stays i ks ps ms t ∙ h) a.read;
+  read = AllByRecursion-map (IsPlace ks) (IsPlace ms) is (λ i h. place_stays i ks ps ms t ∙ h) a.read;
 }
 
 rels_stay : (ts : List ℕ) (ks : List RoleCircuit) (ps : List Prepared) (ms : List RoleCircuit) → HaveBecome TookChange (length ps) ks ps ms → rels_of ts ms ≡ rels_of ts ks
@@ -395,9 +396,9 @@ no_rows_at place (p ∷ ps) h =
     by false x y = y
 
 -- no reader has a line then
-pub no_lines_at : (ps : List Prepared) → list_all has_no_rows ps ≡ true → (rs : List Reader) → flat_map (line_at ps) rs ≡ []
-no_lines_at ps h [] = refl
-no_lines_at ps h (r ∷ rs) = λ i. machine_line None r.subscription (no_rows_at r.place ps h i) ++ no_lines_at ps h rs i
+pub flat_map-has_no_rows : (ps : List Prepared) → list_all has_no_rows ps ≡ true → (rs : List Reader) → flat_map (line_at ps) rs ≡ []
+flat_map-has_no_rows ps h [] = refl
+flat_map-has_no_rows ps h (r ∷ rs) = λ i. machine_line None r.subscription (no_rows_at r.place ps h i) ++ flat_map-has_no_rows ps h rs i
 
 rows_absent : (place : ℕ) (ps : List Prepared) → list_any (λ n. n == place) (places_in ps) ≡ false → rows_at place ps ≡ []
 rows_absent place [] h = refl
@@ -425,7 +426,7 @@ module _ (ts is : List ℕ) (role rel : ℕ) where
       rels = rels_of ts ks
 
       own : is_for role rel k ≡ true → (k.rel == rel) ≡ true
-      own t = ap (λ r. r == rel) (for_is role rel k t).1 ∙ is_self rel
+      own t = ap (λ r. r == rel) (same-is_for role rel k t).1 ∙ is_self rel
 
       by : (b c : Bool) → is_for role rel k ≡ b → list_any (λ j. j == k.at) is ≡ c → cond b (Some k.at) (at_for role rel ks) ≡ Some i → list_any (λ r. r == rel) (cond c (k.rel ∷ rels) rels) ≡ false
           → (at_for role rel ks ≡ Some i → list_any (λ r. r == rel) rels ≡ false → list_any (λ j. j == i) is ≡ false) → list_any (λ j. j == i) is ≡ false
@@ -451,8 +452,8 @@ module _ (rs : List ℕ) (ss : List Session) (ks : List RoleCircuit) (os : List 
       ∙ ap (λ (x : Option ℕ). record { subscription = o; place = unwrap_or x 0 } ∷ further) is
 
 -- of an open session the place is that of the circuit that its role reads
-pub place_same : (e : Store) (o : Subscription) → is_open (frame_of e) o.session ≡ true → place_among e.sessions e.circuits o ≡ at_for (actor (frame_of e) o.session) o.rel e.circuits
-place_same e o shows = by (session_of e.sessions o.session) shows
+pub place_among-is_open : (e : Store) (o : Subscription) → is_open (frame_of e) o.session ≡ true → place_among e.sessions e.circuits o ≡ at_for (actor (frame_of e) o.session) o.rel e.circuits
+place_among-is_open e o shows = by (session_of e.sessions o.session) shows
   where
     by : (x : Option Session) → is_some x ≡ true
         → if_some x None (λ s. at_for s.role o.rel e.circuits) ≡ at_for (unwrap_or (option_map (λ s. s.role) x) (length e.known.rights.roles)) o.rel e.circuits
@@ -488,7 +489,7 @@ module _ (e : Store) (ts : List ℕ) (ps : List Prepared) (at : ArePlaces ts e.c
           ≡ line_by e whole o ++ flat_map (line_by e whole) os
       by true q rest =
           let one : machine_line None o (rows_at (unwrap_or (place_among e.sessions e.circuits o) 0) ps) ≡ line_by e whole o =
-          ap (λ x. machine_line None o (rows_at (unwrap_or x 0) ps)) (place_same e o shows.0.session ∙ found) ∙ placed_line e ps o i found in
+          ap (λ x. machine_line None o (rows_at (unwrap_or x 0) ps)) (place_among-is_open e o shows.0.session ∙ found) ∙ placed_line e ps o i found in
           λ j. one j ++ rest j
       by false q rest =
           let none : rows_at i ps ≡ [] = rows_absent i ps (not_among ts (places_in ps) role o.rel e.circuits i at.each found q) in

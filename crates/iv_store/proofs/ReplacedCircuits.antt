@@ -39,9 +39,9 @@ module _ (role rel : ℕ) where
   place_same ks ns h = let r = first_same ks ns h in λ i. cond (nat_lt (r.0 i) (r.1 i)) (Some (r.0 i)) None
 
 -- and each is read as before
-pub read_still : (f : Frame) (ks ns : List RoleCircuit) → Each IsSameReader ks ns → AllByRecursion (λ k. is_read f k ≡ true) ks → AllByRecursion (λ k. is_read f k ≡ true) ns
-read_still f [] [] h a = tt
-read_still f [] (n ∷ ns) h a = absurd h
-read_still f (k ∷ ks) [] h a = absurd h
-read_still f (k ∷ ks) (n ∷ ns) h a =
-    ((λ i. list_any (λ s. (s.rel == h.0.rel i) && session_acts_as f s.session (h.0.role i)) f.subscriptions) ∙ a.0, read_still f ks ns h.1 a.1)
+pub AllByRecursion-IsSameReader : (f : Frame) (ks ns : List RoleCircuit) → Each IsSameReader ks ns → AllByRecursion (λ k. is_read f k ≡ true) ks → AllByRecursion (λ k. is_read f k ≡ true) ns
+AllByRecursion-IsSameReader f [] [] h a = tt
+AllByRecursion-IsSameReader f [] (n ∷ ns) h a = absurd h
+AllByRecursion-IsSameReader f (k ∷ ks) [] h a = absurd h
+AllByRecursion-IsSameReader f (k ∷ ks) (n ∷ ns) h a =
+    ((λ i. list_any (λ s. (s.rel == h.0.rel i) && session_acts_as f s.session (h.0.role i)) f.subscriptions) ∙ a.0, AllByRecursion-IsSameReader f ks ns h.1 a.1)

@@ -61,9 +61,9 @@ module _ (e new : Store) (n : ℕ) (act : machine.Act) (lines : List machine.Lin
 abbrev pub shown_by : Store → (failed : Bool) → Engine
 shown_by e failed = record (seen e) { failed = failed }
 
-pub counted_seen : (e new : Store) (old : Engine) (failed : Bool) (c : machine.Command) (lines : List machine.Line) → failed ≡ false → shown_by e failed ≡ old → IsCountedBy e c lines new
+pub AreCountedWhereAccepted-IsCountedBy : (e new : Store) (old : Engine) (failed : Bool) (c : machine.Command) (lines : List machine.Line) → failed ≡ false → shown_by e failed ≡ old → IsCountedBy e c lines new
     → AreCountedWhereAccepted old c lines (shown_by new failed)
-counted_seen e new old failed c lines off is h = subst (λ (v : Engine). AreCountedWhereAccepted v c lines (shown_by new failed)) is
+AreCountedWhereAccepted-IsCountedBy e new old failed c lines off is h = subst (λ (v : Engine). AreCountedWhereAccepted v c lines (shown_by new failed)) is
     (subst (λ b. AreCountedWhereAccepted (shown_by e b) c lines (shown_by new b)) (sym off) h)
 
 -- ---- commands that keep the rules on shape
@@ -72,23 +72,23 @@ and_second : (b c : Bool) → (b && c) ≡ true → c ≡ true
 and_second true c h = h
 and_second false c h = cc
 
-pub well_columns : (name owner : List ℕ) (columns : List Column) → is_well_act (create_table name owner columns) ≡ true → (has_columns columns && has_distinct_names columns) ≡ true
-well_columns name owner columns h = and_second (is_name owner) (has_columns columns && has_distinct_names columns) (and_second (is_name name) (is_name owner && (has_columns columns && has_distinct_names columns)) h)
+pub has_columns-is_well_act : (name owner : List ℕ) (columns : List Column) → is_well_act (create_table name owner columns) ≡ true → (has_columns columns && has_distinct_names columns) ≡ true
+has_columns-is_well_act name owner columns h = and_second (is_name owner) (has_columns columns && has_distinct_names columns) (and_second (is_name name) (is_name owner && (has_columns columns && has_distinct_names columns)) h)
 
-pub well_others : (c : machine.Command) (cs : List machine.Command) → list_all is_well_command (c ∷ cs) ≡ true → list_all is_well_command cs ≡ true
-well_others c cs h = and_second (is_well_command c) (list_all is_well_command cs) h
+pub list_all-well_rest : (c : machine.Command) (cs : List machine.Command) → list_all is_well_command (c ∷ cs) ≡ true → list_all is_well_command cs ≡ true
+list_all-well_rest c cs h = and_second (is_well_command c) (list_all is_well_command cs) h
 
 -- ---- many
 
-pub run_more : (t : State) (cmd : machine.Command) (rest : List machine.Command) (old said new all : List machine.Line) → new ≡ old ++ said → said ≡ (step t cmd).lines → old ++ (run t (cmd ∷ rest)).lines ≡ all → new ++ (run (step t cmd).state rest).lines ≡ all
-run_more t cmd rest old said new all e f h =
+pub run-said : (t : State) (cmd : machine.Command) (rest : List machine.Command) (old said new all : List machine.Line) → new ≡ old ++ said → said ≡ (step t cmd).lines → old ++ (run t (cmd ∷ rest)).lines ≡ all → new ++ (run (step t cmd).state rest).lines ≡ all
+run-said t cmd rest old said new all e f h =
     (λ i. e i ++ (run (step t cmd).state rest).lines) ∙ append_assoc old said (run (step t cmd).state rest).lines
     ∙ ap (λ ls. old ++ (ls ++ (run (step t cmd).state rest).lines)) f ∙ h
 
-pub no_items : {A : Type 0} (xs : List A) → length xs ≡ 0 → xs ≡ []
-no_items [] h = refl
-no_items (x ∷ xs) h = absurd (omega arith)
+pub nil-of_length_zero : {A : Type 0} (xs : List A) → length xs ≡ 0 → xs ≡ []
+nil-of_length_zero [] h = refl
+nil-of_length_zero (x ∷ xs) h = absurd (omega arith)
 
-pub nothing_more : {A : Type 0} (xs : List A) → xs ≡ xs ++ []
-nothing_more [] = refl
-nothing_more (x ∷ xs) = ap (λ ys. x ∷ ys) (nothing_more xs)
+pub append-nothing : {A : Type 0} (xs : List A) → xs ≡ xs ++ []
+append-nothing [] = refl
+append-nothing (x ∷ xs) = ap (λ ys. x ∷ ys) (append-nothing xs)

@@ -30,21 +30,23 @@ use Rattle.iv_database.specs.Next.{database_after}
 use Rattle.iv_database.proofs.StoredFacts.{begin_stored, relation_stored, IsDatabase-with_rights, role_stored, IsDatabase-at_start, view_is}
 use Rattle.iv_database.specs.Stands.{Stands}
 use Rattle.iv_database.proofs.TablesOfCatalog.{none_beyond, rows_of-with_table}
-use Rattle.iv_store.proofs.VisibleRows.{for_same, rows_same, sees_same}
+use Rattle.iv_store.proofs.VisibleRows.{is_for-ReachesAlike, filter-ReachesAlike, may_see-ReachesAlike}
 use Rattle.iv_database.proofs.Tables.{numbered-is_some}
-use Rattle.iv_store.proofs.Unread.{read_has, read_same}
-use Rattle.iv_store.proofs.UnmovedSubscriptions.{IsUnmoved, other_sessions, sees_before, sight_before, still_circuit, still_numbered, still_read, still_shown, still_there, still_within}
-use Rattle.iv_readers.proofs.Lists.{all_map, all_zip}
+use Rattle.iv_store.proofs.Unread.{read_has, list_any-session_of}
+use Rattle.iv_store.proofs.UnmovedSubscriptions.{IsUnmoved, IsUnmoved-same_session, allowed-guard_pushed, may_see-guard_pushed, still_circuit, numbered-with_held, still_read, still_shown, slice_get-push, still_within}
+use Rattle.iv_readers.proofs.Lists.{AllByRecursion-map, AllByRecursion-zip}
 
 -- ---- more rights
 
 any_same : (r q : Rights) (role : ℕ) → ReachesAlike q r.members role → (p : Privilege) (rel : ℕ) (gs : List Grant)
     → list_any (λ g. rel == g.rel && (privilege_eq p g.privilege && is_for r role g.grantee)) gs ≡ list_any (λ g. rel == g.rel && (privilege_eq p g.privilege && is_for q role g.grantee)) gs
 any_same r q role reach p rel [] = refl
-any_same r q role reach p rel (g ∷ gs) = λ i. (rel == g.rel && (privilege_eq p g.privilege && for_same r q role reach g.grantee i)) || any_same r q role reach p rel gs i
+any_same r q role reach p rel (g ∷ gs) = λ i. (rel == g.rel && (privilege_eq p g.privilege && is_for-ReachesAlike r q role reach g.grantee i)) || any_same r q role reach p rel gs i
 
-pub has_same : (r q : Rights) (role : ℕ) → ReachesAlike q r.members role → (p : Privilege) (rel : ℕ) → r.grants ≡ q.grants → has r role p rel ≡ has q role p rel
-has_same r q role reach p rel h = ap (λ gs. is_admin role || list_any (λ g. rel == g.rel && (privilege_eq p g.privilege && is_for r role g.grantee)) gs) h
+pub has-ReachesAlike : (r q : Rights) (role : ℕ) → ReachesAlike q r.members role → (p : Privilege) (rel : ℕ) → r.grants ≡ q.grants
+    → has r role p rel ≡ has q role p rel
+has-ReachesAlike r q role reach p rel h =
+    ap (λ gs. is_admin role || list_any (λ g. rel == g.rel && (privilege_eq p g.privilege && is_for r role g.grantee)) gs) h
     ∙ ap (λ b. is_admin role || b) (any_same r q role reach p rel q.grants)
 
 or_more : (a b c : Bool) → (b ≡ true → c ≡ true) → (a || b) ≡ true → (a || c) ≡ true
@@ -103,17 +105,18 @@ role_below (s ∷ ss) n k a h = by (n == s.number) h (role_below ss n k a.1)
 
 module _ (e d : Store) (es : List Subscription) (u : AllByRecursion (IsUnmoved e d) es) where
   pub all_read : AllByRecursion (λ s. may_read e s ≡ true) es → AllByRecursion (λ s. may_read d s ≡ true) es
-  all_read a = all_zip (IsUnmoved e d) (λ s. may_read e s ≡ true) (λ s. may_read d s ≡ true) es (λ s v r. still_read e d s v r) u a
+  all_read a = AllByRecursion-zip (IsUnmoved e d) (λ s. may_read e s ≡ true) (λ s. may_read d s ≡ true) es (λ s v r. still_read e d s v r) u a
 
   pub all_within : ((T : Lists) → Stands T d.tables → Stands T e.tables) → AllByRecursion (IsWithin e) es → AllByRecursion (IsWithin d) es
-  all_within before a = all_zip (IsUnmoved e d) (IsWithin e) (IsWithin d) es (λ s v w T k. still_within e d s v T (before T k) ∙ w T (before T k)) u a
+  all_within before a =
+    AllByRecursion-zip (IsUnmoved e d) (IsWithin e) (IsWithin d) es (λ s v w T k. still_within e d s v T (before T k) ∙ w T (before T k)) u a
 
   pub all_there : d.circuits ≡ e.circuits → AllByRecursion (λ s. is_some (place_of e s) ≡ true) es → AllByRecursion (λ s. is_some (place_of d s) ≡ true) es
-  all_there same a = all_zip (IsUnmoved e d) (λ s. is_some (place_of e s) ≡ true) (λ s. is_some (place_of d s) ≡ true) es
+  all_there same a = AllByRecursion-zip (IsUnmoved e d) (λ s. is_some (place_of e s) ≡ true) (λ s. is_some (place_of d s) ≡ true) es
       (λ s v h. (λ i. is_some (position (is_circuit_for (v.acts i) s.rel) (same i))) ∙ h) u a
 
   pub all_shown : (T : Lists) → Stands T e.tables → AllByRecursion (λ s. shown_rows d T s ≡ shown_rows e T s) es
-  all_shown T k = all_map (IsUnmoved e d) (λ s. shown_rows d T s ≡ shown_rows e T s) es (λ s v. still_shown e d s v T k) u
+  all_shown T k = AllByRecursion-map (IsUnmoved e d) (λ s. shown_rows d T s ≡ shown_rows e T s) es (λ s v. still_shown e d s v T k) u
 
 -- ---- circuits that subscriptions read which are unmoved
 
@@ -129,7 +132,7 @@ module _ (e d : Store) (back : (T : Lists) → Stands T d.tables → Stands T e.
   )
 
   each_stays : AllByRecursion (λ s. Stays (actor (frame_of d) s.session) s.rel) d.subscriptions
-  each_stays = all_map (IsUnmoved e d) (λ s. Stays (actor (frame_of d) s.session) s.rel) d.subscriptions one_stays u
+  each_stays = AllByRecursion-map (IsUnmoved e d) (λ s. Stays (actor (frame_of d) s.session) s.rel) d.subscriptions one_stays u
 
   pub circuits_stay : (ks : List RoleCircuit) → AllByRecursion (IsRoleCircuit e) ks → AllByRecursion (λ k. is_read (frame_of d) k ≡ true) ks → AllByRecursion (IsRoleCircuit d) ks
   circuits_stay [] a r = tt
@@ -156,21 +159,21 @@ module _ (e : Store) (h : IsSoundStore e) (name owner : Name) (held : Held) wher
   relation_unmoved_by s o =
       let r = e.known.rights in
       let q = c.known.rights in
-      let same = still_numbered name (Some held) e.catalog s.rel (numbered-is_some 0 e.catalog s.rel h.stored.database.numbered (omega arith) (let k = o.known in omega (arith, k))) in
+      let same = numbered-with_held name (Some held) e.catalog s.rel (numbered-is_some 0 e.catalog s.rel h.stored.database.numbered (omega arith) (let k = o.known in omega (arith, k))) in
       record {
         plan = ap (λ (y : Option CatalogEntry). if_some y (Scan s.rel) (λ z. plan_of z.rel z.held)) same;
         needs = ap (λ (y : Option CatalogEntry). if_some y [] (λ z. reached_by z.rel z.held)) same;
         reads = λ rel k. has_more r q (actor (frame_of e) s.session) (λ o. refl) Select rel (length r.guards) all_privileges (Role (role_number e.known.rights owner)) refl k;
-        sees = λ T k. sees_before r q (actor (frame_of e) s.session) g e.tables T (λ o. refl) refl refl (λ t l. none_beyond (database_of e) h.stored.database t (subst (λ m. m ≤ t) h.stored.database.guards l)) k;
+        sees = λ T k. allowed-guard_pushed r q (actor (frame_of e) s.session) g e.tables T (λ o. refl) refl refl (λ t l. none_beyond (database_of e) h.stored.database t (subst (λ m. m ≤ t) h.stored.database.guards l)) k;
         cap = refl;
         acts = refl;
         grows = let l = length-append e.catalog (x ∷ []) in omega (arith, l);
-        kinds = λ t l. ap (λ (y : Option CatalogEntry). option_map kinds_of (if_some y None (λ z. table_in z.held))) (still_numbered name (Some held) e.catalog t (numbered-is_some 0 e.catalog t h.stored.database.numbered (omega arith) (omega (arith, l))));
-        sight = λ t l. sight_before r q (actor (frame_of e) s.session) g (λ o. refl) refl refl t (subst (λ m. t < m) (sym h.stored.database.guards) l);
+        kinds = λ t l. ap (λ (y : Option CatalogEntry). option_map kinds_of (if_some y None (λ z. table_in z.held))) (numbered-with_held name (Some held) e.catalog t (numbered-is_some 0 e.catalog t h.stored.database.numbered (omega arith) (omega (arith, l))));
+        sight = λ t l. may_see-guard_pushed r q (actor (frame_of e) s.session) g (λ o. refl) refl refl t (subst (λ m. t < m) (sym h.stored.database.guards) l);
       }
 
   pub relation_unmoved : AllByRecursion (IsUnmoved e c) e.subscriptions
-  relation_unmoved = all_map (IsOpen e) (IsUnmoved e c) e.subscriptions relation_unmoved_by h.stored.shows
+  relation_unmoved = AllByRecursion-map (IsOpen e) (IsUnmoved e c) e.subscriptions relation_unmoved_by h.stored.shows
 
   before : (T : Lists) → Stands T c.tables → Stands T e.tables
   before T k t q = ap (λ z. weight_of z q) (sym (rows_of-with_table held (length e.catalog) e.tables t)) ∙ k t q
@@ -181,7 +184,7 @@ module _ (e : Store) (h : IsSoundStore e) (name owner : Name) (held : Held) wher
         stored = record {
           numbers = record { unique = h.stored.numbers.unique; given = h.stored.numbers.given };
           database = relation_stored (database_of e) h.stored.database name owner held;
-          shows = all_map (IsOpen e) (IsOpen c) e.subscriptions (λ s o. record { session = o.session; known = let k = o.known in let l = length-append e.catalog (x ∷ []) in omega (arith, k, l) }) h.stored.shows;
+          shows = AllByRecursion-map (IsOpen e) (IsOpen c) e.subscriptions (λ s o. record { session = o.session; known = let k = o.known in let l = length-append e.catalog (x ∷ []) in omega (arith, k, l) }) h.stored.shows;
         };
         served = all_read e c e.subscriptions relation_unmoved h.served;
         within = all_within e c e.subscriptions relation_unmoved before h.within;
@@ -201,18 +204,18 @@ module _ (e : Store) (n : ℕ) (h : IsSoundStore e) where
     begin_same s o = open_same e.sessions (record { number = n; role = role_number e.known.rights role }) s.session o.session
 
     pub begin_unmoved : AllByRecursion (IsUnmoved e begun) e.subscriptions
-    begin_unmoved = all_map (IsOpen e) (IsUnmoved e begun) e.subscriptions (λ s o. other_sessions e begun.sessions e.subscriptions e.circuits s (begin_same s o)) h.stored.shows
+    begin_unmoved = AllByRecursion-map (IsOpen e) (IsUnmoved e begun) e.subscriptions (λ s o. IsUnmoved-same_session e begun.sessions e.subscriptions e.circuits s (begin_same s o)) h.stored.shows
 
     begin_read : AllByRecursion (λ k. is_read (frame_of begun) k ≡ true) e.circuits
-    begin_read = all_map (λ k. is_read (frame_of e) k ≡ true) (λ k. is_read (frame_of begun) k ≡ true) e.circuits
-        (λ k r. read_same (frame_of e) begun.sessions k e.subscriptions (all_map (IsOpen e) (λ s. session_of begun.sessions s.session ≡ session_of e.sessions s.session) e.subscriptions begin_same h.stored.shows) ∙ r) h.read
+    begin_read = AllByRecursion-map (λ k. is_read (frame_of e) k ≡ true) (λ k. is_read (frame_of begun) k ≡ true) e.circuits
+        (λ k r. list_any-session_of (frame_of e) begun.sessions k e.subscriptions (AllByRecursion-map (IsOpen e) (λ s. session_of begun.sessions s.session ≡ session_of e.sessions s.session) e.subscriptions begin_same h.stored.shows) ∙ r) h.read
 
     pub begin_sound : frame_refusal (frame_of e) n (begin role) ≡ None → IsSoundStore begun
     begin_sound passed = record {
       stored = record {
         numbers = record { unique = h.stored.numbers.unique; given = h.stored.numbers.given };
         database = begin_stored (database_of e) h.stored.database n role passed;
-        shows = all_map (IsOpen e) (IsOpen begun) e.subscriptions (λ s o. record { session = ap (λ p. is_some p) (begin_same s o) ∙ o.session; known = o.known }) h.stored.shows;
+        shows = AllByRecursion-map (IsOpen e) (IsOpen begun) e.subscriptions (λ s o. record { session = ap (λ p. is_some p) (begin_same s o) ∙ o.session; known = o.known }) h.stored.shows;
       };
       served = all_read e begun e.subscriptions begin_unmoved h.served;
       within = all_within e begun e.subscriptions begin_unmoved (λ T k. k) h.within;
@@ -226,22 +229,22 @@ module _ (e : Store) (n : ℕ) (h : IsSoundStore e) where
     named = kept_after e n (create_role name)
 
     pub role_unmoved : AllByRecursion (IsUnmoved e named) e.subscriptions
-    role_unmoved = all_map (IsOpen e) (IsUnmoved e named) e.subscriptions (λ s o.
+    role_unmoved = AllByRecursion-map (IsOpen e) (IsUnmoved e named) e.subscriptions (λ s o.
         let r = e.known.rights in
         let q = named.known.rights in
         let a = some_role (session_of e.sessions s.session) (length q.roles) (length r.roles) o.session in
         let k = actor (frame_of e) s.session in
-        let called : role_name q k ≡ role_name r k = ap (λ z. unwrap_or z []) (still_there r.roles name k (role_below e.sessions s.session (length r.roles) h.stored.database.roles o.session)) in
+        let called : role_name q k ≡ role_name r k = ap (λ z. unwrap_or z []) (slice_get-push r.roles name k (role_below e.sessions s.session (length r.roles) h.stored.database.roles o.session)) in
         record {
           plan = refl;
           needs = refl;
-          reads = λ rel y. ap (λ role. has q role Select rel) a ∙ has_same q r k (λ o. refl) Select rel refl ∙ y;
-          sees = λ T y. ap (λ role. allowed q role T) a ∙ (λ i t. rows_same q r k t (λ o. refl) called refl (T t) i);
+          reads = λ rel y. ap (λ role. has q role Select rel) a ∙ has-ReachesAlike q r k (λ o. refl) Select rel refl ∙ y;
+          sees = λ T y. ap (λ role. allowed q role T) a ∙ (λ i t. filter-ReachesAlike q r k t (λ o. refl) called refl (T t) i);
           cap = refl;
           acts = a;
           grows = omega arith;
           kinds = λ t l. refl;
-          sight = λ t l row. ap (λ role. may_see q role t row) a ∙ sees_same q r k t (λ o. refl) called refl row;
+          sight = λ t l row. ap (λ role. may_see q role t row) a ∙ may_see-ReachesAlike q r k t (λ o. refl) called refl row;
         }) h.stored.shows
 
     pub role_sound : frame_refusal (frame_of e) n (create_role name) ≡ None → IsSoundStore named
@@ -249,7 +252,7 @@ module _ (e : Store) (n : ℕ) (h : IsSoundStore e) where
       stored = record {
         numbers = record { unique = h.stored.numbers.unique; given = h.stored.numbers.given };
         database = role_stored (database_of e) h.stored.database n name passed;
-        shows = all_map (IsOpen e) (IsOpen named) e.subscriptions (λ s o. record { session = o.session; known = o.known }) h.stored.shows;
+        shows = AllByRecursion-map (IsOpen e) (IsOpen named) e.subscriptions (λ s o. record { session = o.session; known = o.known }) h.stored.shows;
       };
       served = all_read e named e.subscriptions role_unmoved h.served;
       within = all_within e named e.subscriptions role_unmoved (λ T k. k) h.within;
@@ -263,7 +266,7 @@ module _ (e : Store) (n : ℕ) (h : IsSoundStore e) where
     given = kept_after e n (grant rel ps to)
 
     pub grant_unmoved : AllByRecursion (IsUnmoved e given) e.subscriptions
-    grant_unmoved = all_map (IsOpen e) (IsUnmoved e given) e.subscriptions (λ s o.
+    grant_unmoved = AllByRecursion-map (IsOpen e) (IsUnmoved e given) e.subscriptions (λ s o.
         let r = e.known.rights in
         let q = given.known.rights in
         let k = actor (frame_of e) s.session in
@@ -271,12 +274,12 @@ module _ (e : Store) (n : ℕ) (h : IsSoundStore e) where
           plan = refl;
           needs = refl;
           reads = λ on y. has_more r q k (λ o. refl) Select on (rel_of e.catalog rel) ps (grantee_of r to) refl y;
-          sees = λ T y. (λ i t. rows_same q r k t (λ o. refl) refl refl (T t) i);
+          sees = λ T y. (λ i t. filter-ReachesAlike q r k t (λ o. refl) refl refl (T t) i);
           cap = refl;
           acts = refl;
           grows = omega arith;
           kinds = λ t l. refl;
-          sight = λ t l row. sees_same q r k t (λ o. refl) refl refl row;
+          sight = λ t l row. may_see-ReachesAlike q r k t (λ o. refl) refl refl row;
         }) h.stored.shows
 
     pub grant_sound : IsSoundStore given
@@ -284,7 +287,7 @@ module _ (e : Store) (n : ℕ) (h : IsSoundStore e) where
       stored = record {
         numbers = record { unique = h.stored.numbers.unique; given = h.stored.numbers.given };
         database = IsDatabase-with_rights (database_of e) given.known.rights h.stored.database.guards refl h.stored.database;
-        shows = all_map (IsOpen e) (IsOpen given) e.subscriptions (λ s o. record { session = o.session; known = o.known }) h.stored.shows;
+        shows = AllByRecursion-map (IsOpen e) (IsOpen given) e.subscriptions (λ s o. record { session = o.session; known = o.known }) h.stored.shows;
       };
       served = all_read e given e.subscriptions grant_unmoved h.served;
       within = all_within e given e.subscriptions grant_unmoved (λ T k. k) h.within;
@@ -318,8 +321,8 @@ module _ (e : Store) (n : ℕ) (h : IsSoundStore e) where
 abbrev pub kept_at_start : (cap : ℕ) → Store
 kept_at_start cap = record { cap = cap; known = access_at_start; catalog = []; sessions = []; subscriptions = []; circuits = []; last = 0; tables = [] }
 
-pub start_sound : (cap : ℕ) → IsRowLimit cap → IsSoundStore (kept_at_start cap)
-start_sound cap limit = record {
+pub IsSoundStore-kept_at_start : (cap : ℕ) → IsRowLimit cap → IsSoundStore (kept_at_start cap)
+IsSoundStore-kept_at_start cap limit = record {
   stored = record {
     numbers = record { unique = tt; given = tt };
     database = IsDatabase-at_start cap limit;

@@ -9,10 +9,10 @@ use Rattle.iv_store.specs.Finished.{without_unread}
 use Rattle.iv_store.specs.Store.{IsOpen, IsStored, Store, frame_of, is_read}
 use Rattle.iv_readers.specs.Readers.{RoleCircuit, is_for}
 use Rattle.iv_store.specs.Rounds.{beside_number, by_number, of_number, rounds, rounds_in, rounds_of, rounds_since}
-use Rattle.iv_store.proofs.Beside.{for_is}
-use Rattle.iv_store.proofs.SubscriptionViews.{each_found}
-use Rattle.iv_readers.proofs.Lists.{all_map, all_zip}
-use Rattle.iv_store.proofs.Unread.{reads_own}
+use Rattle.iv_store.proofs.Beside.{same-is_for}
+use Rattle.iv_store.proofs.SubscriptionViews.{subscription_of-each}
+use Rattle.iv_readers.proofs.Lists.{AllByRecursion-map, AllByRecursion-zip}
+use Rattle.iv_store.proofs.Unread.{list_any-session_acts_as}
 
 same_nat : (m n : ℕ) → (m == n) ≡ true → m ≡ n
 same_nat m n h = grind (arith, nat_tests)
@@ -73,40 +73,40 @@ module _ (f : Subscription → ℕ) where
 
 -- ---- each open subscription has its rounds there
 
-pub all_given : (last : ℕ) (ss : List Subscription) → AreGiven last ss → AllByRecursion (λ s. s.number ≤ last) ss
-all_given last [] a = tt
-all_given last (s ∷ ss) a = (a.0, all_given last ss a.1)
+pub AllByRecursion-AreGiven : (last : ℕ) (ss : List Subscription) → AreGiven last ss → AllByRecursion (λ s. s.number ≤ last) ss
+AllByRecursion-AreGiven last [] a = tt
+AllByRecursion-AreGiven last (s ∷ ss) a = (a.0, AllByRecursion-AreGiven last ss a.1)
 
 -- its rounds stand beside its number
 abbrev pub IsBeside : Store → Subscription → Type 0
 IsBeside e s = beside_number s.number (rounds e) ≡ rounds_of e s
 
-pub all_beside : (e : Store) → IsStored e → AllByRecursion (IsBeside e) e.subscriptions
-all_beside e h = all_zip (λ s. subscription_of e.subscriptions s.number ≡ Some s) (λ s. s.number ≤ e.last) (IsBeside e) e.subscriptions
+pub AllByRecursion-IsBeside : (e : Store) → IsStored e → AllByRecursion (IsBeside e) e.subscriptions
+AllByRecursion-IsBeside e h = AllByRecursion-zip (λ s. subscription_of e.subscriptions s.number ≡ Some s) (λ s. s.number ≤ e.last) (IsBeside e) e.subscriptions
     (λ s found low. beside_from (rounds_of e) s e.subscriptions s.number 0 (suc e.last) found (omega arith) (omega (arith, low)))
-    (each_found e.subscriptions h.numbers.unique) (all_given e.last e.subscriptions h.numbers.given)
+    (subscription_of-each e.subscriptions h.numbers.unique) (AllByRecursion-AreGiven e.last e.subscriptions h.numbers.given)
 
 -- and none stands there of the next number
-pub next_none : (e : Store) → beside_number (e.last + 1) (rounds e) ≡ 0
-next_none e = beside_none (rounds_of e) (e.last + 1) e.subscriptions 0 (suc e.last) (omega arith)
+pub beside_number-next : (e : Store) → beside_number (e.last + 1) (rounds e) ≡ 0
+beside_number-next e = beside_none (rounds_of e) (e.last + 1) e.subscriptions 0 (suc e.last) (omega arith)
 
 -- what holds of the rounds that circuits have holds of those that stand in the lists
 module _ (e d : Store) (stored : IsStored d) (R : Subscription → (was now : ℕ) → Type 0) where
   pub now_counted : AllByRecursion (λ s. R s (beside_number s.number (rounds e)) (rounds_of d s)) d.subscriptions
       → AllByRecursion (λ s. R s (beside_number s.number (rounds e)) (beside_number s.number (rounds d))) d.subscriptions
-  now_counted a = all_zip (IsBeside d) (λ s. R s (beside_number s.number (rounds e)) (rounds_of d s)) (λ s. R s (beside_number s.number (rounds e)) (beside_number s.number (rounds d))) d.subscriptions
-      (λ s b r. subst (R s (beside_number s.number (rounds e))) (sym b) r) (all_beside d stored) a
+  now_counted a = AllByRecursion-zip (IsBeside d) (λ s. R s (beside_number s.number (rounds e)) (rounds_of d s)) (λ s. R s (beside_number s.number (rounds e)) (beside_number s.number (rounds d))) d.subscriptions
+      (λ s b r. subst (R s (beside_number s.number (rounds e))) (sym b) r) (AllByRecursion-IsBeside d stored) a
 
   pub those_counted : AllByRecursion (IsBeside e) d.subscriptions → AllByRecursion (λ s. R s (rounds_of e s) (rounds_of d s)) d.subscriptions
       → AllByRecursion (λ s. R s (beside_number s.number (rounds e)) (beside_number s.number (rounds d))) d.subscriptions
-  those_counted b a = now_counted (all_zip (IsBeside e) (λ s. R s (rounds_of e s) (rounds_of d s)) (λ s. R s (beside_number s.number (rounds e)) (rounds_of d s)) d.subscriptions
+  those_counted b a = now_counted (AllByRecursion-zip (IsBeside e) (λ s. R s (rounds_of e s) (rounds_of d s)) (λ s. R s (beside_number s.number (rounds e)) (rounds_of d s)) d.subscriptions
       (λ s is r. subst (λ n. R s n (rounds_of d s)) (sym is) r) b a)
 
 -- ---- what leaves them
 
 -- where its reader is the same, and the circuits are
-pub same_rounds : (e d : Store) (s : Subscription) → d.circuits ≡ e.circuits → actor (frame_of d) s.session ≡ actor (frame_of e) s.session → rounds_of d s ≡ rounds_of e s
-same_rounds e d s circuits acts = λ i. rounds_in (acts i) s.rel s.number (circuits i)
+pub rounds_of-same_circuits : (e d : Store) (s : Subscription) → d.circuits ≡ e.circuits → actor (frame_of d) s.session ≡ actor (frame_of e) s.session → rounds_of d s ≡ rounds_of e s
+rounds_of-same_circuits e d s circuits acts = λ i. rounds_in (acts i) s.rel s.number (circuits i)
 
 module _ (role rel n : ℕ) where
   -- circuits that are dropped, of which none is for the role and the relation
@@ -132,9 +132,10 @@ module _ (role rel n : ℕ) where
       by false t go = go t
 
 -- circuits that are dropped because nobody reads them
-pub left_rounds : (b : Store) → AllByRecursion (IsOpen b) b.subscriptions → AllByRecursion (λ s. rounds_of (without_unread b) s ≡ rounds_of b s) b.subscriptions
-left_rounds b shows =
+pub rounds_of-without_unread : (b : Store) → AllByRecursion (IsOpen b) b.subscriptions
+    → AllByRecursion (λ s. rounds_of (without_unread b) s ≡ rounds_of b s) b.subscriptions
+rounds_of-without_unread b shows =
     let f = frame_of b in
-    all_map (λ s. (k : RoleCircuit) → k.role ≡ actor f s.session → k.rel ≡ s.rel → is_read f k ≡ true) (λ s. rounds_of (without_unread b) s ≡ rounds_of b s) b.subscriptions
-    (λ s own. rounds_left (actor f s.session) s.rel s.number (is_read f) b.circuits (λ k t. let x = for_is (actor f s.session) s.rel k t in own k x.0 x.1))
-    (reads_own f b.subscriptions (all_map (IsOpen b) (λ s. is_open f s.session ≡ true) b.subscriptions (λ s o. o.session) shows))
+    AllByRecursion-map (λ s. (k : RoleCircuit) → k.role ≡ actor f s.session → k.rel ≡ s.rel → is_read f k ≡ true) (λ s. rounds_of (without_unread b) s ≡ rounds_of b s) b.subscriptions
+    (λ s own. rounds_left (actor f s.session) s.rel s.number (is_read f) b.circuits (λ k t. let x = same-is_for (actor f s.session) s.rel k t in own k x.0 x.1))
+    (list_any-session_acts_as f b.subscriptions (AllByRecursion-map (IsOpen b) (λ s. is_open f s.session ≡ true) b.subscriptions (λ s o. o.session) shows))

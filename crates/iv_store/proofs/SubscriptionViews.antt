@@ -24,7 +24,7 @@ use Rattle.iv_machine.specs.declared.Cause.TheVariants as cause
 use Rattle.iv_database.proofs.Taken as taking
 use Rattle.iv_store.specs.Store.{database_of, Store, IsStored, frame_of, at, may_read, shown_rows, table_rows}
 use Rattle.iv_database.specs.Stands.{Stands}
-use Rattle.iv_store.proofs.VisibleRows.{filter_within, rows_same}
+use Rattle.iv_store.proofs.VisibleRows.{filter_within, filter-ReachesAlike}
 use Rattle.iv_database.proofs.Tables.{IsATable, plan_at-IsATable}
 
 nat_at_most : (m n : ℕ) → m ≤ n → nat_le m n ≡ true
@@ -59,20 +59,21 @@ module _ (e : Store) (T : Lists) where
 -- what a role sees depends on its name, on the roles that it reaches and on the guards alone
 pub view_same : (f : Frame) (q : Rights) (role rel : ℕ) (T : Lists) → ReachesAlike f.rights q.members role → role_name q role ≡ role_name f.rights role → ((t : ℕ) → slice_get q.guards t ≡ slice_get f.rights.guards t)
     → view_for (record { frame = record f { rights = q }; rows = T }) role rel ≡ view_for (record { frame = f; rows = T }) role rel
-view_same f q role rel T reach name guards = λ i. eval (plan_at f.catalog rel) (λ t. rows_same q f.rights role t reach name (guards t) (T t) i)
+view_same f q role rel T reach name guards = λ i. eval (plan_at f.catalog rel) (λ t. filter-ReachesAlike q f.rights role t reach name (guards t) (T t) i)
 
 -- and so do the limits of it
 pub limits_same : (f : Frame) (q : Rights) (role rel : ℕ) (T : Lists) → ReachesAlike f.rights q.members role → role_name q role ≡ role_name f.rights role → ((t : ℕ) → slice_get q.guards t ≡ slice_get f.rights.guards t)
     → is_within_for (record { frame = record f { rights = q }; rows = T }) role rel ≡ is_within_for (record { frame = f; rows = T }) role rel
-limits_same f q role rel T reach name guards = λ i. plan_within f.cap (plan_at f.catalog rel) (λ t. rows_same q f.rights role t reach name (guards t) (T t) i)
+limits_same f q role rel T reach name guards =
+    λ i. plan_within f.cap (plan_at f.catalog rel) (λ t. filter-ReachesAlike q f.rights role t reach name (guards t) (T t) i)
 
 -- ---- lists behind the tables
 
 abbrev pub lists_behind : Store → Lists
 lists_behind e = taking.lists_behind (database_of e)
 
-pub stands_behind : (e : Store) → IsStored e → Stands (lists_behind e) e.tables
-stands_behind e h = taking.Stands-lists_behind (database_of e) h.database
+pub Stands-IsStored : (e : Store) → IsStored e → Stands (lists_behind e) e.tables
+Stands-IsStored e h = taking.Stands-lists_behind (database_of e) h.database
 
 -- ---- which subscriptions end
 
@@ -85,8 +86,8 @@ ends_by : (b w : Bool) → w ≡ true → first_cause b w ≡ cause_for (not b)
 ends_by true w h = refl
 ends_by false w h = ap (first_cause false) h
 
-pub ending_is : (e : Store) (T : Lists) (s : Subscription) → is_within (at e T) s ≡ true → ending (at e T) s ≡ cause_for (may_read e s)
-ending_is e T s w = ends_by (is_some (missing_for (frame_of e) (actor (frame_of e) s.session) s.rel)) (is_within (at e T) s) w
+pub ending-is_within : (e : Store) (T : Lists) (s : Subscription) → is_within (at e T) s ≡ true → ending (at e T) s ≡ cause_for (may_read e s)
+ending-is_within e T s w = ends_by (is_some (missing_for (frame_of e) (actor (frame_of e) s.session) s.rel)) (is_within (at e T) s) w
 
 -- ---- nothing changes
 
@@ -97,8 +98,8 @@ none_differ : (rows ks : List (List Cell)) → filter is_change (map (weighted r
 none_differ rows [] = refl
 none_differ rows (r ∷ ks) = ap (λ b. cond (not b) (weighted rows rows r ∷ filter is_change (map (weighted rows rows) ks)) (filter is_change (map (weighted rows rows) ks))) (no_weight (copies r rows)) ∙ none_differ rows ks
 
-pub difference_none : (rows : List (List Cell)) → difference rows rows ≡ []
-difference_none rows = none_differ rows (rising_rows (rows ++ rows))
+pub difference-itself : (rows : List (List Cell)) → difference rows rows ≡ []
+difference-itself rows = none_differ rows (rising_rows (rows ++ rows))
 
 -- ---- subscriptions by their numbers
 
@@ -123,9 +124,10 @@ behind e all (f ∷ es) want n a = let x = neither (e.number == f.number) (list_
   behind e all es want x.1 a.1,
 )
 
-pub each_found : (es : List Subscription) → AreUnique es → AllByRecursion (λ f. subscription_of es f.number ≡ Some f) es
-each_found [] u = tt
-each_found (e ∷ es) u = (ap (λ b. cond b (Some e) (subscription_of es e.number)) (own e.number), behind e es es (λ f. Some f) u.0 (each_found es u.1))
+pub subscription_of-each : (es : List Subscription) → AreUnique es → AllByRecursion (λ f. subscription_of es f.number ≡ Some f) es
+subscription_of-each [] u = tt
+subscription_of-each (e ∷ es) u =
+    (ap (λ b. cond b (Some e) (subscription_of es e.number)) (own e.number), behind e es es (λ f. Some f) u.0 (subscription_of-each es u.1))
 
 none_found : (k : ℕ) (p : Subscription → Bool) (es : List Subscription) → list_any (λ f. k == f.number) es ≡ false → subscription_of (filter p es) k ≡ None
 none_found k p [] n = refl
@@ -139,9 +141,9 @@ none_found k p (f ∷ es) n = let x = neither (k == f.number) (list_any (λ f. k
 abbrev pub kept_one : (Subscription → Bool) → Subscription → Option Subscription
 kept_one p f = cond (p f) (Some f) None
 
-pub kept_found : (p : Subscription → Bool) (es : List Subscription) → AreUnique es → AllByRecursion (λ f. subscription_of (filter p es) f.number ≡ kept_one p f) es
-kept_found p [] u = tt
-kept_found p (e ∷ es) u = by (p e) (none_found e.number p es u.0) (kept_found p es u.1)
+pub subscription_of-kept_one : (p : Subscription → Bool) (es : List Subscription) → AreUnique es → AllByRecursion (λ f. subscription_of (filter p es) f.number ≡ kept_one p f) es
+subscription_of-kept_one p [] u = tt
+subscription_of-kept_one p (e ∷ es) u = by (p e) (none_found e.number p es u.0) (subscription_of-kept_one p es u.1)
   where
     by : (b : Bool) → subscription_of (filter p es) e.number ≡ None → AllByRecursion (λ f. subscription_of (filter p es) f.number ≡ kept_one p f) es
         → (subscription_of (cond b (e ∷ filter p es) (filter p es)) e.number ≡ cond b (Some e) None) × AllByRecursion (λ f. subscription_of (cond b (e ∷ filter p es) (filter p es)) f.number ≡ kept_one p f) es

@@ -13,7 +13,7 @@ use Rattle.iv_store.specs.Found.{total_at}
 use Rattle.iv_store.specs.Store.{IsRoleCircuit, IsWithin, IsWithinFor, Store, at, frame_of, place_of, shown_rows}
 use Rattle.iv_readers.specs.Readers.{RoleCircuit, is_for}
 use Rattle.iv_database.specs.Stands.{Stands}
-use Rattle.iv_store.proofs.Beside.{for_is, place_there}
+use Rattle.iv_store.proofs.Beside.{same-is_for, Some-is_some}
 use Rattle.iv_store.proofs.RelationCircuits.{shows_for, within_for}
 use Rattle.iv_database.proofs.BagSizes.{slice_get-at_place}
 
@@ -21,13 +21,13 @@ use Rattle.iv_database.proofs.BagSizes.{slice_get-at_place}
 module _ (role rel : ℕ) (P : RoleCircuit → Type 0) (Q : Type 0) (go : (k : RoleCircuit) → k.role ≡ role → k.rel ≡ rel → P k → Q) where
   found_index : (ks : List RoleCircuit) (i : ℕ) (d : RoleCircuit) → AllByRecursion P ks → i < length ks → is_for role rel (get_or ks i d) ≡ true → Q
   found_index [] i d a low t = absurd (omega arith)
-  found_index (k ∷ ks) zero d a low t = let b = for_is role rel k t in go k b.0 b.1 a.0
+  found_index (k ∷ ks) zero d a low t = let b = same-is_for role rel k t in go k b.0 b.1 a.0
   found_index (k ∷ ks) (suc i) d a low t = found_index ks i d a.1 (omega arith) t
 
   pub found_has : (ks : List RoleCircuit) → AllByRecursion P ks → is_some (position (is_for role rel) ks) ≡ true → Q
   found_has [] a t = cc
   found_has (k ∷ ks) a t =
-      let i = place_there (position (is_for role rel) (k ∷ ks)) t in
+      let i = Some-is_some (position (is_for role rel) (k ∷ ks)) t in
       let p = position-Some (is_for role rel) (k ∷ ks) i.0 k i.1 in
       found_index (k ∷ ks) i.0 k a p.0 p.1
 
@@ -38,12 +38,12 @@ place_within p [] i h = cc
 place_within p (k ∷ ks) i h = (position-Some p (k ∷ ks) i k h).0
 
 -- the place is one of the circuits
-pub place_in : (e : Store) (s : Subscription) (i : ℕ) → place_of e s ≡ Some i → i < length e.circuits
-place_in e s i h = place_within (is_for (actor (frame_of e) s.session) s.rel) e.circuits i h
+pub lt-place_of : (e : Store) (s : Subscription) (i : ℕ) → place_of e s ≡ Some i → i < length e.circuits
+lt-place_of e s i h = place_within (is_for (actor (frame_of e) s.session) s.rel) e.circuits i h
 
 -- the total there is that of the circuit that stands there
-pub total_is : (e : Store) (i : ℕ) (k : RoleCircuit) → i < length e.circuits → k ≡ get_or e.circuits i k → total_at e i ≡ total_of k.circuit.node
-total_is e i k low is = ap (λ (o : Option RoleCircuit). if_some o [] (λ x. total_of x.circuit.node)) (slice_get-at_place e.circuits i k low is)
+pub total_at-get_or : (e : Store) (i : ℕ) (k : RoleCircuit) → i < length e.circuits → k ≡ get_or e.circuits i k → total_at e i ≡ total_of k.circuit.node
+total_at-get_or e i k low is = ap (λ (o : Option RoleCircuit). if_some o [] (λ x. total_of x.circuit.node)) (slice_get-at_place e.circuits i k low is)
 
 module _ (e : Store) (circuits : AllByRecursion (IsRoleCircuit e) e.circuits) where
   -- the limits hold
@@ -57,7 +57,7 @@ module _ (e : Store) (circuits : AllByRecursion (IsRoleCircuit e) e.circuits) wh
   module _ (T : Lists) (stands : Stands T e.tables) (role rel : ℕ) where
     one_counts : (k : RoleCircuit) → IsRoleCircuit e k → is_for role rel k ≡ true → Counts (total_of k.circuit.node) (view_for (at e T) role rel)
     one_counts k is t =
-        let b = for_is role rel k t in
+        let b = same-is_for role rel k t in
         subst (λ r. Counts (total_of k.circuit.node) (view_for (at e T) role r)) b.1
         (subst (λ r. Counts (total_of k.circuit.node) (view_for (at e T) r k.rel)) b.0 (shows_for e k.role k.rel k.circuit is.is T stands))
 
@@ -77,4 +77,5 @@ module _ (e : Store) (circuits : AllByRecursion (IsRoleCircuit e) e.circuits) wh
 
   -- and so does that of the circuit that stands there
   pub circuit_counts : (T : Lists) → Stands T e.tables → (s : Subscription) (i : ℕ) (k : RoleCircuit) → place_of e s ≡ Some i → k ≡ get_or e.circuits i k → Counts (total_of k.circuit.node) (shown_rows e T s)
-  circuit_counts T stands s i k h is = subst (λ (z : Weighed). Counts z (shown_rows e T s)) (total_is e i k (place_in e s i h) is) (total_counts T stands s i h)
+  circuit_counts T stands s i k h is =
+    subst (λ (z : Weighed). Counts z (shown_rows e T s)) (total_at-get_or e i k (lt-place_of e s i h) is) (total_counts T stands s i h)

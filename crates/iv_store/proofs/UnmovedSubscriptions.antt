@@ -25,7 +25,7 @@ use Rattle.iv_readers.specs.Readers.{RoleCircuit}
 use Rattle.iv_database.specs.Database.{kinds_at}
 use Rattle.iv_database.specs.Stands.{Stands}
 use Rattle.iv_database.proofs.RowKinds.{HasKinds-Counts}
-use Rattle.iv_store.proofs.VisibleRows.{rows_same, sees_same}
+use Rattle.iv_store.proofs.VisibleRows.{filter-ReachesAlike, may_see-ReachesAlike}
 
 -- in d it has the plan and the needs that it has in e, and its reader may select what it might, and sees the same rows; the
 -- relations of e are those of d, and the reader is the same and sees the same of each table
@@ -80,15 +80,15 @@ module _ (e d : Store) (s : Subscription) (u : IsUnmoved e d s) where
 
 -- ---- one relation more
 
-pub still_there : {X : Type 0} (xs : List X) (x : X) (k : ℕ) → k < length xs → slice_get (xs ++ x ∷ []) k ≡ slice_get xs k
-still_there [] x k l = absurd (omega arith)
-still_there (y ∷ xs) x zero l = refl
-still_there (y ∷ xs) x (suc k) l = still_there xs x k (omega arith)
+pub slice_get-push : {X : Type 0} (xs : List X) (x : X) (k : ℕ) → k < length xs → slice_get (xs ++ x ∷ []) k ≡ slice_get xs k
+slice_get-push [] x k l = absurd (omega arith)
+slice_get-push (y ∷ xs) x zero l = refl
+slice_get-push (y ∷ xs) x (suc k) l = slice_get-push xs x k (omega arith)
 
 -- those before keep their plans and needs
-pub still_numbered : (name : Name) (o : Option Held) (es : List CatalogEntry) (rel : ℕ) → is_some (numbered es rel) ≡ true → numbered (with_held name o es) rel ≡ numbered es rel
-still_numbered name None es rel h = refl
-still_numbered name (Some held) es rel h = find_kept (λ (x : CatalogEntry). rel == x.rel) es (record { name = name; rel = next_rel es; held = held } ∷ []) h
+pub numbered-with_held : (name : Name) (o : Option Held) (es : List CatalogEntry) (rel : ℕ) → is_some (numbered es rel) ≡ true → numbered (with_held name o es) rel ≡ numbered es rel
+numbered-with_held name None es rel h = refl
+numbered-with_held name (Some held) es rel h = find_kept (λ (x : CatalogEntry). rel == x.rel) es (record { name = name; rel = next_rel es; held = held } ∷ []) h
 
 below : (m n : ℕ) → nat_lt m n ≡ true → m < n
 below m n h = grind (arith, nat_tests)
@@ -97,21 +97,22 @@ beyond : (m n : ℕ) → nat_lt m n ≡ false → n ≤ m
 beyond m n h = grind (arith, nat_tests)
 
 -- what is no relation has no row, and so a guard may come there
-pub sees_before : (r q : Rights) (role : ℕ) (g : Guard) (tables : List Table) (T : Lists) → ReachesAlike r q.members role → role_name q role ≡ role_name r role → q.guards ≡ r.guards ++ g ∷ [] → ((t : ℕ) → length r.guards ≤ t → rows_of tables t ≡ []) → Stands T tables → allowed q role T ≡ allowed r role T
-sees_before r q role g tables T reach name guards beyond_none stands = λ i t. each t i
+pub allowed-guard_pushed : (r q : Rights) (role : ℕ) (g : Guard) (tables : List Table) (T : Lists) → ReachesAlike r q.members role → role_name q role ≡ role_name r role → q.guards ≡ r.guards ++ g ∷ [] → ((t : ℕ) → length r.guards ≤ t → rows_of tables t ≡ []) → Stands T tables → allowed q role T ≡ allowed r role T
+allowed-guard_pushed r q role g tables T reach name guards beyond_none stands = λ i t. each t i
   where
     none : (t : ℕ) → length r.guards ≤ t → T t ≡ []
     none t l = HasKinds-Counts None (rows_of tables t) (T t) (beyond_none t l) (stands t)
 
     by : (t : ℕ) (b : Bool) → nat_lt t (length r.guards) ≡ b → filter (may_see q role t) (T t) ≡ filter (may_see r role t) (T t)
-    by t true l = rows_same q r role t reach name (ap (λ gs. slice_get gs t) guards ∙ still_there r.guards g t (below t (length r.guards) l)) (T t)
+    by t true l = filter-ReachesAlike q r role t reach name (ap (λ gs. slice_get gs t) guards ∙ slice_get-push r.guards g t (below t (length r.guards) l)) (T t)
     by t false l = let empty = none t (beyond t (length r.guards) l) in ap (filter (may_see q role t)) empty ∙ sym (ap (filter (may_see r role t)) empty)
 
     each : (t : ℕ) → filter (may_see q role t) (T t) ≡ filter (may_see r role t) (T t)
     each t = by t (nat_lt t (length r.guards)) refl
 
-pub sight_before : (r q : Rights) (role : ℕ) (g : Guard) → ReachesAlike r q.members role → role_name q role ≡ role_name r role → q.guards ≡ r.guards ++ g ∷ [] → (t : ℕ) → t < length r.guards → (row : Cells) → may_see q role t row ≡ may_see r role t row
-sight_before r q role g reach name guards t l = sees_same q r role t reach name (ap (λ gs. slice_get gs t) guards ∙ still_there r.guards g t l)
+pub may_see-guard_pushed : (r q : Rights) (role : ℕ) (g : Guard) → ReachesAlike r q.members role → role_name q role ≡ role_name r role → q.guards ≡ r.guards ++ g ∷ [] → (t : ℕ) → t < length r.guards → (row : Cells) → may_see q role t row ≡ may_see r role t row
+may_see-guard_pushed r q role g reach name guards t l =
+    may_see-ReachesAlike q r role t reach name (ap (λ gs. slice_get gs t) guards ∙ slice_get-push r.guards g t l)
 
 -- ---- other sessions
 
@@ -119,8 +120,8 @@ sight_before r q role g reach name guards t l = sees_same q r role t reach name 
 pub actor_same : (e : Store) (ss : List Session) (n : ℕ) → session_of ss n ≡ session_of e.sessions n → actor (frame_of (record e { sessions = ss })) n ≡ actor (frame_of e) n
 actor_same e ss n h = ap (λ (o : Option Session). unwrap_or (option_map (λ x. x.role) o) (length e.known.rights.roles)) h
 
-pub other_sessions : (e : Store) (ss : List Session) (es : List Subscription) (cs : List RoleCircuit) (s : Subscription) → session_of ss s.session ≡ session_of e.sessions s.session → IsUnmoved e (record e { sessions = ss; subscriptions = es; circuits = cs }) s
-other_sessions e ss es cs s h = let a = actor_same e ss s.session h in record {
+pub IsUnmoved-same_session : (e : Store) (ss : List Session) (es : List Subscription) (cs : List RoleCircuit) (s : Subscription) → session_of ss s.session ≡ session_of e.sessions s.session → IsUnmoved e (record e { sessions = ss; subscriptions = es; circuits = cs }) s
+IsUnmoved-same_session e ss es cs s h = let a = actor_same e ss s.session h in record {
   plan = refl;
   needs = refl;
   reads = λ rel k. ap (λ role. has e.known.rights role Select rel) a ∙ k;

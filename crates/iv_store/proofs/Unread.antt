@@ -58,10 +58,10 @@ module _ (f : Frame) (k : RoleCircuit) (P : (role rel : ℕ) → Type 0) where
   read_has t a = read_among f.subscriptions t a
 
 -- with other sessions, where those of the subscriptions stay
-pub read_same : (f : Frame) (others : List Session) (k : RoleCircuit) (ss : List Subscription) → AllByRecursion (λ s. session_of others s.session ≡ session_of f.sessions s.session) ss
+pub list_any-session_of : (f : Frame) (others : List Session) (k : RoleCircuit) (ss : List Subscription) → AllByRecursion (λ s. session_of others s.session ≡ session_of f.sessions s.session) ss
     → list_any (λ s. (s.rel == k.rel) && session_acts_as (record f { sessions = others }) s.session k.role) ss ≡ list_any (λ s. (s.rel == k.rel) && session_acts_as f s.session k.role) ss
-read_same f others k [] a = refl
-read_same f others k (s ∷ ss) a = λ i. ((s.rel == k.rel) && if_some (a.0 i) false (λ x. x.role == k.role)) || read_same f others k ss a.1 i
+list_any-session_of f others k [] a = refl
+list_any-session_of f others k (s ∷ ss) a = λ i. ((s.rel == k.rel) && if_some (a.0 i) false (λ x. x.role == k.role)) || list_any-session_of f others k ss a.1 i
 
 -- ---- circuits that are dropped
 
@@ -112,13 +112,13 @@ module _ (t : RoleCircuit → Bool) where
   found_place ks h = ap (λ (b : Bool). is_some (cond b (Some (position_or_len t ks)) None)) (lt-ltb (position_or_len t ks) (length ks) (any_place ks h))
 
 -- so an open subscription finds its circuit after the drop
-pub kept_place : (f : Frame) (role rel : ℕ) (ks : List RoleCircuit) → ((k : RoleCircuit) → is_for role rel k ≡ true → is_read f k ≡ true)
+pub is_some-position_filter : (f : Frame) (role rel : ℕ) (ks : List RoleCircuit) → ((k : RoleCircuit) → is_for role rel k ≡ true → is_read f k ≡ true)
     → is_some (position (is_for role rel) ks) ≡ true → is_some (position (is_for role rel) (filter (is_read f) ks)) ≡ true
-kept_place f role rel ks goes h = found_place (is_for role rel) (filter (is_read f) ks) (none_missing (is_read f) (is_for role rel) goes ks (place_found (is_for role rel) ks h))
+is_some-position_filter f role rel ks goes h = found_place (is_for role rel) (filter (is_read f) ks) (none_missing (is_read f) (is_for role rel) goes ks (place_found (is_for role rel) ks h))
 
 -- and with more behind them
-pub place_more : (t : RoleCircuit → Bool) (ks more : List RoleCircuit) → is_some (position t ks) ≡ true → is_some (position t (ks ++ more)) ≡ true
-place_more t ks more h = found_place t (ks ++ more) (any_more ks (place_found t ks h))
+pub is_some-position_append : (t : RoleCircuit → Bool) (ks more : List RoleCircuit) → is_some (position t ks) ≡ true → is_some (position t (ks ++ more)) ≡ true
+is_some-position_append t ks more h = found_place t (ks ++ more) (any_more ks (place_found t ks h))
   where
     by : (b c d : Bool) → (b || c) ≡ true → (c ≡ true → d ≡ true) → (b || d) ≡ true
     by true c d u later = refl
@@ -129,20 +129,20 @@ place_more t ks more h = found_place t (ks ++ more) (any_more ks (place_found t 
     any_more (x ∷ xs) k = by (t x) (list_any t xs) (list_any t (xs ++ more)) k (any_more xs)
 
 -- a subscription reads what is for its role and relation
-pub reads_it : (f : Frame) (s : Subscription) (k : RoleCircuit) → is_open f s.session ≡ true → k.role ≡ actor f s.session → k.rel ≡ s.rel → ((s.rel == k.rel) && session_acts_as f s.session k.role) ≡ true
-reads_it f s k o r l =
+pub and-session_acts_as : (f : Frame) (s : Subscription) (k : RoleCircuit) → is_open f s.session ≡ true → k.role ≡ actor f s.session → k.rel ≡ s.rel → ((s.rel == k.rel) && session_acts_as f s.session k.role) ≡ true
+and-session_acts_as f s k o r l =
     (λ i. (s.rel == l i) && session_acts_as f s.session (r i)) ∙ ap (λ b. b && session_acts_as f s.session (actor f s.session)) (is_self s.rel) ∙ is_acting f s.session o
 
 -- what it reads is read
 one_reads : (b : Bool) (ss : List Subscription) (k : RoleCircuit) (f : Frame) → b ≡ true → (b || list_any (λ s. (s.rel == k.rel) && session_acts_as f s.session k.role) ss) ≡ true
 one_reads b ss k f h = ap (λ x. x || list_any (λ s. (s.rel == k.rel) && session_acts_as f s.session k.role) ss) h
 
-pub reads_own : (f : Frame) (ss : List Subscription) → AllByRecursion (λ s. is_open f s.session ≡ true) ss
+pub list_any-session_acts_as : (f : Frame) (ss : List Subscription) → AllByRecursion (λ s. is_open f s.session ≡ true) ss
     → AllByRecursion (λ s. (k : RoleCircuit) → k.role ≡ actor f s.session → k.rel ≡ s.rel → list_any (λ x. (x.rel == k.rel) && session_acts_as f x.session k.role) ss ≡ true) ss
-reads_own f [] a = tt
-reads_own f (s ∷ ss) a = (
-  λ k r l. one_reads ((s.rel == k.rel) && session_acts_as f s.session k.role) ss k f (reads_it f s k a.0 r l),
-  later (reads_own f ss a.1),
+list_any-session_acts_as f [] a = tt
+list_any-session_acts_as f (s ∷ ss) a = (
+  λ k r l. one_reads ((s.rel == k.rel) && session_acts_as f s.session k.role) ss k f (and-session_acts_as f s k a.0 r l),
+  later (list_any-session_acts_as f ss a.1),
 )
   where
     or_true : (b c : Bool) → c ≡ true → (b || c) ≡ true

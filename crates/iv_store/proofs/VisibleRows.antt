@@ -28,13 +28,13 @@ use Rattle.iv_machine.proofs.DifferenceOrder.{AreRising, IsBelow, NoZero, AreRis
 
 -- ---- what a role sees depends on its name, on the roles that it reaches and on the guard alone
 
-pub for_same : (r q : Rights) (role : ℕ) → ReachesAlike q r.members role → (to : Grantee) → is_for r role to ≡ is_for q role to
-for_same r q role reach Public = refl
-for_same r q role reach (Role other) = reach other
+pub is_for-ReachesAlike : (r q : Rights) (role : ℕ) → ReachesAlike q r.members role → (to : Grantee) → is_for r role to ≡ is_for q role to
+is_for-ReachesAlike r q role reach Public = refl
+is_for-ReachesAlike r q role reach (Role other) = reach other
 
 module _ (r q : Rights) (role : ℕ) (reach : ReachesAlike q r.members role) (name : role_name r role ≡ role_name q role) (test : Check) (row : Cells) where
   applies_same : (p : Policy) → applies r role test p ≡ applies q role test p
-  applies_same p = λ i. covers p.command test && list_any (λ to. for_same r q role reach to i) p.to
+  applies_same p = λ i. covers p.command test && list_any (λ to. is_for-ReachesAlike r q role reach to i) p.to
 
   permits_same : (p : Policy) → permits r role test row p ≡ permits q role test row p
   permits_same p = λ i. not p.restrictive && (applies_same p i && passes (name i) test row p)
@@ -49,13 +49,13 @@ exempt_same : (r q : Rights) (role : ℕ) → ReachesAlike q r.members role → 
 exempt_same r q role reach None = refl
 exempt_same r q role reach (Some g) = λ i. not g.enabled || (is_admin role || (reach g.owner i && not g.forced))
 
-pub sees_same : (r q : Rights) (role t : ℕ) → ReachesAlike q r.members role → role_name r role ≡ role_name q role → slice_get r.guards t ≡ slice_get q.guards t → (row : Cells) → may_see r role t row ≡ may_see q role t row
-sees_same r q role t reach name guard row =
+pub may_see-ReachesAlike : (r q : Rights) (role t : ℕ) → ReachesAlike q r.members role → role_name r role ≡ role_name q role → slice_get r.guards t ≡ slice_get q.guards t → (row : Cells) → may_see r role t row ≡ may_see q role t row
+may_see-ReachesAlike r q role t reach name guard row =
     (λ i. is_pass (cond (exempt_same r q role reach (slice_get r.guards t) i) Pass (policies_same r q role reach name check.Select row (policies_of (slice_get r.guards t)) i)))
     ∙ ap (λ g. is_pass (cond (is_exempt q role g) Pass (by_policies q role check.Select row (policies_of g)))) guard
 
-pub rows_same : (r q : Rights) (role t : ℕ) → ReachesAlike q r.members role → role_name r role ≡ role_name q role → slice_get r.guards t ≡ slice_get q.guards t → (rows : List Cells) → filter (may_see r role t) rows ≡ filter (may_see q role t) rows
-rows_same r q role t reach name guard rows = λ i. filter (λ row. sees_same r q role t reach name guard row i) rows
+pub filter-ReachesAlike : (r q : Rights) (role t : ℕ) → ReachesAlike q r.members role → role_name r role ≡ role_name q role → slice_get r.guards t ≡ slice_get q.guards t → (rows : List Cells) → filter (may_see r role t) rows ≡ filter (may_see q role t) rows
+filter-ReachesAlike r q role t reach name guard rows = λ i. filter (λ row. may_see-ReachesAlike r q role t reach name guard row i) rows
 
 -- ---- a filtered list is within the limits where the list is
 

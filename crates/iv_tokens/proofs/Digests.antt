@@ -33,9 +33,10 @@ swapped true true r = refl
 swapped true false r = refl
 swapped false b r = refl
 
-pub inserted : (d : List ℕ) (k : Vec ℕ) (ks : List (Vec ℕ)) → list_any (is_key d) (insert_key vec_cmp ks k) ≡ (bytes_eq k.items d || list_any (is_key d) ks)
-inserted d k [] = ap (λ z. z || false) (is_key_of d k)
-inserted d k (x ∷ xs) = by (vec_cmp k x) refl (inserted d k xs)
+pub list_any-insert_key : (d : List ℕ) (k : Vec ℕ) (ks : List (Vec ℕ))
+    → list_any (is_key d) (insert_key vec_cmp ks k) ≡ (bytes_eq k.items d || list_any (is_key d) ks)
+list_any-insert_key d k [] = ap (λ z. z || false) (is_key_of d k)
+list_any-insert_key d k (x ∷ xs) = by (vec_cmp k x) refl (list_any-insert_key d k xs)
   where
     by : (o : Ordering) → vec_cmp k x ≡ o → list_any (is_key d) (insert_key vec_cmp xs k) ≡ (bytes_eq k.items d || list_any (is_key d) xs)
         → list_any (is_key d) (match_ordering o (k ∷ x ∷ xs) (x ∷ xs) (x ∷ insert_key vec_cmp xs k)) ≡ (bytes_eq k.items d || (is_key d x || list_any (is_key d) xs))
@@ -63,7 +64,7 @@ not_is : (b : Bool) → not b ≡ false → b ≡ true
 not_is true e = refl
 not_is false e = sym e
 
-pub known_behind : (n : ℕ) (es more : List Entry) (x : Entry) (s : BTreeSet (Vec ℕ)) (d : List ℕ) (is : Bool) → drop n es ≡ x ∷ more → d ≡ x.token.digest
+pub are_apart-has_key : (n : ℕ) (es more : List Entry) (x : Entry) (s : BTreeSet (Vec ℕ)) (d : List ℕ) (is : Bool) → drop n es ≡ x ∷ more → d ≡ x.token.digest
     → HasDigestsOf (tokens_among more) s → is ≡ not (has_key s d) → is ≡ false → false ≡ are_apart (tokens_among es)
-known_behind n es more x s d is cut here all e f =
+are_apart-has_key n es more x s d is cut here all e f =
     sym (found_behind n es more x cut (ap (λ z. has_digest z (tokens_among more)) (sym here) ∙ (sym (all d) ∙ not_is (has_key s d) (sym e ∙ f))))

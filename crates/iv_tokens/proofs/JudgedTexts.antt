@@ -15,15 +15,15 @@ not_memory x why n (inl e) = absurd (n e)
 not_memory x why n (inr e) = sym e
 
 -- it is known already
-pub known_answer : (es : List Entry) (secret : List ℕ) (ws : List Web) (now : ℕ) (text digest : List ℕ) → digest ≡ sha256 text → is_among digest es ws ≡ true
+pub answer_to-Known : (es : List Entry) (secret : List ℕ) (ws : List Web) (now : ℕ) (text digest : List ℕ) → digest ≡ sha256 text → is_among digest es ws ≡ true
     → Err answer.Known ≡ answer_to es secret ws now text
-known_answer es secret ws now text digest d h =
+answer_to-Known es secret ws now text digest d h =
     sym (ap (λ b. cond b (Err answer.Known) (answer_of ws now (sha256 text) (judged secret now text))) (subst (λ (x : List ℕ). is_among x es ws ≡ true) d h))
 
 -- it is judged
-pub judged_answer : (es : List Entry) (secret : List ℕ) (ws : List Web) (now : ℕ) (text digest : List ℕ) (r : Result Granted Fault) → digest ≡ sha256 text → is_among digest es ws ≡ false
+pub answer_to-judged : (es : List Entry) (secret : List ℕ) (ws : List Web) (now : ℕ) (text digest : List ℕ) (r : Result Granted Fault) → digest ≡ sha256 text → is_among digest es ws ≡ false
     → r ≡ judged secret now text → answer_of ws now digest r ≡ answer_to es secret ws now text
-judged_answer es secret ws now text digest r d h e =
+answer_to-judged es secret ws now text digest r d h e =
     ap (answer_of ws now digest) e
     ∙ (ap (λ x. answer_of ws now x (judged secret now text)) d
     ∙ sym (ap (λ b. cond b (Err answer.Known) (answer_of ws now (sha256 text) (judged secret now text))) (subst (λ (x : List ℕ). is_among x es ws ≡ false) d h)))
@@ -43,7 +43,7 @@ web_granted secret ws now text digest g w d is e = by (is_full g.subject ws) e
     by true h = absurd (ok_is_err w answer.Full (Err answer.Full) h refl)
     by false h = subst (λ (v : Web). IsWeb secret v) (same_ok (web_of now digest g) w (Ok (web_of now digest g)) refl h) (record { text = text; digest = d; granted = is })
 
-pub if_granted : (secret : List ℕ) (ws : List Web) (now : ℕ) (text digest : List ℕ) (g : Granted) (r : Result Web Judged) → digest ≡ sha256 text → IsGranted secret now text g
+pub IsWeb-IsGranted : (secret : List ℕ) (ws : List Web) (now : ℕ) (text digest : List ℕ) (g : Granted) (r : Result Web Judged) → digest ≡ sha256 text → IsGranted secret now text g
     → r ≡ answer_of ws now digest (Ok g) → IfOk r (IsWeb secret)
-if_granted secret ws now text digest g (Ok w) d is e = web_granted secret ws now text digest g w d is (sym e)
-if_granted secret ws now text digest g (Err j) d is e = tt
+IsWeb-IsGranted secret ws now text digest g (Ok w) d is e = web_granted secret ws now text digest g w d is (sym e)
+IsWeb-IsGranted secret ws now text digest g (Err j) d is e = tt

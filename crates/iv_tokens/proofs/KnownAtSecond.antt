@@ -12,15 +12,15 @@ use Rattle.iv_tokens.proofs.Valid.{none_behind}
 
 -- ---- what a secret granted
 
-pub web_pushed : (secret : List ℕ) (ws : List Web) (w : Web) → AreWeb secret ws → IsWeb secret w → AreWeb secret (ws ++ w ∷ [])
-web_pushed secret [] w a is = (is, tt)
-web_pushed secret (v ∷ ws) w a is = (a.0, web_pushed secret ws w a.1 is)
+pub AreWeb-push : (secret : List ℕ) (ws : List Web) (w : Web) → AreWeb secret ws → IsWeb secret w → AreWeb secret (ws ++ w ∷ [])
+AreWeb-push secret [] w a is = (is, tt)
+AreWeb-push secret (v ∷ ws) w a is = (a.0, AreWeb-push secret ws w a.1 is)
 
-pub web_removed : (secret : List ℕ) (ws : List Web) (at : ℕ) → AreWeb secret ws → AreWeb secret (remove ws at)
-web_removed secret [] zero a = tt
-web_removed secret [] (suc n) a = tt
-web_removed secret (w ∷ ws) zero a = a.1
-web_removed secret (w ∷ ws) (suc n) a = (a.0, web_removed secret ws n a.1)
+pub AreWeb-remove : (secret : List ℕ) (ws : List Web) (at : ℕ) → AreWeb secret ws → AreWeb secret (remove ws at)
+AreWeb-remove secret [] zero a = tt
+AreWeb-remove secret [] (suc n) a = tt
+AreWeb-remove secret (w ∷ ws) zero a = a.1
+AreWeb-remove secret (w ∷ ws) (suc n) a = (a.0, AreWeb-remove secret ws n a.1)
 
 -- ---- from the second on at which it was presented, until its end
 
@@ -82,5 +82,5 @@ all_known now k a = All-append (IsKnown now k) (valid_at now k.entries) (web_at 
     (All-weaker (IsOfEntry now k.entries) (IsKnown now k) (λ t h. inl h) (valid_at now k.entries) (none_behind now k.entries))
     (All-weaker (IsOfWeb k.secret now) (IsKnown now k) (λ t h. inr h) (web_at now k.web) (web_known k.secret now k.web a))
 
-pub all_known_in : (now : ℕ) (k z : Known) (ts : List Token) → z ≡ k → AreWeb z.secret z.web → ts ≡ known_at now z → All (IsKnown now k) ts
-all_known_in now k z ts v a e = subst (λ (y : Known). All (IsKnown now y) ts) v (subst (λ (us : List Token). All (IsKnown now z) us) (sym e) (all_known now z a))
+pub All-IsKnown : (now : ℕ) (k z : Known) (ts : List Token) → z ≡ k → AreWeb z.secret z.web → ts ≡ known_at now z → All (IsKnown now k) ts
+All-IsKnown now k z ts v a e = subst (λ (y : Known). All (IsKnown now y) ts) v (subst (λ (us : List Token). All (IsKnown now z) us) (sym e) (all_known now z a))

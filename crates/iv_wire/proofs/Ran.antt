@@ -9,7 +9,7 @@ use Rattle.iv_machine.specs.Stored.{IsGiven}
 use Rattle.iv_machine.proofs.SoundRuns.{IsSoundWhole-run}
 use Rattle.iv_engine.specs.Engine.{Engine, IsBehind}
 use Rattle.iv_engine.specs.Sound.{IsSoundEngine}
-use Rattle.iv_engine.proofs.SoundStates.{sound_of, whole_of}
+use Rattle.iv_engine.proofs.SoundStates.{IsSoundEngine-IsBehind, IsSoundWhole-of_engine}
 use Rattle.iv_request.specs.Reading.{Reading, faulty, asked, reading_of}
 use Rattle.iv_lines.specs.Answer.{commands_of, readings_of, told}
 use Rattle.iv_lines.specs.Cut.{is_blank_line}
@@ -31,15 +31,15 @@ line_has_one line = by (is_blank_line line)
     by true = omega arith
     by false = one_at_most (reading_of line)
 
-pub none_ran : (s : State) (e : Engine) → IsBehind s e → HasRun 0 s e
-none_ran s e b = record { commands = []; most = omega arith; given = All-nil IsGiven; behind = b }
+pub HasRun-none : (s : State) (e : Engine) → IsBehind s e → HasRun 0 s e
+HasRun-none s e b = record { commands = []; most = omega arith; given = All-nil IsGiven; behind = b }
 
-pub ran_within : (n lines : ℕ) (s : State) (e : Engine) → n ≤ lines → HasRun n s e → HasRun lines s e
-ran_within n lines s e le h = record { commands = h.commands; most = omega (arith, le, h.most); given = h.given; behind = h.behind }
+pub HasRun-le : (n lines : ℕ) (s : State) (e : Engine) → n ≤ lines → HasRun n s e → HasRun lines s e
+HasRun-le n lines s e le h = record { commands = h.commands; most = omega (arith, le, h.most); given = h.given; behind = h.behind }
 
 -- and one line more
-pub one_more_ran : (n : ℕ) (line : List ℕ) (s : State) (old new : Engine) → HasRun n s old → All IsGiven (commands_of (readings_of line)) → ((t : State) → IsBehind t old → IsBehind (told t (readings_of line)).state new) → HasRun (n + 1) s new
-one_more_ran n line s old new h g f =
+pub HasRun-next : (n : ℕ) (line : List ℕ) (s : State) (old new : Engine) → HasRun n s old → All IsGiven (commands_of (readings_of line)) → ((t : State) → IsBehind t old → IsBehind (told t (readings_of line)).state new) → HasRun (n + 1) s new
+HasRun-next n line s old new h g f =
     let more = commands_of (readings_of line) in
     record {
       commands = h.commands ++ more;
@@ -62,6 +62,6 @@ one_given line c b h g = rw (b, h) (All-cons IsGiven c [] g (All-nil IsGiven))
 
 -- ---- a run keeps what is sound
 
-pub sound_by_run : (lines : ℕ) (old new : Engine) → ((s : State) → IsBehind s old → HasRun lines s new) → IsSoundEngine old → IsSoundEngine new
-sound_by_run lines old new f h = let r = f h.state h.behind in
-    sound_of (run h.state r.commands).state new r.behind (IsSoundWhole-run h.state r.commands r.given (whole_of old h))
+pub IsSoundEngine-HasRun : (lines : ℕ) (old new : Engine) → ((s : State) → IsBehind s old → HasRun lines s new) → IsSoundEngine old → IsSoundEngine new
+IsSoundEngine-HasRun lines old new f h = let r = f h.state h.behind in
+    IsSoundEngine-IsBehind (run h.state r.commands).state new r.behind (IsSoundWhole-run h.state r.commands r.given (IsSoundWhole-of_engine old h))

@@ -100,23 +100,23 @@ HasTold s None k old new now left = ⊤
 HasTold s (Some bytes) k old new now None = ⊥
 HasTold s (Some bytes) k old new now (Some left) = (((answer k s bytes).end ≡ Lines) × Appends old new (answer k s bytes).text) × IsBehind (answer k s bytes).state now × ((answer k s bytes).rest ≡ left)
 
-pub told_first : (s : State) (now : Engine) (left old : Option (List ℕ)) (ahead : List ℕ) → IsBehind s now → ahead ≡ [] → HasTold s left 0 old old now (prepend_known ahead left)
-told_first s now None old ahead b e = tt
-told_first s now (Some bs) old ahead b e = ((refl, appends_none old), b, rw e refl)
+pub HasTold-start : (s : State) (now : Engine) (left old : Option (List ℕ)) (ahead : List ℕ) → IsBehind s now → ahead ≡ [] → HasTold s left 0 old old now (prepend_known ahead left)
+HasTold-start s now None old ahead b e = tt
+HasTold-start s now (Some bs) old ahead b e = ((refl, appends_none old), b, rw e refl)
 
 -- what the answer to a line says, for each state that stands behind the engine
 abbrev pub Tells : Engine → Engine → List ℕ → List ℕ → Type 0
 Tells now next line text = (t : State) → IsBehind t now → (text ≡ (told t (readings_of line)).text) × IsBehind (told t (readings_of line)).state next
 
 -- from what the call says of the slices that it was passed
-pub tells : (now next : Engine) (line given text said : List ℕ) → given ≡ line → said ≡ text → ((t : State) → IsBehind t now → text ≡ (told t (readings_of given)).text) → ((t : State) → IsBehind t now → IsBehind (told t (readings_of given)).state next) → Tells now next line said
-tells now next line given text said e f h k t b = (f ∙ (h t b ∙ ap (λ (l : List ℕ). (told t (readings_of l)).text) e), subst (λ (l : List ℕ). IsBehind (told t (readings_of l)).state next) e (k t b))
+pub Tells-told : (now next : Engine) (line given text said : List ℕ) → given ≡ line → said ≡ text → ((t : State) → IsBehind t now → text ≡ (told t (readings_of given)).text) → ((t : State) → IsBehind t now → IsBehind (told t (readings_of given)).state next) → Tells now next line said
+Tells-told now next line given text said e f h k t b = (f ∙ (h t b ∙ ap (λ (l : List ℕ). (told t (readings_of l)).text) e), subst (λ (l : List ℕ). IsBehind (told t (readings_of l)).state next) e (k t b))
 
-pub told_more : (s : State) (now next : Engine) (left mid new old most written : Option (List ℕ)) (k : ℕ) (line : Vec ℕ Global) (text : List ℕ) → HasTold s left k old most now mid → IsCut mid (comes.Line line) new → Tells now next line.items text → Appends most written text → HasTold s left (k + 1) old written next new
-told_more s now next None mid new old most written k line text h c t w = tt
-told_more s now next (Some bs) None new old most written k line text h c t w = absurd h
-told_more s now next (Some bs) (Some xs) None old most written k line text h c t w = absurd c
-told_more s now next (Some bs) (Some xs) (Some ys) old most written k line text h c t w =
+pub HasTold-next : (s : State) (now next : Engine) (left mid new old most written : Option (List ℕ)) (k : ℕ) (line : Vec ℕ Global) (text : List ℕ) → HasTold s left k old most now mid → IsCut mid (comes.Line line) new → Tells now next line.items text → Appends most written text → HasTold s left (k + 1) old written next new
+HasTold-next s now next None mid new old most written k line text h c t w = tt
+HasTold-next s now next (Some bs) None new old most written k line text h c t w = absurd h
+HasTold-next s now next (Some bs) (Some xs) None old most written k line text h c t w = absurd c
+HasTold-next s now next (Some bs) (Some xs) (Some ys) old most written k line text h c t w =
     let u = told (answer k s bs).state (readings_of line.items) in
     let p : (text ≡ u.text) × IsBehind u.state next = t (answer k s bs).state h.1 in
     subst (λ (a : Answer). ((a.end ≡ Lines) × Appends old written a.text) × IsBehind a.state next × (a.rest ≡ ys)) (sym (next_line_answer k s bs xs line.items ys h.0.0 h.2 c))
@@ -125,40 +125,40 @@ told_more s now next (Some bs) (Some xs) (Some ys) old most written k line text 
 split_lines : (lines k : ℕ) → k < lines → k + suc (lines - (k + 1)) ≡ lines
 split_lines lines k l = omega arith
 
-pub answered_input : (s : State) (now : Engine) (any left mid new old written : Option (List ℕ)) (lines k : ℕ) → k < lines → HasTold s left k old written now mid → IsCut mid comes.Nothing new → IsAnswered s (ran lines left any old written now) (Ok Input)
-answered_input s now any None mid new old written lines k l h c = tt
-answered_input s now any (Some bs) None new old written lines k l h c = absurd h
-answered_input s now any (Some bs) (Some xs) None old written lines k l h c = absurd c
-answered_input s now any (Some bs) (Some xs) (Some ys) old written lines k l h c =
+pub IsAnswered-Input : (s : State) (now : Engine) (any left mid new old written : Option (List ℕ)) (lines k : ℕ) → k < lines → HasTold s left k old written now mid → IsCut mid comes.Nothing new → IsAnswered s (ran lines left any old written now) (Ok Input)
+IsAnswered-Input s now any None mid new old written lines k l h c = tt
+IsAnswered-Input s now any (Some bs) None new old written lines k l h c = absurd h
+IsAnswered-Input s now any (Some bs) (Some xs) None old written lines k l h c = absurd c
+IsAnswered-Input s now any (Some bs) (Some xs) (Some ys) old written lines k l h c =
     let e = next_answer k (lines - (k + 1)) s bs xs nothing h.0.0 h.2 c in
     let e' = ap (λ n. answer n s bs) (sym (split_lines lines k l)) ∙ e in
     subst (λ (a : Answer). Appends old written a.text × IsBehind a.state now × (Input ≡ a.end)) (sym e') (rw append-nil h.0.1, h.1, refl)
 
-pub answered_endless : (s : State) (now : Engine) (any left mid new old most written : Option (List ℕ)) (lines k : ℕ) (text : List ℕ) → k < lines → HasTold s left k old most now mid → IsCut mid comes.Endless new → text ≡ fault_text 22 → Appends most written text → IsAnswered s (ran lines left any old written now) (Ok TooLong)
-answered_endless s now any None mid new old most written lines k text l h c e w = tt
-answered_endless s now any (Some bs) None new old most written lines k text l h c e w = absurd h
-answered_endless s now any (Some bs) (Some xs) None old most written lines k text l h c e w = absurd c
-answered_endless s now any (Some bs) (Some xs) (Some ys) old most written lines k text l h c e w =
+pub IsAnswered-TooLong : (s : State) (now : Engine) (any left mid new old most written : Option (List ℕ)) (lines k : ℕ) (text : List ℕ) → k < lines → HasTold s left k old most now mid → IsCut mid comes.Endless new → text ≡ fault_text 22 → Appends most written text → IsAnswered s (ran lines left any old written now) (Ok TooLong)
+IsAnswered-TooLong s now any None mid new old most written lines k text l h c e w = tt
+IsAnswered-TooLong s now any (Some bs) None new old most written lines k text l h c e w = absurd h
+IsAnswered-TooLong s now any (Some bs) (Some xs) None old most written lines k text l h c e w = absurd c
+IsAnswered-TooLong s now any (Some bs) (Some xs) (Some ys) old most written lines k text l h c e w =
     let f = next_too_long k (lines - (k + 1)) s bs xs h.0.0 h.2 c in
     let e' = ap (λ n. answer n s bs) (sym (split_lines lines k l)) ∙ f in
     subst (λ (a : Answer). Appends old written a.text × IsBehind a.state now × (TooLong ≡ a.end)) (sym e') (appends_more old most written (answer k s bs).text (fault_text 22) h.0.1 (subst (λ (v : List ℕ). Appends most written v) e w), h.1, refl)
 
-pub answered_lines : (s : State) (now : Engine) (any left mid old written : Option (List ℕ)) (lines k : ℕ) → k ≡ lines → HasTold s left k old written now mid → IsAnswered s (ran lines left any old written now) (Ok Lines)
-answered_lines s now any None mid old written lines k l h = tt
-answered_lines s now any (Some bs) None old written lines k l h = absurd h
-answered_lines s now any (Some bs) (Some xs) old written lines k l h =
+pub IsAnswered-Lines : (s : State) (now : Engine) (any left mid old written : Option (List ℕ)) (lines k : ℕ) → k ≡ lines → HasTold s left k old written now mid → IsAnswered s (ran lines left any old written now) (Ok Lines)
+IsAnswered-Lines s now any None mid old written lines k l h = tt
+IsAnswered-Lines s now any (Some bs) None old written lines k l h = absurd h
+IsAnswered-Lines s now any (Some bs) (Some xs) old written lines k l h =
     subst (λ (n : ℕ). Appends old written (answer n s bs).text × IsBehind (answer n s bs).state now × (Lines ≡ (answer n s bs).end)) l (h.0.1, h.1, sym h.0.0)
 
-pub answered_read : (s : State) (now : Engine) (left mid new old written : Option (List ℕ)) (lines k : ℕ) → k < lines → HasTold s left k old written now mid → IsCutShort mid new → IsAnswered s (ran lines left new old written now) (Err Read)
-answered_read s now None mid new old written lines k l h c = tt
-answered_read s now (Some bs) None new old written lines k l h c = absurd h
-answered_read s now (Some bs) (Some xs) None old written lines k l h c = absurd c
-answered_read s now (Some bs) (Some xs) (Some ys) old written lines k l h c = (k, l, h.0, (h.1, subst (λ (r : List ℕ). BeginsLine r ys) (sym h.2) c))
+pub IsAnswered-Read : (s : State) (now : Engine) (left mid new old written : Option (List ℕ)) (lines k : ℕ) → k < lines → HasTold s left k old written now mid → IsCutShort mid new → IsAnswered s (ran lines left new old written now) (Err Read)
+IsAnswered-Read s now None mid new old written lines k l h c = tt
+IsAnswered-Read s now (Some bs) None new old written lines k l h c = absurd h
+IsAnswered-Read s now (Some bs) (Some xs) None old written lines k l h c = absurd c
+IsAnswered-Read s now (Some bs) (Some xs) (Some ys) old written lines k l h c = (k, l, h.0, (h.1, subst (λ (r : List ℕ). BeginsLine r ys) (sym h.2) c))
 
-pub answered_memory : (s : State) (now next : Engine) (left mid new old written : Option (List ℕ)) (lines k : ℕ) → k < lines → HasTold s left k old written now mid → IsAnswered s (ran lines left new old written next) (Err Memory)
-answered_memory s now next None mid new old written lines k l h = tt
-answered_memory s now next (Some bs) None new old written lines k l h = absurd h
-answered_memory s now next (Some bs) (Some xs) new old written lines k l h = (k, l, h.0)
+pub IsAnswered-Memory : (s : State) (now next : Engine) (left mid new old written : Option (List ℕ)) (lines k : ℕ) → k < lines → HasTold s left k old written now mid → IsAnswered s (ran lines left new old written next) (Err Memory)
+IsAnswered-Memory s now next None mid new old written lines k l h = tt
+IsAnswered-Memory s now next (Some bs) None new old written lines k l h = absurd h
+IsAnswered-Memory s now next (Some bs) (Some xs) new old written lines k l h = (k, l, h.0)
 
 write_by : (s : State) (now next : Engine) (bs xs : List ℕ) (new old most written : Option (List ℕ)) (lines k n : ℕ) (u : Told) (end : End) (rest : List ℕ) → k < lines → HasTold s (Some bs) k old most now (Some xs) → answer (k + 1) s bs ≡ record { state = u.state; text = (answer k s bs).text ++ u.text; end = end; rest = rest } → IsBehind u.state next → Appends most written (take n u.text) → IsAnswered s (ran lines (Some bs) new old written next) (Err Write)
 write_by s now next bs xs new old most written lines k n u end rest l h e t w =
@@ -177,19 +177,19 @@ write_by s now next bs xs new old most written lines k n u end rest l h e t w =
       ),
     )
 
-pub answered_write : (s : State) (now next : Engine) (any left mid new old most written : Option (List ℕ)) (lines k : ℕ) (line : Vec ℕ Global) (text : List ℕ) → k < lines → HasTold s left k old most now mid → IsCut mid (comes.Line line) new → Tells now next line.items text → (n : ℕ) × Appends most written (take n text) → IsAnswered s (ran lines left any old written next) (Err Write)
-answered_write s now next any None mid new old most written lines k line text l h c t w = tt
-answered_write s now next any (Some bs) None new old most written lines k line text l h c t w = absurd h
-answered_write s now next any (Some bs) (Some xs) None old most written lines k line text l h c t w = absurd c
-answered_write s now next any (Some bs) (Some xs) (Some ys) old most written lines k line text l h c t w =
+pub IsAnswered-Write : (s : State) (now next : Engine) (any left mid new old most written : Option (List ℕ)) (lines k : ℕ) (line : Vec ℕ Global) (text : List ℕ) → k < lines → HasTold s left k old most now mid → IsCut mid (comes.Line line) new → Tells now next line.items text → (n : ℕ) × Appends most written (take n text) → IsAnswered s (ran lines left any old written next) (Err Write)
+IsAnswered-Write s now next any None mid new old most written lines k line text l h c t w = tt
+IsAnswered-Write s now next any (Some bs) None new old most written lines k line text l h c t w = absurd h
+IsAnswered-Write s now next any (Some bs) (Some xs) None old most written lines k line text l h c t w = absurd c
+IsAnswered-Write s now next any (Some bs) (Some xs) (Some ys) old most written lines k line text l h c t w =
     let u = told (answer k s bs).state (readings_of line.items) in
     let p : (text ≡ u.text) × IsBehind u.state next = t (answer k s bs).state h.1 in
     write_by s now next bs xs any old most written lines k w.0 u Lines ys l h (next_line_answer k s bs xs line.items ys h.0.0 h.2 c) p.1 (subst (λ (v : List ℕ). Appends most written (take w.0 v)) p.0 w.1)
 
-pub answered_write_endless : (s : State) (now : Engine) (any left mid new old most written : Option (List ℕ)) (lines k : ℕ) (text : List ℕ) → k < lines → HasTold s left k old most now mid → IsCut mid comes.Endless new → text ≡ fault_text 22 → (n : ℕ) × Appends most written (take n text) → IsAnswered s (ran lines left any old written now) (Err Write)
-answered_write_endless s now any None mid new old most written lines k text l h c e w = tt
-answered_write_endless s now any (Some bs) None new old most written lines k text l h c e w = absurd h
-answered_write_endless s now any (Some bs) (Some xs) None old most written lines k text l h c e w = absurd c
-answered_write_endless s now any (Some bs) (Some xs) (Some ys) old most written lines k text l h c e w =
+pub IsAnswered-Write_endless : (s : State) (now : Engine) (any left mid new old most written : Option (List ℕ)) (lines k : ℕ) (text : List ℕ) → k < lines → HasTold s left k old most now mid → IsCut mid comes.Endless new → text ≡ fault_text 22 → (n : ℕ) × Appends most written (take n text) → IsAnswered s (ran lines left any old written now) (Err Write)
+IsAnswered-Write_endless s now any None mid new old most written lines k text l h c e w = tt
+IsAnswered-Write_endless s now any (Some bs) None new old most written lines k text l h c e w = absurd h
+IsAnswered-Write_endless s now any (Some bs) (Some xs) None old most written lines k text l h c e w = absurd c
+IsAnswered-Write_endless s now any (Some bs) (Some xs) (Some ys) old most written lines k text l h c e w =
     let u : Told = record { state = (answer k s bs).state; text = fault_text 22 } in
     write_by s now now bs xs any old most written lines k w.0 u TooLong [] l h (next_too_long k zero s bs xs h.0.0 h.2 c) h.1 (subst (λ (v : List ℕ). Appends most written (take w.0 v)) e w.1)

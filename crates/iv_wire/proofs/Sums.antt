@@ -20,10 +20,10 @@ texts_follow : (ls ms : List Line) (text : List ℕ) → IsTextOf ms text → Is
 texts_follow [] ms text h = h
 texts_follow (l ∷ ls) ms text h = subst (λ (v : List ℕ). IsTextOf (l ∷ (ls ++ ms)) v) (sym (append_assoc (line_text l) (flat_map line_text ls) text)) (sums.line l (texts_follow ls ms text h))
 
-pub text_is_of_run : (s : State) (rs : List Reading) → IsTextOf (run s (commands_of rs)).lines (text_answered s rs)
-text_is_of_run s [] = sums.nothing
-text_is_of_run s (faulty n ∷ rs) = sums.fault n (text_is_of_run s rs)
-text_is_of_run s (asked c ∷ rs) = let one = step s c in texts_follow one.lines (run one.state (commands_of rs)).lines (text_answered one.state rs) (text_is_of_run one.state rs)
+pub IsTextOf-run : (s : State) (rs : List Reading) → IsTextOf (run s (commands_of rs)).lines (text_answered s rs)
+IsTextOf-run s [] = sums.nothing
+IsTextOf-run s (faulty n ∷ rs) = sums.fault n (IsTextOf-run s rs)
+IsTextOf-run s (asked c ∷ rs) = let one = step s c in texts_follow one.lines (run one.state (commands_of rs)).lines (text_answered one.state rs) (IsTextOf-run one.state rs)
 
 -- ---- what a run has written
 
@@ -37,10 +37,10 @@ written_ok s (Some bytes) r end h p =
       behind = h.1;
       numbers = AreNumbersUnique-run s (commands_of rs) p;
       written = h.0;
-      texts = text_is_of_run s rs;
+      texts = IsTextOf-run s rs;
       sums = AddsUp-run s (commands_of rs) p;
     }
 
-pub has_written : (first : Engine) (r : Run) (result : Result End RunFault) → AreNumbersUnique first.frame → ((s : State) → IsBehind s first → IsAnswered s r result) → OnOk result ((s : State) → IsBehind s first → IfSome r.given (λ _. HasWritten s r))
-has_written first r (Ok end) p h = λ s b. written_ok s r.given r end (h s b) (subst AreNumbersUnique (sym b.frame) p)
-has_written first r (Err e) p h = tt
+pub HasWritten-IsAnswered : (first : Engine) (r : Run) (result : Result End RunFault) → AreNumbersUnique first.frame → ((s : State) → IsBehind s first → IsAnswered s r result) → OnOk result ((s : State) → IsBehind s first → IfSome r.given (λ _. HasWritten s r))
+HasWritten-IsAnswered first r (Ok end) p h = λ s b. written_ok s r.given r end (h s b) (subst AreNumbersUnique (sym b.frame) p)
+HasWritten-IsAnswered first r (Err e) p h = tt

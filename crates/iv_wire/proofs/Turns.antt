@@ -5,7 +5,7 @@ use Rattle.iv_engine.specs.Engine.{Engine}
 use Rattle.iv_lines.specs.Answer.{answer}
 use Rattle.iv_lines.specs.Moments.{Moment, ReadsAt, IsWithinLine}
 use Rattle.iv_lines.specs.Reads.{IsCutShort}
-use Rattle.iv_lines.proofs.Moments.{reads_more, reads_like}
+use Rattle.iv_lines.proofs.Moments.{ReadsAt-trans, ReadsAt-map}
 use Rattle.std.specs.Io.KnownBytes.{Appends}
 use Rattle.iv_wire.specs.Turns.{IsInTurn}
 use Rattle.iv_wire.proofs.RunAnswers.{HasTold}
@@ -24,6 +24,6 @@ in_turn lines k s (Some bs) (Some xs) taken now engine flushed l h f m w = recor
 }
 
 -- a line more is read, where k lines are answered
-pub one_more_turn : (lines k : ℕ) (s : State) (given left taken now : Option (List ℕ)) (engine : Engine) (flushed : Bool) (old mid new : List Moment) → k < lines → HasTold s given k taken now engine left → flushed ≡ true → ReadsAt (IsInTurn lines s given taken) old mid → ReadsAt (IsWithinLine left now flushed) mid new → ReadsAt (IsInTurn lines s given taken) old new
-one_more_turn lines k s given left taken now engine flushed old mid new l h f a b =
-    reads_more _ old mid new a (reads_like _ _ mid new (in_turn lines k s given left taken now engine flushed l h f) b)
+pub ReadsAt-HasTold : (lines k : ℕ) (s : State) (given left taken now : Option (List ℕ)) (engine : Engine) (flushed : Bool) (old mid new : List Moment) → k < lines → HasTold s given k taken now engine left → flushed ≡ true → ReadsAt (IsInTurn lines s given taken) old mid → ReadsAt (IsWithinLine left now flushed) mid new → ReadsAt (IsInTurn lines s given taken) old new
+ReadsAt-HasTold lines k s given left taken now engine flushed old mid new l h f a b =
+    ReadsAt-trans _ old mid new a (ReadsAt-map _ _ mid new (in_turn lines k s given left taken now engine flushed l h f) b)

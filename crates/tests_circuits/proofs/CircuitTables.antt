@@ -24,8 +24,8 @@ same_or_not m n = grind arith
 
 -- ---- tables
 
-pub no_rows_sound : (tables : List Table) (n : ℕ) → rows_of tables n ≡ [] → IsSound tables n
-no_rows_sound tables n e = record {
+pub IsSound-no_rows : (tables : List Table) (n : ℕ) → rows_of tables n ≡ [] → IsSound tables n
+IsSound-no_rows tables n e = record {
   bag = subst IsBag (sym e) (λ q. at_least);
   kinds = λ q some. absurd (some (ap (λ es. weight_of es q) e));
 }
@@ -39,13 +39,13 @@ same_sound old new n e s = record {
   kinds = subst (λ (o : Option Table). AreOf (or_nothing (option_map (λ t. kinds_of t.schema) o)) (rows_or_none o)) (sym e) s.kinds;
 }
 
-pub sound_but_one : (old new : List Table) (table : ℕ) → AreSound old → IsSound new table → ((n : ℕ) → n ≢ table → table_of new n ≡ table_of old n) → AreSound new
-sound_but_one old new table s own others n =
+pub AreSound-one_changed : (old new : List Table) (table : ℕ) → AreSound old → IsSound new table → ((n : ℕ) → n ≢ table → table_of new n ≡ table_of old n) → AreSound new
+AreSound-one_changed old new table s own others n =
     ⊎_elim (λ e. subst (λ (k : ℕ). IsSound new k) (sym e) own) (λ d. same_sound old new n (others n d) (s n)) (same_or_not n table)
 
-pub more_rows : (old new : List Table) (table : ℕ) (row : Cells) (copies : ℤ) → SameZ (rows_of new table) ((row, copies) ∷ rows_of old table)
+pub HasMore-SameZ : (old new : List Table) (table : ℕ) (row : Cells) (copies : ℤ) → SameZ (rows_of new table) ((row, copies) ∷ rows_of old table)
     → ((n : ℕ) → n ≢ table → table_of new n ≡ table_of old n) → HasMore table row copies (rows_of old) (rows_of new)
-more_rows old new table row copies own others = record { own = own; others = λ n d. ap rows_or_none (others n d) }
+HasMore-SameZ old new table row copies own others = record { own = own; others = λ n d. ap rows_or_none (others n d) }
 
 -- ---- changes
 
@@ -55,9 +55,10 @@ lead_nowhere tables n q = refl
 lead_own : (x y z w v : ℤ) → w ≡ x +ℤ v → v ≡ y +ℤ z → w ≡ (x +ℤ y) +ℤ z
 lead_own x y z w v h k = omega (arith, ints, h, k)
 
-pub lead_more : (base old new : List Table) (before after : Given) (table : ℕ) (row : Cells) (copies : ℤ) → HasMore table row copies (rows_of old) (rows_of new)
+pub LeadTo-HasMore : (base old new : List Table) (before after : Given) (table : ℕ) (row : Cells) (copies : ℤ)
+    → HasMore table row copies (rows_of old) (rows_of new)
     → SameZ (after table) ((row, copies) ∷ before table) → ((n : ℕ) → n ≢ table → after n ≡ before n) → LeadTo base old before → LeadTo base new after
-lead_more base old new before after table row copies more own others leads n =
+LeadTo-HasMore base old new before after table row copies more own others leads n =
     ⊎_elim
     (λ e. subst (λ (k : ℕ). SameZ (rows_of new k) (after k ++ rows_of base k)) (sym e) (λ q.
     lead_own (weight_at row copies q) (weight_of (before table) q) (weight_of (rows_of base table) q) (weight_of (rows_of new table) q) (weight_of (rows_of old table) q)

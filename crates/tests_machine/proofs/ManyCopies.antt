@@ -21,7 +21,7 @@ use Rattle.iv_machine.specs.State.{State, Subscription, is_within}
 use Rattle.tests_machine.specs.Worked.{Computes, first, many, notes, of_ann, of_x, put}
 use Rattle.tests_machine.proofs.TextValues.{texts_compute}
 use Rattle.iv_machine.proofs.CopiesAfterWrite.{copies-append}
-use Rattle.tests_machine.proofs.Copies.{filter_times, within_times, without_times, and_false, one_fails, one_more_not_within, own_copies}
+use Rattle.tests_machine.proofs.Copies.{filter-times, within-times, without-times, and-second_false, list_all-one_false, within-one_more, copies-own_times}
 
 -- c copies of a row
 abbrev copied : ℕ → ℕ → Act
@@ -31,16 +31,16 @@ abbrev asked : Act → Command
 asked act = record { session = 1; act = act }
 
 first_fits : (n c : ℕ) → c < 2 ^ 63 → refusal unread 1 (copied n c) ≡ None
-first_fits n c l = ap (λ b. or_else (test (not ((b && true) && true)) limit) None) (within_times 1024 c (of_x n) (omega arith) l)
+first_fits n c l = ap (λ b. or_else (test (not ((b && true) && true)) limit) None) (within-times 1024 c (of_x n) (omega arith) l)
 
-pub no_sums_compute : (c : ℕ) → c ≡ 2 ^ 62 → Computes unread (no_sums c)
-no_sums_compute c e = ap (λ o. (outcome unread (asked (copied 2 c)) o).lines ++ []) (first_fits 2 c (omega arith))
+pub Computes-no_sums : (c : ℕ) → c ≡ 2 ^ 62 → Computes unread (no_sums c)
+Computes-no_sums c e = ap (λ o. (outcome unread (asked (copied 2 c)) o).lines ++ []) (first_fits 2 c (omega arith))
 
 then_full : (c : ℕ) → c ≡ 2 ^ 63 - 1 → refusal (outcome unread (asked (copied 1 c)) None).state 1 (put notes (of_x 1)) ≡ Some limit
-then_full c e = ap (λ b. or_else (test (not ((b && true) && true)) limit) None) (one_more_not_within 1024 c (of_x 1) e)
+then_full c e = ap (λ b. or_else (test (not ((b && true) && true)) limit) None) (within-one_more 1024 c (of_x 1) e)
 
-pub copies_limit_computes : (c : ℕ) → c ≡ 2 ^ 63 - 1 → Computes unread (copies_limit c)
-copies_limit_computes c e =
+pub Computes-copies_limit : (c : ℕ) → c ≡ 2 ^ 63 - 1 → Computes unread (copies_limit c)
+Computes-copies_limit c e =
     ap (λ o. (outcome unread (asked (copied 1 c)) o).lines ++ (run (outcome unread (asked (copied 1 c)) o).state (asked (put notes (of_x 1)) ∷ [])).lines) (first_fits 1 c (omega arith))
     ∙ ap (λ o. (outcome unread (asked (copied 1 c)) None).lines ++ ((outcome (outcome unread (asked (copied 1 c)) None).state (asked (put notes (of_x 1))) o).lines ++ [])) (then_full c e)
 
@@ -64,11 +64,11 @@ abbrev noted : ℕ → List (List Cell)
 noted c = of_ann 1 ∷ times c (of_x 2)
 
 share_is : (c : ℕ) → c ≡ 2 ^ 62 → is_small (share 0 (noted c) (of_x 2)) ≡ false
-share_is c e = ap (λ m. is_small (pos 2 *ℤ pos m)) (ap (λ n. 0 + n) (own_copies c (of_x 2) ∙ e))
+share_is c e = ap (λ m. is_small (pos 2 *ℤ pos m)) (ap (λ n. 0 + n) (copies-own_times c (of_x 2) ∙ e))
 
 shares_fail : (c : ℕ) → c ≡ 2 ^ 62 → list_all (λ r. is_small (share 0 (noted c) r)) (noted c) ≡ false
 shares_fail zero e = absurd (omega arith)
-shares_fail (suc c) e = one_fails (λ r. is_small (share 0 (noted (suc c)) r)) (of_ann 1 ∷ []) (times c (of_x 2)) (of_x 2) (share_is (suc c) e)
+shares_fail (suc c) e = list_all-one_false (λ r. is_small (share 0 (noted (suc c)) r)) (of_ann 1 ∷ []) (times c (of_x 2)) (of_x 2) (share_is (suc c) e)
 
 abbrev after_copies : ℕ → State
 after_copies c = after summed 1 (copied 2 c)
@@ -85,8 +85,8 @@ below_hundred = Compare (Column 0) Less (Literal (num (pos 100)))
 
 rows_are : (c : ℕ) → eval (Filter below_hundred (Scan 0)) (seen c) ≡ noted c
 unfolding texts_compute
-rows_are c = ap (λ rows. of_ann 1 ∷ filter (holds below_hundred []) rows) (filter_times (may_see (after_copies c).frame.rights 1 0) c (of_x 2) refl)
-    ∙ ap (λ rows. of_ann 1 ∷ rows) (filter_times (holds below_hundred []) c (of_x 2) refl)
+rows_are c = ap (λ rows. of_ann 1 ∷ filter (holds below_hundred []) rows) (filter-times (may_see (after_copies c).frame.rights 1 0) c (of_x 2) refl)
+    ∙ ap (λ rows. of_ann 1 ∷ rows) (filter-times (holds below_hundred []) c (of_x 2) refl)
 
 over_rows : (c : ℕ) → c ≡ 2 ^ 62 → is_within (after_copies c) second ≡ false
 unfolding texts_compute
@@ -94,7 +94,7 @@ over_rows c e = group_not_within 1024 0 below_hundred (0 ∷ 1 ∷ 2 ∷ []) (1 
     (ap (group_fits (1 ∷ []) (Sum 0 ∷ Count ∷ [])) (rows_are c) ∙ sum_fails (1 ∷ []) (noted c) (shares_fail c e))
 
 last_fails : (p : Subscription → Bool) (x y : Subscription) → p y ≡ false → list_all p (x ∷ y ∷ []) ≡ false
-last_fails p x y h = and_false (p x) (p y && true) (ap (λ b. b && true) h)
+last_fails p x y h = and-second_false (p x) (p y && true) (ap (λ b. b && true) h)
 
 -- a write after which the view of the second subscription is not within the limits
 write_over : (s : State) (n : ℕ) (es : List Entry) (x y : Subscription) → frame_refusal s.frame n (write es) ≡ None → entries_present s.frame.catalog 1 es s.rows ≡ None
@@ -102,14 +102,14 @@ write_over : (s : State) (n : ℕ) (es : List Entry) (x y : Subscription) → fr
 write_over s n es x y h p subs w = (λ i. or_else (h i) (or_else (p i) (or_else (test (not (over i)) limit) None)))
   where
     over : all_within (after s n (write es)) ≡ false
-    over = and_false _ (list_all (is_within (after s n (write es))) s.frame.subscriptions) (ap (list_all (is_within (after s n (write es)))) subs ∙ last_fails (is_within (after s n (write es))) x y w)
+    over = and-second_false _ (list_all (is_within (after s n (write es))) s.frame.subscriptions) (ap (list_all (is_within (after s n (write es)))) subs ∙ last_fails (is_within (after s n (write es))) x y w)
 
 sums_refused : (c : ℕ) → c ≡ 2 ^ 62 → refusal summed 1 (copied 2 c) ≡ Some limit
 unfolding texts_compute
 sums_refused c e = write_over summed 1 (many c notes (insert (of_x 2)) ∷ []) (record { session = 2; number = 1; rel = 0 }) second refl refl refl (over_rows c e)
 
-pub sums_limit_computes : (c : ℕ) → c ≡ 2 ^ 62 → Computes summed (sums_limit c)
-sums_limit_computes c e = ap (λ o. (outcome summed (asked (copied 2 c)) o).lines ++ []) (sums_refused c e)
+pub Computes-sums_limit : (c : ℕ) → c ≡ 2 ^ 62 → Computes summed (sums_limit c)
+Computes-sums_limit c e = ap (λ o. (outcome summed (asked (copied 2 c)) o).lines ++ []) (sums_refused c e)
 
 -- ---- a batch that takes away what it adds
 
@@ -119,11 +119,11 @@ doubled c = (of_ann 1 ∷ times c (of_x 8)) ++ times c (of_x 8)
 
 half_left : (c : ℕ) → c ≡ 2 ^ 63 - 1 → without c (of_x 8) (doubled c) ≡ of_ann 1 ∷ times c (of_x 8)
 half_left zero e = absurd (omega arith)
-half_left (suc c) e = ap (λ rows. of_ann 1 ∷ rows) (without_times (suc c) (of_x 8) (times (suc c) (of_x 8)))
+half_left (suc c) e = ap (λ rows. of_ann 1 ∷ rows) (without-times (suc c) (of_x 8) (times (suc c) (of_x 8)))
 
 none_left : (c : ℕ) → c ≡ 2 ^ 63 - 1 → without c (of_x 8) (of_ann 1 ∷ times c (of_x 8)) ≡ of_ann 1 ∷ []
 none_left zero e = absurd (omega arith)
-none_left (suc c) e = ap (λ rows. of_ann 1 ∷ without (suc c) (of_x 8) rows) (sym (append-nil (times (suc c) (of_x 8)))) ∙ ap (λ rows. of_ann 1 ∷ rows) (without_times (suc c) (of_x 8) [])
+none_left (suc c) e = ap (λ rows. of_ann 1 ∷ without (suc c) (of_x 8) rows) (sym (append-nil (times (suc c) (of_x 8)))) ∙ ap (λ rows. of_ann 1 ∷ rows) (without-times (suc c) (of_x 8) [])
 
 all_left : (c : ℕ) → c ≡ 2 ^ 63 - 1 → without c (of_x 8) (without c (of_x 8) (doubled c)) ≡ of_ann 1 ∷ []
 all_left c e = ap (without c (of_x 8)) (half_left c e) ∙ none_left c e
@@ -132,10 +132,10 @@ enough : (c n : ℕ) → c ≤ n → nat_le c n ≡ true
 enough c n h = grind (arith, nat_tests)
 
 first_there : (c : ℕ) → nat_le c (copies (of_x 8) (doubled c)) ≡ true
-first_there c = let h = copies-append (of_x 8) (of_ann 1 ∷ times c (of_x 8)) (times c (of_x 8)) in let k = own_copies c (of_x 8) in enough c (copies (of_x 8) (doubled c)) (omega arith)
+first_there c = let h = copies-append (of_x 8) (of_ann 1 ∷ times c (of_x 8)) (times c (of_x 8)) in let k = copies-own_times c (of_x 8) in enough c (copies (of_x 8) (doubled c)) (omega arith)
 
 second_there : (c : ℕ) → c ≡ 2 ^ 63 - 1 → nat_le c (copies (of_x 8) (without c (of_x 8) (doubled c))) ≡ true
-second_there c e = ap (λ rows. nat_le c (copies (of_x 8) rows)) (half_left c e) ∙ enough c (0 + copies (of_x 8) (times c (of_x 8))) (let k = own_copies c (of_x 8) in omega arith)
+second_there c e = ap (λ rows. nat_le c (copies (of_x 8) rows)) (half_left c e) ∙ enough c (0 + copies (of_x 8) (times c (of_x 8))) (let k = copies-own_times c (of_x 8) in omega arith)
 
 abbrev batched : ℕ → Command
 batched c = asked (write (many c notes (insert (of_x 8)) ∷ many c notes (insert (of_x 8)) ∷ many c notes (delete (of_x 8)) ∷ many c notes (delete (of_x 8)) ∷ []))
@@ -152,5 +152,5 @@ batch_accepted c e = λ i. batch_tests (first_there c i) (second_there c e i) (a
 abbrev batch_lines : List (List Cell) → List Line
 batch_lines rows = reply 1 done ∷ (lines_told None (record { session = 2; number = 1; rel = 0 }) (difference (of_ann 1 ∷ []) (filter (may_see first.frame.rights 1 0) rows)) ++ [])
 
-pub batch_computes : (c : ℕ) → c ≡ 2 ^ 63 - 1 → Computes first (batch c)
-batch_computes c e = ap (λ o. (outcome first (batched c) o).lines ++ []) (batch_accepted c e) ∙ ap (λ rows. batch_lines rows ++ []) (all_left c e)
+pub Computes-batch : (c : ℕ) → c ≡ 2 ^ 63 - 1 → Computes first (batch c)
+Computes-batch c e = ap (λ o. (outcome first (batched c) o).lines ++ []) (batch_accepted c e) ∙ ap (λ rows. batch_lines rows ++ []) (all_left c e)

@@ -1,5 +1,5 @@
-use Rattle.iv_audit.proofs.Further.{further}
+use Rattle.iv_audit.proofs.Further.{GoOn-HaveTexts}
 use Rattle.iv_audit.proofs.laws.journals_go_on_by_lines.Goals as goal
 
 pub returns : goal.returns
-returns c = further c.lines_have_their_texts.ensures
+returns c = GoOn-HaveTexts c.lines_have_their_texts.ensures

@@ -1,6 +1,6 @@
 use Rattle.std.proofs.Common.{◌+◌, List, ◌≡◌, ◌++◌, [], ◌∷◌, true, ap, ◌∙◌, sym, subst, arith, ℕ}
 use Rattle.iv_journal.specs.Journal.{Line}
-use Rattle.iv_audit.proofs.PlainLines.{IsReadTo, begins, byte_more, line_more, read_all}
+use Rattle.iv_audit.proofs.PlainLines.{IsReadTo, begins, IsReadTo-byte, IsReadTo-newline, IsPlain-IsReadTo}
 use Rattle.iv_audit.proofs.reading.read_plain.Goals as goal
 use Rattle.iv_audit.proofs.reading.read_plain.Goals.{then-bytes-at-eq10+in_ok-push, else-bytes-at-eq10}
 
@@ -22,10 +22,10 @@ loop-at-preserved c =
           let text = w.plain_text.result.now in
           let pushed : c.if-bytes-at-eq10.lines.items ≡ lines ++ record { is_last = true; text = text } ∷ [] =
           ap (λ v. v.items) w.lines-is ∙ w.in_ok-push.ensures.items in
-          moved bytes _ _ (at + 1) _ (at + 1) pushed w.length-is (line_more bytes lines start at text c.loop-at.invariant c.loop-at-test.true w.if-bytes-at-eq10.true w.plain_text.ensures)
+          moved bytes _ _ (at + 1) _ (at + 1) pushed w.length-is (IsReadTo-newline bytes lines start at text c.loop-at.invariant c.loop-at-test.true w.if-bytes-at-eq10.true w.plain_text.ensures)
       | else-bytes-at-eq10 w ↦
-          moved bytes lines _ start _ (at + 1) (ap (λ v. v.items) w.lines-is) w.length-is (byte_more bytes lines start at c.loop-at.invariant c.loop-at-test.true w.if-bytes-at-eq10.false)
+          moved bytes lines _ start _ (at + 1) (ap (λ v. v.items) w.lines-is) w.length-is (IsReadTo-byte bytes lines start at c.loop-at.invariant c.loop-at-test.true w.if-bytes-at-eq10.false)
     ]
 
 pub returns : goal.returns
-returns c = read_all c.args.bytes.now c.loop-at.at _ c.loop-at.invariant (omega arith)
+returns c = IsPlain-IsReadTo c.args.bytes.now c.loop-at.at _ c.loop-at.invariant (omega arith)

@@ -1,5 +1,5 @@
-use Rattle.iv_clients.proofs.Calling.{no_random}
+use Rattle.iv_clients.proofs.Calling.{passing-is_random}
 use Rattle.iv_clients.proofs.names.random_in.Goals as goal
 
 pub returns-in_default : goal.returns-in_default
-returns-in_default c = no_random c.args.name.now c.in_default.ensures.cases.0
+returns-in_default c = passing-is_random c.args.name.now c.in_default.ensures.cases.0

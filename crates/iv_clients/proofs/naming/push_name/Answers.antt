@@ -3,7 +3,7 @@ use Rattle.std.specs.Prelude.{codes}
 use Rattle.hex.specs.Hex.{encode_lower}
 use Rattle.serde_json.specs.Data.{string}
 use Rattle.serde_json.specs.Written.{compact_text}
-use Rattle.iv_message.proofs.Appended.{six_appended}
+use Rattle.iv_message.proofs.Appended.{append-six}
 use Rattle.iv_once.specs.Names.{Named}
 use Rattle.iv_clients.specs.Names.{place_text}
 use Rattle.iv_clients.specs.Journal.{answer_key, name_text}
@@ -22,7 +22,7 @@ returns c =
     let first = codes "\"once\":\"" ++ (ask.name ++ (codes "\",\"at\":\"" ++ place)) in
     let second = codes "\",\"by\":" ++ holder in
     let third = codes ",\"digest\":\"" ++ digest in
-    six_appended t first second third c.answer_key.result.now c.deref.result.now (codes "}")
+    append-six t first second third c.answer_key.result.now c.deref.result.now (codes "}")
     c.push_spelled.new.text.items c.push_holder.new.text.items c.push_digest.new.text.items
     c.extend_from_slice.new.self.items c.extend_from_slice-2.new.self.items c.extend_from_slice-3.new.self.items
     c.in_ok-push_spelled.ensures c.in_ok-push_holder.ensures c.in_ok-push_digest.ensures

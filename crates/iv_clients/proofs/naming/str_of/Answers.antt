@@ -9,7 +9,7 @@ use Rattle.json.specs.declared.value.Value.TheVariants as value
 use Rattle.serde_json.specs.Find.{as_str}
 use Rattle.iv_request.specs.Documents.{data_of}
 use Rattle.iv_request.specs.Request.{passing}
-use Rattle.iv_clients.proofs.Cuts.{let_pass}
+use Rattle.iv_clients.proofs.Cuts.{passing-true}
 use Rattle.iv_clients.proofs.naming.str_of.Goals as goal
 
 pub returns-in_ok-from_str-in-String : goal.returns-in_ok-from_str-in-String
@@ -17,6 +17,6 @@ returns-in_ok-from_str-in-String c =
     let s = c.in_ok-from_str-in-String.field-0 in
     let text : is_utf8 (string_bytes s) ≡ true = is_utf8-from_IsUtf8 (string_bytes s) (IsUtf8-string_bytes s) in
     let seen : value_view (value.String c.in-String.text) ≡ json.string c.in-String.text.now = search (rules, the_lemmas) in
-    sym (let_pass is_utf8 (string_bytes s) text)
+    sym (passing-true is_utf8 (string_bytes s) text)
     ∙ (ap (passing is_utf8) c.in_ok-from_str-in-String.ensures.ok
     ∙ ap (λ j. option_and_then (passing is_utf8) (as_str (data_of j))) (sym (ap value_view c.in-String.is ∙ seen)))

@@ -1,5 +1,5 @@
-use Rattle.iv_clients.proofs.Calling.{no_role}
+use Rattle.iv_clients.proofs.Calling.{role_in-not_IsUtf8}
 use Rattle.iv_clients.proofs.tokens.role_in.Goals as goal
 
 pub returns-in_default : goal.returns-in_default
-returns-in_default c = no_role c.args.role.now c.in_default.ensures.cases.0
+returns-in_default c = role_in-not_IsUtf8 c.args.role.now c.in_default.ensures.cases.0

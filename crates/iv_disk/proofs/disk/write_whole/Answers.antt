@@ -1,7 +1,7 @@
 use Rattle.std.proofs.Common.{◌≡◌, [], ◌++◌, rules, take, sym, ap, ◌∙◌, subst, append-nil, drop_of_length-le}
 use Rattle.std.specs.Io.KnownBytes.{Appends}
 use Rattle.std.proofs.KnownBytes.{Appends-trans}
-use Rattle.iv_disk.proofs.Known.{front_kept, front_of, moves_front, on_err}
+use Rattle.iv_disk.proofs.Known.{Appends-Keeps_front, Appends-take_of_done, append-moved_front, OnErr-whatever}
 use Rattle.iv_disk.proofs.disk.write_whole.Goals as goal
 
 pub loop-preserved : goal.loop-preserved
@@ -9,7 +9,7 @@ loop-preserved g c =
     let (done, split, appended, silent) = c.loop.invariant in
     let rest = c.loop.rest.now in
     let n = c.in_ok-count.count in
-    (done ++ take n rest, moves_front _ done rest n split, Appends-trans _ _ _ _ _ appended c.in_ok-count.ensures.bytes, λ h. c.in_ok-count.ensures.silent (silent h))
+    (done ++ take n rest, append-moved_front _ done rest n split, Appends-trans _ _ _ _ _ appended c.in_ok-count.ensures.bytes, λ h. c.in_ok-count.ensures.silent (silent h))
 
 pub returns-then-is_empty-clause-appended : goal.returns-then-is_empty-clause-appended
 returns-then-is_empty-clause-appended g c =
@@ -21,9 +21,9 @@ returns-then-is_empty-clause-appended g c =
 pub returns-in_err-count-clause-torn : goal.returns-in_err-count-clause-torn
 returns-in_err-count-clause-torn g c =
     let (done, split, appended, silent) = c.loop.invariant in
-    on_err _ (front_kept _ _ _ _ done c.loop.rest.now split appended c.in_err-count.ensures.bytes)
+    OnErr-whatever _ (Appends-Keeps_front _ _ _ _ done c.loop.rest.now split appended c.in_err-count.ensures.bytes)
 
 pub returns-clause-torn : goal.returns-clause-torn
 returns-clause-torn g c =
     let (done, split, appended, silent) = c.loop.invariant in
-    front_of _ _ _ done c.loop.rest.now split appended
+    Appends-take_of_done _ _ _ done c.loop.rest.now split appended

@@ -5,16 +5,16 @@ use Rattle.iv_machine.specs.Well.{is_well_act}
 use Rattle.iv_steps.specs.Steps.{Fact, is_well_fact}
 use Rattle.iv_engine.specs.Carried.{IsCarried}
 use Rattle.iv_engine.specs.Stepped.{is_write}
-use Rattle.iv_engine.proofs.Carried.{stops_acted, stops_begun, stops_finished, well_act, well_role, whole_carried}
+use Rattle.iv_engine.proofs.Carried.{stops_acted, stops_begun, stops_finished, is_well_act-is_well_fact, is_name-is_well_fact, whole_carried}
 use Rattle.iv_circuit.specs.Deltas.{change_in}
 use Rattle.iv_engine.proofs.Summing.{begun_sums, finished_sums}
 use Rattle.iv_engine.proofs.facts.carry.Goals as goal
 
 pub act-requires-clause-well : goal.act-requires-clause-well
-act-requires-clause-well c = subst (λ (x : Fact). is_name x.role ≡ true) (sym c.fact.view_is) (well_role c.args.fact c.requires.well)
+act-requires-clause-well c = subst (λ (x : Fact). is_name x.role ≡ true) (sym c.fact.view_is) (is_name-is_well_fact c.args.fact c.requires.well)
 
 pub carry_out-requires-clause-well : goal.carry_out-requires-clause-well
-carry_out-requires-clause-well c = subst (λ (x : Fact). is_well_act x.act ≡ true) (sym c.fact.view_is) (well_act c.args.fact c.requires.well)
+carry_out-requires-clause-well c = subst (λ (x : Fact). is_well_act x.act ≡ true) (sym c.fact.view_is) (is_well_act-is_well_fact c.args.fact c.requires.well)
 
 pub carry_out-requires-clause-sound : goal.carry_out-requires-clause-sound
 carry_out-requires-clause-sound c = c.in_ok-begun.ensures.sound

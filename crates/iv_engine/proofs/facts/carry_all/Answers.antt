@@ -2,13 +2,13 @@ use Rattle.std.proofs.Common.{◌≡◌, ◌∙◌, ◌<◌, List, [], ap, arith
 use Rattle.std.specs.List.{list_all}
 use Rattle.std.specs.Vec.Iter.{into_iter_items}
 use Rattle.iv_steps.specs.Steps.{Fact, is_well_fact}
-use Rattle.iv_store.proofs.RunLines.{no_items}
+use Rattle.iv_store.proofs.RunLines.{nil-of_length_zero}
 use Rattle.iv_command.specs.Views.{refusal_of}
 use Rattle.std.specs.Prelude.{Err}
 use Rattle.iv_command.specs.declared.stop.Stop.{Stop}
 use Rattle.iv_engine.specs.Carried.{IsCarried}
 use Rattle.iv_engine.specs.Stepped.{is_write}
-use Rattle.iv_engine.proofs.Carried.{GoesOn, each_writes, none_left, one_further, one_stops, well_first, well_rest}
+use Rattle.iv_engine.proofs.Carried.{GoesOn, is_write-AreWrites, AreCarriedTo-GoesOn, one_further, one_stops, is_well_fact-first, list_all-is_well_fact}
 use Rattle.iv_engine.proofs.facts.carry_all.Goals as goal
 
 pub overflow_add-place : goal.overflow_add-place
@@ -19,7 +19,7 @@ overflow_add-place c =
     search rules
 
 pub carry-requires-clause-well : goal.carry-requires-clause-well
-carry-requires-clause-well c = well_first c.in-Some.fact (into_iter_items c.next.new.self) (sym (ap (list_all is_well_fact) c.in-Some.ensures.steps.0) ∙ c.loop-fact.invariant.2)
+carry-requires-clause-well c = is_well_fact-first c.in-Some.fact (into_iter_items c.next.new.self) (sym (ap (list_all is_well_fact) c.in-Some.ensures.steps.0) ∙ c.loop-fact.invariant.2)
 
 pub carry-requires-clause-sound : goal.carry-requires-clause-sound
 carry-requires-clause-sound c = c.loop-fact.invariant.4.sound
@@ -51,7 +51,7 @@ loop-fact-preserved c =
     let place = c.loop-fact.place in (
       tt,
       tt,
-      well_rest f rest (sym (ap (list_all is_well_fact) next) ∙ c.loop-fact.invariant.2),
+      list_all-is_well_fact f rest (sym (ap (list_all is_well_fact) next) ∙ c.loop-fact.invariant.2),
       (let all = c.loop-fact.invariant.3 in let many = ap (λ (fs : List Fact). length fs) next in omega (arith, all, many)),
       c.in-Ok.ensures.carried.0,
       λ s b.
@@ -60,7 +60,7 @@ loop-fact-preserved c =
       c.in-Ok.ensures.sums c.args.store.now c.requires.sound.stored.database c.loop-fact.invariant.6,
       λ writes.
           let all = c.loop-fact.invariant.7 writes in
-          let both = each_writes f rest (sym (ap (list_all (λ g. is_write g.act)) next) ∙ all.1) in
+          let both = is_write-AreWrites f rest (sym (ap (list_all (λ g. is_write g.act)) next) ∙ all.1) in
           (c.in-Ok.ensures.others both.0 ∙ all.0, both.1),
     )
 
@@ -75,9 +75,10 @@ returns-in-Err-Refused-clause-carried c = λ s b.
 
 pub returns-clause-carried : goal.returns-clause-carried
 returns-clause-carried c =
-    let none : into_iter_items c.loop-fact.fact-iterator ≡ [] = no_items (into_iter_items c.loop-fact.fact-iterator) (let empty = c.in-None.ensures.steps.0 in let ok = c.loop-fact.fact-iterator.rest.ok in omega (arith, empty, ok)) in (
+    let none : into_iter_items c.loop-fact.fact-iterator ≡ [] = nil-of_length_zero (into_iter_items c.loop-fact.fact-iterator) (let empty = c.in-None.ensures.steps.0 in let ok = c.loop-fact.fact-iterator.rest.ok in omega (arith, empty, ok)) in (
       c.loop-fact.invariant.4,
-      λ s b. none_left s c.args.facts.items c.loop-fact.place (into_iter_items c.loop-fact.fact-iterator) c.loop-fact.store none (c.loop-fact.invariant.5 s b),
+      λ s b. AreCarriedTo-GoesOn s c.args.facts.items c.loop-fact.place (into_iter_items c.loop-fact.fact-iterator) c.loop-fact.store none
+        (c.loop-fact.invariant.5 s b),
     )
 
 pub returns-clause-sums : goal.returns-clause-sums

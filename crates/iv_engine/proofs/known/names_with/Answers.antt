@@ -2,7 +2,7 @@ use Rattle.std.proofs.Common.{◌≡◌, ◌∙◌, ◌∷◌, [], ◌++◌, Boo
 use Rattle.std.proofs.lemmas.List.{append-nil, map-append}
 use Rattle.iv_access.specs.Rights.{Name}
 use Rattle.iv_engine.specs.Looked.{has_named}
-use Rattle.iv_engine.proofs.NameLookup.{told_more}
+use Rattle.iv_engine.proofs.NameLookup.{filter-relation_name}
 use Rattle.iv_engine.proofs.known.names_with.Goals as goal
 use Rattle.iv_engine.proofs.known.names_with.Goals.{then-has_named+in_ok-push-in-Some, else-has_named}
 
@@ -13,7 +13,7 @@ loop-number-preserved c =
     let told : (b : Bool) → c.has_named.result ≡ b → before ++ cond b (name ∷ []) [] ≡ _ = λ b is.
     ap (λ x. before ++ cond x (name ∷ []) []) (sym is ∙ c.has_named.ensures)
     ∙ ap (λ ns. ns ++ cond (has_named c.args.access.now c.args.role.0 name) (name ∷ []) []) c.loop-number.invariant
-    ∙ sym (told_more (has_named c.args.access.now c.args.role.0) c.args.access.now.relations c.loop-number.number name c.in-Some.ensures) in
+    ∙ sym (filter-relation_name (has_named c.args.access.now c.args.role.0) c.args.access.now.relations c.loop-number.number name c.in-Some.ensures) in
     elim c.if-has_named.branch [
       | then-has_named+in_ok-push-in-Some w ↦
           ap (λ (v : Vec (Bor Name) Global). map (λ n. n.now) v.items) w.names-is

@@ -3,12 +3,12 @@ use Rattle.std.proofs.lemmas.Result.{IfOk-weaker}
 use Rattle.iv_readers.specs.Flags.{differing}
 use Rattle.iv_store.specs.Concerned.{reaching}
 use Rattle.iv_store.specs.Turned.{AreReadersTold, AreWaiting}
-use Rattle.iv_engine.proofs.MembershipEffects.{many_flags}
+use Rattle.iv_engine.proofs.MembershipEffects.{length-reaching}
 use Rattle.iv_engine.proofs.memberships.tell_members.Goals as goal
 
 pub differing-requires : goal.differing-requires
 differing-requires c =
-    c.requires.long ∙ sym (many_flags c.args.store.now c.args.group) ∙ sym (ap (λ bs. length bs) (c.deref.ensures.value ∙ c.in_ok-after.ensures))
+    c.requires.long ∙ sym (length-reaching c.args.store.now c.args.group) ∙ sym (ap (λ bs. length bs) (c.deref.ensures.value ∙ c.in_ok-after.ensures))
 
 pub tell_readers-requires-clause-waiting : goal.tell_readers-requires-clause-waiting
 tell_readers-requires-clause-waiting c =

@@ -5,7 +5,7 @@ use Rattle.iv_machine.specs.Act as machine
 use Rattle.iv_database.specs.Database.{IsDatabase}
 use Rattle.iv_store.specs.Store.{Store, database_of}
 use Rattle.iv_engine.proofs.RevokeEnds.{revoke_steps, revoke_waits}
-use Rattle.iv_store.proofs.RequestSteps.{goes_up, stopped}
+use Rattle.iv_store.proofs.RequestSteps.{IsStep-IsErrAnd, stopped}
 use Rattle.iv_engine.proofs.privileges.revoke.Goals as goal
 
 pub revoke-requires : goal.revoke-requires
@@ -14,7 +14,7 @@ revoke-requires c = subst (λ (v : Store). IsDatabase (database_of v)) (sym c.st
 pub returns-in_err-revoke : goal.returns-in_err-revoke
 returns-in_err-revoke c =
     let stop = c.in_err-revoke.field-0.0 in
-    goes_up c.args.store.now c.args.session (machine.revoke (string_bytes c.args.rel) c.args.privileges.now (name_given c.args.grantee)) _ stop
+    IsStep-IsErrAnd c.args.store.now c.args.session (machine.revoke (string_bytes c.args.rel) c.args.privileges.now (name_given c.args.grantee)) _ stop
     (stopped c.args.store.now _ c.revoke.new.self c.args.session (machine.revoke (string_bytes c.args.rel) c.args.privileges.now (name_given c.args.grantee)) c.store.view_is refl stop c.in_err-revoke.ensures.done)
     c.from_residual.result c.from_residual.ensures.1
 

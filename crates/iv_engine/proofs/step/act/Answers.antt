@@ -9,12 +9,12 @@ use Rattle.iv_database.specs.Next.{IsDone}
 use Rattle.iv_store.specs.Store.{store_of, Store, database_of, with_database}
 use Rattle.iv_command.specs.Views.{act_of}
 use Rattle.iv_command.specs.declared.command.Act.{Act}
-use Rattle.iv_store.proofs.RunLines.{well_columns}
-use Rattle.iv_store.proofs.RequestSteps.{begin_quiet, grant_quiet, plain_told, role_quiet, table_quiet, view_quiet}
+use Rattle.iv_store.proofs.RunLines.{has_columns-is_well_act}
+use Rattle.iv_store.proofs.RequestSteps.{IsQuiet-begin, IsQuiet-grant, IsStep-IsPlain, IsQuiet-create_role, IsQuiet-create_table, IsQuiet-create_view}
 use Rattle.iv_engine.proofs.step.act.Goals as goal
 
 pub create_table-done-requires-clause-columns : goal.create_table-done-requires-clause-columns
-create_table-done-requires-clause-columns c = well_columns (string_bytes c.in-CreateTable.name) (string_bytes c.in-CreateTable.owner) c.in-CreateTable.columns.items
+create_table-done-requires-clause-columns c = has_columns-is_well_act (string_bytes c.in-CreateTable.name) (string_bytes c.in-CreateTable.owner) c.in-CreateTable.columns.items
     (subst (λ (a : Act). is_well_act (act_of a) ≡ true) c.in-CreateTable.is c.requires.well)
 
 pub create_table-done-requires-clause-stored : goal.create_table-done-requires-clause-stored
@@ -36,7 +36,7 @@ returns-in-Begin c =
     let u = store_of s.database s.subscriptions.items s.circuits s.last in
     let told : IsDone (database_of u) n (machine.begin role) c.begin-done.result d = subst (λ (x : Name). IsDone (database_of u) n (machine.begin x) c.begin-done.result d) c.as_str.ensures.value c.begin-done.ensures in
     subst (λ (a : Act). IsStep e n (act_of a) c.plain.result (with_database d u)) (sym c.in-Begin.is)
-    (plain_told e u d n (machine.begin role) c.begin-done.result c.plain.result c.store.view_is (begin_quiet e n role) c.requires.sound refl c.plain.ensures told)
+    (IsStep-IsPlain e u d n (machine.begin role) c.begin-done.result c.plain.result c.store.view_is (IsQuiet-begin e n role) c.requires.sound refl c.plain.ensures told)
 
 pub returns-in-CreateRole : goal.returns-in-CreateRole
 returns-in-CreateRole c =
@@ -48,7 +48,7 @@ returns-in-CreateRole c =
     let u = store_of s.database s.subscriptions.items s.circuits s.last in
     let told : IsDone (database_of u) n (machine.create_role name) c.create_role-done.result d = c.create_role-done.ensures.done in
     subst (λ (a : Act). IsStep e n (act_of a) c.plain-in-CreateRole.result (with_database d u)) (sym c.in-CreateRole.is)
-    (plain_told e u d n (machine.create_role name) c.create_role-done.result c.plain-in-CreateRole.result c.store-in-CreateRole.view_is (role_quiet e n name) c.requires.sound refl c.plain-in-CreateRole.ensures told)
+    (IsStep-IsPlain e u d n (machine.create_role name) c.create_role-done.result c.plain-in-CreateRole.result c.store-in-CreateRole.view_is (IsQuiet-create_role e n name) c.requires.sound refl c.plain-in-CreateRole.ensures told)
 
 pub returns-in-CreateTable : goal.returns-in-CreateTable
 returns-in-CreateTable c =
@@ -63,7 +63,7 @@ returns-in-CreateTable c =
     let told : IsDone (database_of u) n (machine.create_table name owner columns) c.create_table-done.result d =
     subst (λ (x : Name). IsDone (database_of u) n (machine.create_table name x columns) c.create_table-done.result d) c.as_str-in-CreateTable.ensures.value c.create_table-done.ensures.done in
     subst (λ (a : Act). IsStep e n (act_of a) c.plain-in-CreateTable.result (with_database d u)) (sym c.in-CreateTable.is)
-    (plain_told e u d n (machine.create_table name owner columns) c.create_table-done.result c.plain-in-CreateTable.result c.store-in-CreateTable.view_is (table_quiet e n name owner columns) c.requires.sound refl c.plain-in-CreateTable.ensures told)
+    (IsStep-IsPlain e u d n (machine.create_table name owner columns) c.create_table-done.result c.plain-in-CreateTable.result c.store-in-CreateTable.view_is (IsQuiet-create_table e n name owner columns) c.requires.sound refl c.plain-in-CreateTable.ensures told)
 
 pub returns-in-CreateView : goal.returns-in-CreateView
 returns-in-CreateView c =
@@ -78,7 +78,7 @@ returns-in-CreateView c =
     let told : IsDone (database_of u) n (machine.create_view name owner query) c.create_view-done.result d =
     subst (λ (a : machine.Act). IsDone (database_of u) n a c.create_view-done.result d) (λ i. machine.create_view name (c.as_str-in-CreateView.ensures.value i) (c.as_str-in-CreateView-2.ensures.value i)) c.create_view-done.ensures.done in
     subst (λ (a : Act). IsStep e n (act_of a) c.plain-in-CreateView.result (with_database d u)) (sym c.in-CreateView.is)
-    (plain_told e u d n (machine.create_view name owner query) c.create_view-done.result c.plain-in-CreateView.result c.store-in-CreateView.view_is (view_quiet e n name owner query) c.requires.sound refl c.plain-in-CreateView.ensures told)
+    (IsStep-IsPlain e u d n (machine.create_view name owner query) c.create_view-done.result c.plain-in-CreateView.result c.store-in-CreateView.view_is (IsQuiet-create_view e n name owner query) c.requires.sound refl c.plain-in-CreateView.ensures told)
 
 pub returns-in-Grant : goal.returns-in-Grant
 returns-in-Grant c =
@@ -93,4 +93,4 @@ returns-in-Grant c =
     let told : IsDone (database_of u) n (machine.grant rel privileges to) c.grant-done.result d =
     subst (λ (a : machine.Act). IsDone (database_of u) n a c.grant-done.result d) (λ i. machine.grant rel (c.deref.ensures.value i) (c.text_of.ensures i)) c.grant-done.ensures.done in
     subst (λ (a : Act). IsStep e n (act_of a) c.plain-in-Grant.result (with_database d u)) (sym c.in-Grant.is)
-    (plain_told e u d n (machine.grant rel privileges to) c.grant-done.result c.plain-in-Grant.result c.store-in-Grant.view_is (grant_quiet e n rel privileges to) c.requires.sound refl c.plain-in-Grant.ensures told)
+    (IsStep-IsPlain e u d n (machine.grant rel privileges to) c.grant-done.result c.plain-in-Grant.result c.store-in-Grant.view_is (IsQuiet-grant e n rel privileges to) c.requires.sound refl c.plain-in-Grant.ensures told)

@@ -1,5 +1,5 @@
-use Rattle.iv_gate.proofs.Closing.{stays_closed}
+use Rattle.iv_gate.proofs.Closing.{StaysClosed-Runs}
 use Rattle.iv_gate.proofs.laws.closed_numbers_follow_nothing.Goals as goal
 
 pub returns : goal.returns
-returns c = stays_closed
+returns c = StaysClosed-Runs

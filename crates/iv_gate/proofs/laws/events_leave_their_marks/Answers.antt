@@ -1,9 +1,9 @@
-use Rattle.iv_gate.proofs.Together.{leaves_marks}
-use Rattle.iv_gate.proofs.Touching.{rests}
+use Rattle.iv_gate.proofs.Together.{LeavesMarks-IsWell}
+use Rattle.iv_gate.proofs.Touching.{next-dead}
 use Rattle.iv_gate.proofs.laws.events_leave_their_marks.Goals as goal
 
 pub returns-clause-rests : goal.returns-clause-rests
-returns-clause-rests c = rests
+returns-clause-rests c = next-dead
 
 pub returns-clause-marks : goal.returns-clause-marks
-returns-clause-marks c = leaves_marks c.refusals_are_found.ensures
+returns-clause-marks c = LeavesMarks-IsWell c.refusals_are_found.ensures

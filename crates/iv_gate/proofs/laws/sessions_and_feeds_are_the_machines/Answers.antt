@@ -1,4 +1,4 @@
-use Rattle.iv_gate.proofs.Tables.{knows_machine}
+use Rattle.iv_gate.proofs.Tables.{KnowsMachine-Runs}
 use Rattle.iv_gate.proofs.Sound.{Sounds}
 use Rattle.iv_gate.proofs.laws.sessions_and_feeds_are_the_machines.Goals as goal
 
@@ -6,4 +6,4 @@ pub returns : goal.returns
 returns c =
     let opens = c.requests_open_what_they_name.ensures in
     let laws : Sounds = record { sound = c.steps_keep_sound.ensures.step; lasts = c.what_stands_lasts.ensures; ends = c.ends_are_told.ensures; begins = opens.session; subscribes = opens.subscription; told = c.steps_are_told.ensures } in
-    knows_machine c.lines_add_up.ensures c.steps_keep_sound.ensures.start laws
+    KnowsMachine-Runs c.lines_add_up.ensures c.steps_keep_sound.ensures.start laws

@@ -1,5 +1,5 @@
-use Rattle.iv_gate.proofs.Seating.{begins_as_needed}
+use Rattle.iv_gate.proofs.Seating.{AreSeatsBehind-next}
 use Rattle.iv_gate.proofs.laws.sessions_are_begun_by_need.Goals as goal
 
 pub returns : goal.returns
-returns c = begins_as_needed
+returns c = AreSeatsBehind-next

@@ -3,7 +3,7 @@ use Rattle.std.specs.Prelude.{flat_map, string_bytes}
 use Rattle.std.specs.Vec.Iter.{into_iter_items}
 use Rattle.iv_command.specs.Views.{act_of}
 use Rattle.iv_clients.specs.Journal.{Request}
-use Rattle.iv_store.proofs.RunLines.{no_items}
+use Rattle.iv_store.proofs.RunLines.{nil-of_length_zero}
 use Rattle.iv_gate.specs.Arriving.{fact_of}
 use Rattle.iv_gateway.specs.Shaping.{shape_in}
 use Rattle.iv_gateway.proofs.Landed.{facts_on, makes_on}
@@ -39,12 +39,12 @@ loop-request-preserved c =
 
 pub returns-clause-facts : goal.returns-clause-facts
 returns-clause-facts c =
-    let none : into_iter_items c.loop-request.request-iterator ≡ [] = no_items (into_iter_items c.loop-request.request-iterator)
+    let none : into_iter_items c.loop-request.request-iterator ≡ [] = nil-of_length_zero (into_iter_items c.loop-request.request-iterator)
     (let empty = c.in-None.ensures.steps.0 in let ok = c.loop-request.request-iterator.rest.ok in omega (arith, empty, ok)) in
     sym (c.loop-request.invariant.2 ∙ (ap (λ (qs : List Request). c.loop-request.facts.items ++ map fact_of qs) none ∙ append-nil c.loop-request.facts.items))
 
 pub returns-clause-made : goal.returns-clause-made
 returns-clause-made c =
-    let none : into_iter_items c.loop-request.request-iterator ≡ [] = no_items (into_iter_items c.loop-request.request-iterator)
+    let none : into_iter_items c.loop-request.request-iterator ≡ [] = nil-of_length_zero (into_iter_items c.loop-request.request-iterator)
     (let empty = c.in-None.ensures.steps.0 in let ok = c.loop-request.request-iterator.rest.ok in omega (arith, empty, ok)) in
     sym (c.loop-request.invariant.3 ∙ (ap (λ (qs : List Request). c.loop-request.made.items ++ flat_map shape_in qs) none ∙ append-nil c.loop-request.made.items))

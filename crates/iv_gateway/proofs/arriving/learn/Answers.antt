@@ -3,7 +3,7 @@ use Rattle.std.specs.Vec.Iter.{into_iter_items}
 use Rattle.iv_once.specs.Names.{Named, Names}
 use Rattle.iv_once.specs.Views.{names_of}
 use Rattle.iv_gate.specs.Arriving.{first_known}
-use Rattle.iv_store.proofs.RunLines.{no_items}
+use Rattle.iv_store.proofs.RunLines.{nil-of_length_zero}
 use Rattle.iv_gateway.specs.Arriving.{all_pushed}
 use Rattle.iv_gateway.proofs.Landed.{learns_on, stops_at}
 use Rattle.iv_gateway.proofs.arriving.learn.Goals as goal
@@ -53,12 +53,12 @@ returns-then-not-is_new-clause-first c = λ h.
 
 pub returns-clause-first : goal.returns-clause-first
 returns-clause-first c = λ h.
-    let none : into_iter_items c.loop-name.name-iterator ≡ [] = no_items (into_iter_items c.loop-name.name-iterator)
+    let none : into_iter_items c.loop-name.name-iterator ≡ [] = nil-of_length_zero (into_iter_items c.loop-name.name-iterator)
     (let empty = c.in-None.ensures.steps.0 in let ok = c.loop-name.name-iterator.rest.ok in omega (arith, empty, ok)) in
     (c.loop-name.invariant.3 h).1 ∙ ap (λ ns. first_known (c.loop-name.place + 1) ns (names_of c.loop-name.known).known) none
 
 pub returns-clause-learned : goal.returns-clause-learned
 returns-clause-learned c = λ e.
-    let none : into_iter_items c.loop-name.name-iterator ≡ [] = no_items (into_iter_items c.loop-name.name-iterator)
+    let none : into_iter_items c.loop-name.name-iterator ≡ [] = nil-of_length_zero (into_iter_items c.loop-name.name-iterator)
     (let empty = c.in-None.ensures.steps.0 in let ok = c.loop-name.name-iterator.rest.ok in omega (arith, empty, ok)) in
     sym (c.loop-name.invariant.4 ∙ ap (all_pushed (names_of c.loop-name.known)) none)

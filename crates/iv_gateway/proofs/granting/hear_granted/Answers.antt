@@ -2,7 +2,7 @@ use Rattle.std.proofs.Common.{◌≡◌, ◌∙◌, ap, length, rules, sym, true
 use Rattle.std.specs.Prelude.{◌==◌}
 use Rattle.iv_clients.specs.Clients.{at_all}
 use Rattle.iv_gateway.specs.Granting.{holding_for, is_granted, names_granted}
-use Rattle.iv_gateway.proofs.Granted.{tells_none, tells_some}
+use Rattle.iv_gateway.proofs.Granted.{at_all-told_names_none, at_all-told_names}
 use Rattle.iv_gateway.proofs.granting.hear_granted.Goals as goal
 
 pub returns-then-is_empty : goal.returns-then-is_empty
@@ -10,7 +10,7 @@ returns-then-is_empty c =
     let p = is_granted c.args.engine.now.frame c.args.grants.now in
     let names = names_granted c.args.engine.now.frame c.args.grants.now in
     let empty : (length c.in_ok-text.text.items == 0) ≡ true = search rules in
-    tells_none c.told_texts_are_lines.ensures p names c.args.clients.now (ap (λ z. length z == 0) (sym c.in_ok-text.ensures) ∙ empty)
+    at_all-told_names_none c.told_texts_are_lines.ensures p names c.args.clients.now (ap (λ z. length z == 0) (sym c.in_ok-text.ensures) ∙ empty)
 
 pub returns : goal.returns
 returns c =
@@ -19,4 +19,4 @@ returns c =
     let some : (length c.in_ok-text.text.items == 0) ≡ false = search rules in
     c.in_ok-grant_all.ensures
     ∙ (ap (λ z. at_all (holding_for p z) c.args.clients.now) (c.deref.ensures.value ∙ c.in_ok-text.ensures)
-    ∙ tells_some p names c.args.clients.now (ap (λ z. length z == 0) (sym c.in_ok-text.ensures) ∙ some))
+    ∙ at_all-told_names p names c.args.clients.now (ap (λ z. length z == 0) (sym c.in_ok-text.ensures) ∙ some))

@@ -1,6 +1,6 @@
 use Rattle.std.proofs.Common.{Bor, sym, append-nil}
 use Rattle.iv_access.specs.Rights.{Name}
-use Rattle.iv_gateway.proofs.Granted.{name_next}
+use Rattle.iv_gateway.proofs.Granted.{text_granted-take_next}
 use Rattle.iv_gateway.proofs.granting.push_names.Goals as goal
 
 pub loop-name-init : goal.loop-name-init
@@ -8,6 +8,7 @@ loop-name-init c = sym (append-nil c.args.text.now.items)
 
 pub loop-name-preserved : goal.loop-name-preserved
 loop-name-preserved c =
-    name_next (λ (n : Bor Name). n.now) c.args.names.now c.loop-name.name-index _ c.args.text.now.items c.loop-name.text.items c.push_granted.new.text.items
+    text_granted-take_next (λ (n : Bor Name). n.now) c.args.names.now c.loop-name.name-index _ c.args.text.now.items c.loop-name.text.items
+      c.push_granted.new.text.items
     c.loop-name-test.true
     c.loop-name.invariant c.in_ok-push_granted.ensures

@@ -3,7 +3,7 @@ use Rattle.std.proofs.lemmas.Grind.{common_steps}
 use Rattle.iv_command.specs.Views.{line_of}
 use Rattle.iv_hall.specs.Hearing.{hearing_for}
 use Rattle.iv_clients.proofs.Slots.{at_client-past, at_client-set}
-use Rattle.iv_hall.proofs.Waiting.{on_at}
+use Rattle.iv_hall.proofs.Waiting.{CountsOn-set}
 use Rattle.iv_hall.proofs.hearing.hear_client.Goals as goal
 
 pub returns-in-None-clause-told : goal.returns-in-None-clause-told
@@ -16,5 +16,5 @@ returns-in_ok-hear_slot-in-Some-clause-told c =
 
 pub returns-in_ok-hear_slot-in-Some-clause-counted : goal.returns-in_ok-hear_slot-in-Some-clause-counted
 returns-in_ok-hear_slot-in-Some-clause-counted c =
-    on_at c.args.client c.args.clients.now.items c.in-Some.slot.now _ _ _ (grind (arith, common_steps)) c.in-Some.ensures.value
+    CountsOn-set c.args.client c.args.clients.now.items c.in-Some.slot.now _ _ _ (grind (arith, common_steps)) c.in-Some.ensures.value
     c.in_ok-hear_slot-in-Some.ensures.counted

@@ -1,7 +1,7 @@
 use Rattle.std.proofs.Common.{◌≡◌, ◌∙◌, ap, length, sym, true}
 use Rattle.std.specs.Prelude.{◌==◌}
 use Rattle.iv_hall.specs.Readers.{readers_of}
-use Rattle.iv_hall.proofs.Joined.{without_empty}
+use Rattle.iv_hall.proofs.Joined.{HasAll-filter}
 use Rattle.iv_hall.proofs.readers.drop_empty.Goals as goal
 
 pub returns-then-is_empty : goal.returns-then-is_empty
@@ -9,4 +9,4 @@ returns-then-is_empty c =
     let none : (length (readers_of c.args.readers.now.items c.args.feed) == 0) ≡ true =
     ap (λ ns. length ns == 0) (sym (c.readers_of.ensures.numbers ∙ ap (λ z. readers_of z c.args.feed) c.deref.ensures.value))
     ∙ (sym c.is_empty.ensures ∙ c.if-is_empty.true) in
-    without_empty c.args.readers.now.items c.disband.new.readers.items c.args.feed none c.disband.ensures
+    HasAll-filter c.args.readers.now.items c.disband.new.readers.items c.args.feed none c.disband.ensures

@@ -4,14 +4,14 @@ use Rattle.std.specs.Prelude.{◌==◌}
 use Rattle.std.specs.List.{list_any}
 use Rattle.iv_clients.specs.Clients.{Sub}
 use Rattle.iv_hall.specs.Readers.{HasLeft}
-use Rattle.iv_hall.proofs.Joined.{left_next, left_none}
+use Rattle.iv_hall.proofs.Joined.{HasLeft-next, HasLeft-none}
 use Rattle.iv_hall.proofs.readers.quit_all.Goals as goal
 
 pub loop-sub-init : goal.loop-sub-init
-loop-sub-init c = left_none c.args.number c.args.readers.now.items
+loop-sub-init c = HasLeft-none c.args.number c.args.readers.now.items
 
 pub loop-sub-preserved : goal.loop-sub-preserved
-loop-sub-preserved c = left_next c.args.number c.args.subs.now c.loop-sub.sub-index c.sub-item.result c.feed.result c.args.readers.now.items
+loop-sub-preserved c = HasLeft-next c.args.number c.args.subs.now c.loop-sub.sub-index c.sub-item.result c.feed.result c.args.readers.now.items
     c.loop-sub.readers.items c.quit.new.readers.items c.loop-sub-test.true c.sub-item.is c.feed.ensures c.loop-sub.invariant c.quit.ensures
 
 pub returns : goal.returns

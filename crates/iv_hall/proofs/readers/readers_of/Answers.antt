@@ -1,7 +1,7 @@
 use Rattle.std.proofs.Common.{◌∙◌, [], Bor, ap, option_map, sym}
 use Rattle.iv_rows.specs.Options.{if_some}
 use Rattle.iv_hall.specs.Readers.{Readers}
-use Rattle.iv_hall.proofs.Joined.{once_none}
+use Rattle.iv_hall.proofs.Joined.{IsDistinct-none}
 use Rattle.iv_hall.proofs.readers.readers_of.Goals as goal
 
 pub returns-in-None-clause-numbers : goal.returns-in-None-clause-numbers
@@ -10,7 +10,7 @@ returns-in-None-clause-numbers c =
     ∙ ap (λ o. if_some o [] (λ (r : Readers). r.numbers)) c.those_of.ensures
 
 pub returns-in-None-clause-once : goal.returns-in-None-clause-once
-returns-in-None-clause-once c = once_none
+returns-in-None-clause-once c = IsDistinct-none
 
 pub returns-in-Some-clause-numbers : goal.returns-in-Some-clause-numbers
 returns-in-Some-clause-numbers c =

@@ -1,5 +1,5 @@
-use Rattle.iv_clients.proofs.Calling.{no_epoch}
+use Rattle.iv_clients.proofs.Calling.{passing-is_epoch}
 use Rattle.iv_head.proofs.begun.epoch_text.Goals as goal
 
 pub returns-in_default : goal.returns-in_default
-returns-in_default c = no_epoch c.args.text.now c.in_default.ensures.cases.0
+returns-in_default c = passing-is_epoch c.args.text.now c.in_default.ensures.cases.0

@@ -1,5 +1,5 @@
-use Rattle.iv_host.proofs.RoleCounts.{adds_up}
+use Rattle.iv_host.proofs.RoleCounts.{clients_in-one_more}
 use Rattle.iv_host.proofs.laws.roles_add_up.Goals as goal
 
 pub returns : goal.returns
-returns c = adds_up
+returns c = clients_in-one_more

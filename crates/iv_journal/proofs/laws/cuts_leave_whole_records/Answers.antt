@@ -1,5 +1,5 @@
-use Rattle.iv_journal.proofs.Cuts.{cuts}
+use Rattle.iv_journal.proofs.Cuts.{CutsAreFronts-take}
 use Rattle.iv_journal.proofs.laws.cuts_leave_whole_records.Goals as goal
 
 pub returns : goal.returns
-returns c = cuts
+returns c = CutsAreFronts-take

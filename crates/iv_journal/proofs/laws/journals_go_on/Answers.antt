@@ -1,5 +1,5 @@
-use Rattle.iv_journal.proofs.Readings.{goes_on}
+use Rattle.iv_journal.proofs.Readings.{GoesOn-lines}
 use Rattle.iv_journal.proofs.laws.journals_go_on.Goals as goal
 
 pub returns : goal.returns
-returns c = goes_on
+returns c = GoesOn-lines

@@ -2,7 +2,7 @@ use Rattle.std.proofs.Common.{◌∙◌, arith, refl}
 use Rattle.iv_command.specs.Views.{line_of}
 use Rattle.iv_command.proofs.TokenTexts.{flat_map-take_next}
 use Rattle.iv_lines.specs.Texts.{line_text}
-use Rattle.iv_lines.proofs.LineTexts.{all_texts}
+use Rattle.iv_lines.proofs.LineTexts.{flat_map-map_whole}
 use Rattle.iv_lines.proofs.answers.write_lines.Goals as goal
 
 pub loop-line-preserved : goal.loop-line-preserved
@@ -12,4 +12,4 @@ loop-line-preserved c = record {
 }
 
 pub returns : goal.returns
-returns c = all_texts line_text line_of c.args.lines.now c.loop-line.text.items c.loop-line.line-index (omega arith) c.loop-line.invariant.text
+returns c = flat_map-map_whole line_text line_of c.args.lines.now c.loop-line.text.items c.loop-line.line-index (omega arith) c.loop-line.invariant.text

@@ -1,9 +1,9 @@
-use Rattle.iv_message.proofs.Meaning.{one_meaning}
-use Rattle.iv_message.proofs.Deciding.{values_decide}
+use Rattle.iv_message.proofs.Meaning.{option_map-act_in}
+use Rattle.iv_message.proofs.Deciding.{Decides-form_of}
 use Rattle.iv_message.proofs.laws.clients_ask_what_viewd_reads.Goals as goal
 
 pub returns-clause-meaning : goal.returns-clause-meaning
-returns-clause-meaning c = one_meaning
+returns-clause-meaning c = option_map-act_in
 
 pub returns-clause-values : goal.returns-clause-values
-returns-clause-values c = values_decide
+returns-clause-values c = Decides-form_of

@@ -2,7 +2,7 @@ use Rattle.std.proofs.Common.{◌≡◌, Some, true, arith}
 use Rattle.json.specs.Json.{read_key}
 use Rattle.json.proofs.Grammar.{read_key-shorter}
 use Rattle.iv_reading.specs.Pulled.{IsParts}
-use Rattle.iv_reading.proofs.TokensAndValues.{reach_more}
+use Rattle.iv_reading.proofs.TokensAndValues.{Reaches-Adds}
 use Rattle.iv_reading.proofs.writes.parts_in.Goals as goal
 
 pub members-preserved : goal.members-preserved
@@ -15,6 +15,6 @@ members-preserved c =
     let is_read : done.field-0 ≡ true = grind arith in
     let less = done.ensures.shorter is_read in
     let lesser = read_key-shorter l.reader (Some k) s key in (
-      λ h. reach_more 2 (IsParts l.parts) (IsParts c.part_in.new.parts) c.args.reader.now l.reader s c.part_in.new.reader k less key (done.ensures.part is_read) (l.invariant.0 h),
+      λ h. Reaches-Adds 2 (IsParts l.parts) (IsParts c.part_in.new.parts) c.args.reader.now l.reader s c.part_in.new.reader k less key (done.ensures.part is_read) (l.invariant.0 h),
       omega (arith, less, lesser, l.invariant.1),
     )

@@ -1,5 +1,5 @@
-use Rattle.iv_request.proofs.Well.{request_well}
+use Rattle.iv_request.proofs.Well.{is_well_command-request}
 use Rattle.iv_request.proofs.laws.requests_are_well.Goals as goal
 
 pub returns : goal.returns
-returns c = request_well
+returns c = is_well_command-request

@@ -1,4 +1,4 @@
-use Rattle.iv_engine.proofs.SoundStates.{sound_after}
+use Rattle.iv_engine.proofs.SoundStates.{IsSoundEngine-IsLeftBy}
 use Rattle.std.proofs.Common.{◌≡◌, ◌∙◌, false, map, sym, ap, subst}
 use Rattle.iv_machine.specs.Machine.{step}
 use Rattle.iv_machine.specs.State.{Frame}
@@ -11,7 +11,7 @@ use Rattle.iv_store.specs.Store.{Store, frame_of}
 use Rattle.iv_store.specs.Engine.{Engine, IsBehind}
 use Rattle.iv_database.specs.Stands.{Stands}
 use Rattle.iv_command.specs.Views.{command_of, line_of}
-use Rattle.iv_store.proofs.RunLines.{counted_seen, shown_by}
+use Rattle.iv_store.proofs.RunLines.{AreCountedWhereAccepted-IsCountedBy, shown_by}
 use Rattle.iv_engine.proofs.engine.Engine.apply.Goals as goal
 
 pub returns-in-Ok-clause-lines : goal.returns-in-Ok-clause-lines
@@ -41,7 +41,7 @@ returns-in-Ok-clause-refused c = λ n r is. ap (λ (e : Store). shown_by e c.sel
 pub returns-in-Ok-clause-rounds : goal.returns-in-Ok-clause-rounds
 returns-in-Ok-clause-rounds c =
     let off : c.self.inside.failed ≡ false = ap (λ (v : Engine). v.failed) c.self.view_is ∙ sym c.is_failed.ensures.failed ∙ c.if-is_failed.false in
-    counted_seen c.self.inside.store c.step.new.store c.args.self.now c.self.inside.failed (command_of c.args.command) (map line_of c.in-Ok.lines.items) off c.self.view_is c.in-Ok.ensures.rounds
+    AreCountedWhereAccepted-IsCountedBy c.self.inside.store c.step.new.store c.args.self.now c.self.inside.failed (command_of c.args.command) (map line_of c.in-Ok.lines.items) off c.self.view_is c.in-Ok.ensures.rounds
 
 pub returns-in-Ok-clause-sound : goal.returns-in-Ok-clause-sound
-returns-in-Ok-clause-sound c = λ g h. sound_after c.args.self.now _ (command_of c.args.command) g (returns-in-Ok-clause-state c) h
+returns-in-Ok-clause-sound c = λ g h. IsSoundEngine-IsLeftBy c.args.self.now _ (command_of c.args.command) g (returns-in-Ok-clause-state c) h

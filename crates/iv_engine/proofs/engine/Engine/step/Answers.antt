@@ -4,9 +4,9 @@ use Rattle.iv_store.specs.Answering.{seen}
 use Rattle.iv_store.specs.Engine.{Engine}
 use Rattle.iv_engine.specs.Stepped.{AreCountedOnce}
 use Rattle.iv_store.specs.Store.{frame_of}
-use Rattle.iv_engine.proofs.Given.{sound_after_step}
+use Rattle.iv_engine.proofs.Given.{IsSoundEngine-TakesStep}
 use Rattle.iv_engine.specs.declared.facts.StepFault.TheVariants.{Failed}
-use Rattle.iv_engine.proofs.Looking.{had_not_failed, refuses_as}
+use Rattle.iv_engine.proofs.Looking.{not_Failed-IsTakenIn, RefusesStep-IsTakenIn}
 use Rattle.iv_engine.proofs.engine.Engine.step.Goals as goal
 
 pub returns-in-Ok-clause-taken : goal.returns-in-Ok-clause-taken
@@ -17,18 +17,18 @@ returns-in-Ok-clause-taken c = λ s b.
     record { outcome = k.outcome; is = k.is; told = k.told; left = record { frame = k.left.frame; rows = k.left.rows } }
 
 pub returns-in-Ok-clause-sound : goal.returns-in-Ok-clause-sound
-returns-in-Ok-clause-sound c = λ g h. sound_after_step c.args.self.now _ c.args.facts.items _ g (returns-in-Ok-clause-taken c) h
+returns-in-Ok-clause-sound c = λ g h. IsSoundEngine-TakesStep c.args.self.now _ c.args.facts.items _ g (returns-in-Ok-clause-taken c) h
 
 pub returns-in-Err-clause-refused : goal.returns-in-Err-clause-refused
 returns-in-Err-clause-refused c =
-    refuses_as c.self.inside.store c.args.self.now _ c.args.facts.items
+    RefusesStep-IsTakenIn c.self.inside.store c.args.self.now _ c.args.facts.items
     (λ s b. record { frame = b.frame ∙ ap (λ (v : Engine). v.frame) (sym c.self.view_is); rows = subst (λ (v : Engine). Stands s.rows v.tables) (sym c.self.view_is) b.rows })
     c.in-Err.fault c.in-Err.ensures.taken
 
 pub returns-in-Err-clause-failed : goal.returns-in-Err-clause-failed
 returns-in-Err-clause-failed c =
     let on : c.args.self.now.failed ≡ false = sym c.is_failed.ensures.failed ∙ c.if-is_failed.false in (
-      (λ is. absurd (had_not_failed c.self.inside.store _ c.args.facts.items c.in-Err.fault c.in-Err.ensures.taken (let e : c.in-Err.fault ≡ Failed = cc in e))),
+      (λ is. absurd (not_Failed-IsTakenIn c.self.inside.store _ c.args.facts.items c.in-Err.fault c.in-Err.ensures.taken (let e : c.in-Err.fault ≡ Failed = cc in e))),
       (λ off. let no : true ≡ false = sym off ∙ on in cc),
     )
 

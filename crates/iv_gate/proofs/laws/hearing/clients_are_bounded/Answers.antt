@@ -1,5 +1,5 @@
-use Rattle.iv_gate.proofs.Bounding.{are_bounded, last_stays, places_stay}
-use Rattle.iv_gate.proofs.Lasting.{runs_sound}
+use Rattle.iv_gate.proofs.Bounding.{IsBounded-Runs, le-next_last, length-next_clients}
+use Rattle.iv_gate.proofs.Lasting.{IsSoundGate-Runs}
 use Rattle.iv_gate.proofs.Sound.{Sounds}
 use Rattle.iv_gate.proofs.laws.hearing.clients_are_bounded.Goals as goal
 
@@ -7,14 +7,14 @@ pub returns-clause-bounded : goal.returns-clause-bounded
 returns-clause-bounded c =
     let opens = c.requests_open_what_they_name.ensures in
     let laws : Sounds = record { sound = c.steps_keep_sound.ensures.step; lasts = c.what_stands_lasts.ensures; ends = c.ends_are_told.ensures; begins = opens.session; subscribes = opens.subscription; told = c.steps_are_told.ensures } in
-    are_bounded c.lines_add_up.ensures c.steps_keep_sound.ensures.start laws
+    IsBounded-Runs c.lines_add_up.ensures c.steps_keep_sound.ensures.start laws
 
 pub returns-clause-places : goal.returns-clause-places
-returns-clause-places c = places_stay
+returns-clause-places c = length-next_clients
 
 pub returns-clause-last : goal.returns-clause-last
 returns-clause-last c =
     let opens = c.requests_open_what_they_name.ensures in
     let laws : Sounds = record { sound = c.steps_keep_sound.ensures.step; lasts = c.what_stands_lasts.ensures; ends = c.ends_are_told.ensures; begins = opens.session; subscribes = opens.subscription; told = c.steps_are_told.ensures } in
     let adds = c.lines_add_up.ensures in let start = c.steps_keep_sound.ensures.start in
-    λ cap g e r. last_stays laws g e (runs_sound adds start laws cap g r)
+    λ cap g e r. le-next_last laws g e (IsSoundGate-Runs adds start laws cap g r)

@@ -1,6 +1,6 @@
-use Rattle.iv_gate.proofs.Endowing.{grants_are_true}
-use Rattle.iv_gate.proofs.Exact.{grants_are_told}
-use Rattle.iv_gate.proofs.Lasting.{runs_sound}
+use Rattle.iv_gate.proofs.Endowing.{GrantsAreTrue-Runs}
+use Rattle.iv_gate.proofs.Exact.{GrantsAreTold-IsSoundGate}
+use Rattle.iv_gate.proofs.Lasting.{IsSoundGate-Runs}
 use Rattle.iv_gate.proofs.Sound.{Sounds}
 use Rattle.iv_gate.proofs.laws.hearing.grants_are_told.Goals as goal
 
@@ -8,11 +8,11 @@ pub returns-clause-has : goal.returns-clause-has
 returns-clause-has c =
     let opens = c.requests_open_what_they_name.ensures in
     let laws : Sounds = record { sound = c.steps_keep_sound.ensures.step; lasts = c.what_stands_lasts.ensures; ends = c.ends_are_told.ensures; begins = opens.session; subscribes = opens.subscription; told = c.steps_are_told.ensures } in
-    grants_are_true c.lines_add_up.ensures c.steps_keep_sound.ensures.start laws c.grants_give_what_they_name.ensures c.requests_are_well.ensures
+    GrantsAreTrue-Runs c.lines_add_up.ensures c.steps_keep_sound.ensures.start laws c.grants_give_what_they_name.ensures c.requests_are_well.ensures
 
 pub returns-clause-exact : goal.returns-clause-exact
 returns-clause-exact c =
     let opens = c.requests_open_what_they_name.ensures in
     let laws : Sounds = record { sound = c.steps_keep_sound.ensures.step; lasts = c.what_stands_lasts.ensures; ends = c.ends_are_told.ensures; begins = opens.session; subscribes = opens.subscription; told = c.steps_are_told.ensures } in
     let adds = c.lines_add_up.ensures in let start = c.steps_keep_sound.ensures.start in
-    λ cap g e r live. grants_are_told laws g e (runs_sound adds start laws cap g r) live
+    λ cap g e r live. GrantsAreTold-IsSoundGate laws g e (IsSoundGate-Runs adds start laws cap g r) live

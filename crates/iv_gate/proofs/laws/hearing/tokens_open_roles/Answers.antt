@@ -1,4 +1,4 @@
-use Rattle.iv_gate.proofs.Entering.{acts_by_token, comes_in}
+use Rattle.iv_gate.proofs.Entering.{ActsByToken-Runs, LetsIn-Runs}
 use Rattle.iv_gate.proofs.Sound.{Sounds}
 use Rattle.iv_gate.proofs.laws.hearing.tokens_open_roles.Goals as goal
 
@@ -6,10 +6,10 @@ pub returns-clause-acts : goal.returns-clause-acts
 returns-clause-acts c =
     let opens = c.requests_open_what_they_name.ensures in
     let laws : Sounds = record { sound = c.steps_keep_sound.ensures.step; lasts = c.what_stands_lasts.ensures; ends = c.ends_are_told.ensures; begins = opens.session; subscribes = opens.subscription; told = c.steps_are_told.ensures } in
-    acts_by_token c.lines_add_up.ensures c.steps_keep_sound.ensures.start laws
+    ActsByToken-Runs c.lines_add_up.ensures c.steps_keep_sound.ensures.start laws
 
 pub returns-clause-comes : goal.returns-clause-comes
 returns-clause-comes c =
     let opens = c.requests_open_what_they_name.ensures in
     let laws : Sounds = record { sound = c.steps_keep_sound.ensures.step; lasts = c.what_stands_lasts.ensures; ends = c.ends_are_told.ensures; begins = opens.session; subscribes = opens.subscription; told = c.steps_are_told.ensures } in
-    comes_in c.lines_add_up.ensures c.steps_keep_sound.ensures.start laws
+    LetsIn-Runs c.lines_add_up.ensures c.steps_keep_sound.ensures.start laws

@@ -1,5 +1,5 @@
-use Rattle.iv_gate.proofs.Damage.{journal_is_decided}
+use Rattle.iv_gate.proofs.Damage.{IsDecided-ReadsBack}
 use Rattle.iv_gate.proofs.laws.journal.journals_are_decided.Goals as goal
 
 pub returns : goal.returns
-returns c = journal_is_decided c.records_are_read_back.ensures
+returns c = IsDecided-ReadsBack c.records_are_read_back.ensures

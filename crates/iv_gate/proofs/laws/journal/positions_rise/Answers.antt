@@ -1,13 +1,13 @@
 use Rattle.iv_gate.proofs.Booking.{Texts}
-use Rattle.iv_gate.proofs.Positions.{positions_last, positions_rise}
+use Rattle.iv_gate.proofs.Positions.{PositionsLast-Runs, PositionsRise-Runs}
 use Rattle.iv_gate.proofs.laws.journal.positions_rise.Goals as goal
 
 pub returns-clause-rise : goal.returns-clause-rise
 returns-clause-rise c =
     let texts : Texts = record { claims = c.names_are_texts.ensures.claims; holders = c.names_are_texts.ensures.holders; lines = c.told_texts_are_lines.ensures } in
-    positions_rise c.records_are_read_back.ensures texts
+    PositionsRise-Runs c.records_are_read_back.ensures texts
 
 pub returns-clause-last : goal.returns-clause-last
 returns-clause-last c =
     let texts : Texts = record { claims = c.names_are_texts.ensures.claims; holders = c.names_are_texts.ensures.holders; lines = c.told_texts_are_lines.ensures } in
-    positions_last c.records_are_read_back.ensures texts
+    PositionsLast-Runs c.records_are_read_back.ensures texts

@@ -1,5 +1,5 @@
 use Rattle.iv_gate.proofs.Booking.{Texts}
-use Rattle.iv_gate.proofs.Leading.{crashes_are_safe, leads_back}
+use Rattle.iv_gate.proofs.Leading.{CrashesAreSafe-Runs, LeadsBack-Runs}
 use Rattle.iv_gate.proofs.Sound.{Sounds}
 use Rattle.iv_gate.proofs.laws.journal.the_journal_leads_back.Goals as goal
 
@@ -7,11 +7,11 @@ pub returns-clause-back : goal.returns-clause-back
 returns-clause-back c =
     let opens = c.requests_open_what_they_name.ensures in
     let laws : Sounds = record { sound = c.steps_keep_sound.ensures.step; lasts = c.what_stands_lasts.ensures; ends = c.ends_are_told.ensures; begins = opens.session; subscribes = opens.subscription; told = c.steps_are_told.ensures } in
-    leads_back c.lines_add_up.ensures c.steps_keep_sound.ensures.start laws
+    LeadsBack-Runs c.lines_add_up.ensures c.steps_keep_sound.ensures.start laws
 
 pub returns-clause-safe : goal.returns-clause-safe
 returns-clause-safe c =
     let opens = c.requests_open_what_they_name.ensures in
     let laws : Sounds = record { sound = c.steps_keep_sound.ensures.step; lasts = c.what_stands_lasts.ensures; ends = c.ends_are_told.ensures; begins = opens.session; subscribes = opens.subscription; told = c.steps_are_told.ensures } in
     let texts : Texts = record { claims = c.names_are_texts.ensures.claims; holders = c.names_are_texts.ensures.holders; lines = c.told_texts_are_lines.ensures } in
-    crashes_are_safe c.records_are_read_back.ensures texts c.lines_add_up.ensures c.steps_keep_sound.ensures.start laws
+    CrashesAreSafe-Runs c.records_are_read_back.ensures texts c.lines_add_up.ensures c.steps_keep_sound.ensures.start laws

@@ -1,5 +1,5 @@
-use Rattle.iv_gate.proofs.Past.{stays_past}
+use Rattle.iv_gate.proofs.Past.{StaysPast-event}
 use Rattle.iv_gate.proofs.laws.names.what_is_past_stays_past.Goals as goal
 
 pub returns : goal.returns
-returns c = stays_past
+returns c = StaysPast-event

@@ -6,8 +6,8 @@ use Rattle.iv_clients.specs.Clients.{at_client, following}
 use Rattle.iv_clients.specs.Kept.{keeping_new}
 use Rattle.iv_gate.specs.Gate.{columns_in, next_own, tells}
 use Rattle.iv_gateway.specs.Reading.{own_next}
-use Rattle.iv_gateway.proofs.Keeping.{keeps_at}
-use Rattle.iv_gateway.proofs.Subscribed.{next_kept}
+use Rattle.iv_gateway.proofs.Keeping.{at_client-kept_slots}
+use Rattle.iv_gateway.proofs.Subscribed.{own_next-next_own}
 use Rattle.iv_gateway.proofs.gateway.Gateway.follow.Goals as goal
 
 pub returns : goal.returns
@@ -16,7 +16,7 @@ returns c = λ g b.
     let m = c.args.client in
     let rel = c.args.rel.now in
     let own : own_next c.places.result.now c.args.client ≡ next_own g c.args.client =
-    next_kept g c.args.client c.places.result.now (c.places.ensures ∙ b.clients) in
+    own_next-next_own g c.args.client c.places.result.now (c.places.ensures ∙ b.clients) in
     let columns : columns_named c.args.self.now.engine.frame c.args.rel.now ≡ columns_in g.machine c.args.rel.now =
     ap (λ f. columns_named f c.args.rel.now) (sym b.machine.frame) in
     let text : told_text (opened (option_map id_data c.args.id.now) (next_own g c.args.client) (columns_in g.machine c.args.rel.now)) ≡ c.deref.result.now =
@@ -35,6 +35,6 @@ returns c = λ g b.
       pending = told.pending;
       shape = told.shape;
       clients = c.in_ok-follow.ensures ∙ (ap (at_client c.args.client (keeping_new c.args.number)) told.clients
-          ∙ keeps_at c.args.client (following c.args.number) (keeping_new c.args.number) (λ k. refl)
+          ∙ at_client-kept_slots c.args.client (following c.args.number) (keeping_new c.args.number) (λ k. refl)
           (tells g c.args.client (opened (option_map id_data c.args.id.now) (next_own g c.args.client) (columns_in g.machine c.args.rel.now))).clients);
     }

@@ -1,21 +1,21 @@
 use Rattle.std.proofs.Common.{◌∙◌, arith, refl, sym}
 use Rattle.iv_gate.specs.Events.{forgave}
-use Rattle.iv_gateway.proofs.Alive.{alive_next}
-use Rattle.iv_gateway.proofs.Replayed.{forgiven_here}
+use Rattle.iv_gateway.proofs.Alive.{IsGate-IsAlive}
+use Rattle.iv_gateway.proofs.Replayed.{names_of-forgiven}
 use Rattle.iv_gateway.proofs.gateway.Gateway.forgive.Goals as goal
 
 pub returns-then-not-self : goal.returns-then-not-self
 returns-then-not-self c = λ g b.
     let lives = sym b.dead ∙ c.if-not-self.true in
     let a = b.alive lives in
-    alive_next g forgave _ lives c.if-not-self.true refl
+    IsGate-IsAlive g forgave _ lives c.if-not-self.true refl
     (record {
       tokens = a.tokens;
       machine = a.machine;
       seats = a.seats;
       feeds = a.feeds;
       clients = a.clients;
-      names = forgiven_here g _ _ a.names c.forgive.ensures;
+      names = names_of-forgiven g _ _ a.names c.forgive.ensures;
       log = a.log;
       position = a.position;
       settled = a.settled;

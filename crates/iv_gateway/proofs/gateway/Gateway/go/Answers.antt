@@ -5,13 +5,13 @@ use Rattle.iv_clients.specs.Clients.{client_at}
 use Rattle.iv_clients.specs.Feeds.{is_of_role}
 use Rattle.iv_gate.specs.Gate.{Gate, all_rested, all_swept}
 use Rattle.iv_gateway.specs.Views.{IsAlive}
-use Rattle.iv_gateway.proofs.Gone.{goes_none, goes_some, leaving}
-use Rattle.iv_gateway.proofs.Keeping.{keeps_set}
+use Rattle.iv_gateway.proofs.Gone.{IsAlive-went_none, IsAlive-went_some, leaving}
+use Rattle.iv_gateway.proofs.Keeping.{set-kept_slots}
 use Rattle.iv_gateway.proofs.gateway.Gateway.go.Goals as goal
 
 pub returns-in-None : goal.returns-in-None
 returns-in-None c = λ g b.
-    goes_none g c.args.client c.args.self.now.clients _ b.clients
+    IsAlive-went_none g c.args.client c.args.self.now.clients _ b.clients
     (sym (c.in_ok-leaver.ensures ∙ ap (λ z. option_map {U = Name × List ℕ} leaving (client_at z c.args.client)) c.places.ensures)
     ∙ ap (option_map {U = Name × List ℕ} (λ p. (string_bytes p.0, p.1.items))) c.in-None.is) b
 
@@ -30,7 +30,7 @@ returns-in_ok-settle_told-in-Some c = λ g b.
       forgiven = b.forgiven;
       pending = b.pending;
       shape = b.shape;
-      clients = c.leave.ensures ∙ (ap (λ z. set z c.args.client None) b.clients ∙ keeps_set c.args.client None g.clients);
+      clients = c.leave.ensures ∙ (ap (λ z. set z c.args.client None) b.clients ∙ set-kept_slots c.args.client None g.clients);
     } in
     let swept : IsAlive (all_swept (record g { clients = set g.clients c.args.client None }) c.in-Some.feeds.items) c.sweep_all.new.self =
     subst (λ z. IsAlive (all_swept (record g { clients = set g.clients c.args.client None }) z) c.sweep_all.new.self) c.deref.ensures.value
@@ -47,7 +47,7 @@ returns-in_ok-settle_told-in-Some c = λ g b.
     subst (λ z. IsAlive (all_rested (all_swept (record g { clients = set g.clients c.args.client None }) c.in-Some.feeds.items) z) c.rest_all.new.self)
     (c.deref-in-Some-2.ensures.value ∙ those)
     (c.in_ok-rest_all-in-Some.ensures (all_swept (record g { clients = set g.clients c.args.client None }) c.in-Some.feeds.items) swept) in
-    goes_some g c.args.client (string_bytes c.in-Some.role) c.in-Some.feeds.items c.args.self.now.clients _ b.clients
+    IsAlive-went_some g c.args.client (string_bytes c.in-Some.role) c.in-Some.feeds.items c.args.self.now.clients _ b.clients
     (sym (c.in_ok-leaver.ensures ∙ ap (λ z. option_map {U = Name × List ℕ} leaving (client_at z c.args.client)) c.places.ensures)
     ∙ ap (option_map {U = Name × List ℕ} (λ p. (string_bytes p.0, p.1.items))) c.in-Some.is)
     (c.in_ok-settle_told-in-Some.ensures (all_rested (all_swept (record g { clients = set g.clients c.args.client None }) c.in-Some.feeds.items)

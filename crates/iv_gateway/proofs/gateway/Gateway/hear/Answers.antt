@@ -9,7 +9,7 @@ use Rattle.iv_clients.specs.Kept.{Kept, holding_all, keeping_on}
 use Rattle.iv_gate.specs.Gate.{granted_by, is_accepted, reply_in}
 use Rattle.iv_gateway.specs.Granting.{hearing_granted}
 use Rattle.iv_hall.specs.Hearing.{hearing_lines}
-use Rattle.iv_gateway.proofs.Granted.{granted_same, stands_granted}
+use Rattle.iv_gateway.proofs.Granted.{at_all-hearing_granted, kept_slots-granted}
 use Rattle.iv_gateway.proofs.gateway.Gateway.hear.Goals as goal
 
 pub returns : goal.returns
@@ -36,8 +36,9 @@ returns c = λ g k b grants.
       clients = c.stay.ensures
           ∙ (ap (at_all (keeping_on ls)) (c.in_ok-hear_grants.ensures
           ∙ (ap gives (c.in_ok-hear.ensures ∙ ap (λ fs. at_all (hearing_lines fs ls) places) (c.deref.ensures.value ∙ b.gate.feeds))
-          ∙ granted_same ls (step g.machine k).lines frame (step g.machine k).state.frame k.act c.args.grants.now (at_all (hearing_lines g.feeds ls) places)
+          ∙ at_all-hearing_granted ls (step g.machine k).lines frame (step g.machine k).state.frame k.act c.args.grants.now
+            (at_all (hearing_lines g.feeds ls) places)
           b.lines b.gate.machine.frame grants))
           ∙ (ap (λ z. at_all (keeping_on z) (at_all (λ (x : Kept). holding_all (more x.role) x) (at_all (hearing_lines g.feeds z) places))) b.lines
-          ∙ stands_granted g.entries g.feeds (step g.machine k).lines more g.clients places b.gate.clients));
+          ∙ kept_slots-granted g.entries g.feeds (step g.machine k).lines more g.clients places b.gate.clients));
     }

@@ -4,8 +4,8 @@ use Rattle.iv_clients.specs.Journal.{said_by}
 use Rattle.iv_clients.specs.Kept.{asking}
 use Rattle.iv_gate.specs.Gate.{done_for}
 use Rattle.iv_gateway.specs.Views.{IsAlive}
-use Rattle.iv_gateway.proofs.Keeping.{keeps_at}
-use Rattle.iv_gateway.proofs.Said.{asked, did, stands_answered, there_saying}
+use Rattle.iv_gateway.proofs.Keeping.{at_client-kept_slots}
+use Rattle.iv_gateway.proofs.Said.{asked, did, at_client-answering, client_at-asked}
 use Rattle.iv_gateway.proofs.gateway.Gateway.hear_message.Goals as goal
 
 pub returns : goal.returns
@@ -30,11 +30,11 @@ returns c = λ g k b there is.
       pending = b.pending;
       shape = b.shape;
       clients = c.in_ok-ask.ensures ∙ (ap (at_client c.args.client asking) b.clients
-          ∙ keeps_at c.args.client (saying c.args.text.now) asking (λ d. refl) g.clients);
+          ∙ at_client-kept_slots c.args.client (saying c.args.text.now) asking (λ d. refl) g.clients);
     } in
     let done : IsAlive (done_for (asked g c.args.client c.args.text.now) c.args.client k c.args.text.now (said_by c.args.text.now)) c.answer.new.self =
     subst (λ z. IsAlive (done_for (asked g c.args.client c.args.text.now) c.args.client k c.args.text.now z) c.answer.new.self) c.in_ok-said.ensures.message
-    (c.in_ok-answer.ensures (asked g c.args.client c.args.text.now) k c.args.text.now counted (there_saying g c.args.client k c.args.text.now there) is
+    (c.in_ok-answer.ensures (asked g c.args.client c.args.text.now) k c.args.text.now counted (client_at-asked g c.args.client k c.args.text.now there) is
     (sym c.in_ok-said.ensures.line) (sym c.in_ok-said.ensures.claim)) in
     let told : IsAlive (did g c.args.client k c.args.text.now) c.settle_told.new.self =
     c.in_ok-settle_told.ensures (done_for (asked g c.args.client c.args.text.now) c.args.client k c.args.text.now (said_by c.args.text.now)) done in
@@ -51,6 +51,6 @@ returns c = λ g k b there is.
       forgiven = told.forgiven;
       pending = told.pending;
       shape = told.shape;
-      clients = c.answered.ensures ∙ stands_answered g c.args.client k c.args.text.now c.speaker.inside.brought _ there (brought ∙ ap (λ s. s.brought) is)
+      clients = c.answered.ensures ∙ at_client-answering g c.args.client k c.args.text.now c.speaker.inside.brought _ there (brought ∙ ap (λ s. s.brought) is)
           told.clients;
     }

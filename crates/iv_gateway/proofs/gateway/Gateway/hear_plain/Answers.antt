@@ -7,7 +7,7 @@ use Rattle.iv_clients.specs.Kept.{keeping_on}
 use Rattle.iv_message.specs.Told.{granted}
 use Rattle.iv_gate.specs.Gate.{granted_by, is_accepted, reply_in}
 use Rattle.iv_hall.specs.Hearing.{hearing_lines}
-use Rattle.iv_gateway.proofs.Standing.{no_grants, stands_heard}
+use Rattle.iv_gateway.proofs.Standing.{cond-no_grants, kept_slots-heard}
 use Rattle.iv_gateway.proofs.gateway.Gateway.hear_plain.Goals as goal
 
 pub returns : goal.returns
@@ -30,8 +30,8 @@ returns c = λ g k b none.
       clients = c.stay.ensures
           ∙ (ap (at_all (keeping_on ls)) (c.in_ok-hear.ensures ∙ ap (λ fs. at_all (hearing_lines fs ls) places) (c.deref.ensures.value ∙ b.gate.feeds))
           ∙ (ap (λ z. at_all (keeping_on z) (at_all (hearing_lines g.feeds z) places)) b.lines
-          ∙ stands_heard g.entries g.feeds (step g.machine k).lines (λ (x : Client).
+          ∙ kept_slots-heard g.entries g.feeds (step g.machine k).lines (λ (x : Client).
           cond (is_accepted (reply_in (step g.machine k).lines)) (map granted (granted_by (step g.machine k).state.frame k.act x.role)) [])
-          (λ x. no_grants (is_accepted (reply_in (step g.machine k).lines)) (granted_by (step g.machine k).state.frame k.act x.role)
+          (λ x. cond-no_grants (is_accepted (reply_in (step g.machine k).lines)) (granted_by (step g.machine k).state.frame k.act x.role)
           (none (step g.machine k).state.frame x.role)) g.clients places b.gate.clients));
     }

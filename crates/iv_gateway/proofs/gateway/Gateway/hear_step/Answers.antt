@@ -8,7 +8,7 @@ use Rattle.iv_clients.specs.Kept.{Kept, holding_all, keeping_on}
 use Rattle.iv_gate.specs.Arriving.{newly}
 use Rattle.iv_gateway.specs.Newly.{AreNewly, hearing_newly, newly_in}
 use Rattle.iv_hall.specs.Hearing.{hearing_lines}
-use Rattle.iv_gateway.proofs.Granted.{stands_granted}
+use Rattle.iv_gateway.proofs.Granted.{kept_slots-granted}
 use Rattle.iv_gateway.proofs.NewRights.{stands_newly}
 use Rattle.iv_gateway.proofs.gateway.Gateway.hear_step.Goals as goal
 
@@ -33,7 +33,7 @@ returns c = λ g o b l n.
           ∙ (stands_newly c.told_texts_are_lines.ensures old frame rs g.feeds ls places known
           ∙ ap (λ f. at_all (λ (k : Kept). holding_all (map granted (newly old f k.role)) k) (at_all (hearing_lines g.feeds ls) places)) (sym b.machine.frame))))
           ∙ (ap (λ z. at_all (keeping_on z) (at_all (λ (k : Kept). holding_all (more k.role) k) (at_all (hearing_lines g.feeds z) places))) l
-          ∙ stands_granted g.entries g.feeds o.lines more g.clients places b.clients));
+          ∙ kept_slots-granted g.entries g.feeds o.lines more g.clients places b.clients));
       names = b.names;
       log = b.log;
       position = b.position;

@@ -3,7 +3,7 @@ use Rattle.std.specs.Prelude.{◌==◌}
 use Rattle.iv_clients.specs.Clients.{at_all}
 use Rattle.iv_gateway.specs.Granting.{holding_for}
 use Rattle.iv_gateway.specs.Shaping.{is_admin}
-use Rattle.iv_gateway.proofs.Shaped.{informs_empty, informs_some, stands_as}
+use Rattle.iv_gateway.proofs.Shaped.{at_all-told_shape_empty, at_all-told_shape, kept_slots-informs}
 use Rattle.iv_gateway.proofs.gateway.Gateway.inform.Goals as goal
 
 pub returns-then-is_empty : goal.returns-then-is_empty
@@ -22,7 +22,8 @@ returns-then-is_empty c = λ g es b t.
       forgiven = b.forgiven;
       pending = b.pending;
       shape = b.shape;
-      clients = stands_as g es places places b.clients (informs_empty c.told_texts_are_lines.ensures es places (ap (λ z. length z == 0) (sym t) ∙ empty));
+      clients = kept_slots-informs g es places places b.clients
+        (at_all-told_shape_empty c.told_texts_are_lines.ensures es places (ap (λ z. length z == 0) (sym t) ∙ empty));
     }
 
 pub returns : goal.returns
@@ -41,6 +42,7 @@ returns c = λ g es b t.
       forgiven = b.forgiven;
       pending = b.pending;
       shape = b.shape;
-      clients = stands_as g es places c.inform_all.new.clients b.clients
-          (c.in_ok-inform_all.ensures ∙ (ap (λ z. at_all (holding_for is_admin z) places) t ∙ informs_some es places (ap (λ z. length z == 0) (sym t) ∙ some)));
+      clients = kept_slots-informs g es places c.inform_all.new.clients b.clients
+          (c.in_ok-inform_all.ensures ∙ (ap (λ z. at_all (holding_for is_admin z) places) t ∙ at_all-told_shape es places
+            (ap (λ z. length z == 0) (sym t) ∙ some)));
     }

@@ -1,5 +1,5 @@
 use Rattle.std.proofs.Common.{◌∙◌, arith, refl, rules}
-use Rattle.iv_gateway.proofs.Keeping.{nobody_kept}
+use Rattle.iv_gateway.proofs.Keeping.{kept_slots-replicate}
 use Rattle.iv_gateway.proofs.gateway.Gateway.new.Goals as goal
 
 pub returns : goal.returns
@@ -10,7 +10,7 @@ returns c = λ cap h b i. record {
     machine = b;
     seats = search rules;
     feeds = search rules;
-    clients = c.in_ok-clients.ensures ∙ nobody_kept c.args.most;
+    clients = c.in_ok-clients.ensures ∙ kept_slots-replicate c.args.most;
     names = i.names;
     log = i.log;
     position = i.position;

@@ -4,7 +4,7 @@ use Rattle.std.proofs.lemmas.List.{drop_all}
 use Rattle.iv_clients.specs.Clients.{at_all, released}
 use Rattle.iv_clients.specs.Journal.{journal_of, position_of}
 use Rattle.iv_clients.specs.Kept.{releasing}
-use Rattle.iv_gateway.proofs.Keeping.{keeps_all, kept_released}
+use Rattle.iv_gateway.proofs.Keeping.{at_all-kept_slots, kept-released}
 use Rattle.iv_gateway.proofs.gateway.Gateway.release.Goals as goal
 
 pub returns : goal.returns
@@ -20,5 +20,5 @@ returns c = λ g b. record {
   forgiven = b.forgiven;
   pending = record { within = omega arith; lines = c.clear.ensures.items ∙ ap journal_of (sym (drop_all (length g.entries) g.entries (omega arith))) };
   shape = b.shape;
-  clients = c.in_ok-release.ensures ∙ (ap (at_all releasing) b.clients ∙ keeps_all released releasing kept_released g.clients);
+  clients = c.in_ok-release.ensures ∙ (ap (at_all releasing) b.clients ∙ at_all-kept_slots released releasing kept-released g.clients);
 }

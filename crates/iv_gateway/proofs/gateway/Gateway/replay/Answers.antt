@@ -5,11 +5,11 @@ use Rattle.iv_once.specs.Views.{names_of}
 use Rattle.iv_gate.specs.Restoring.{IsDamagedAt}
 use Rattle.iv_gate.proofs.Damage.{led}
 use Rattle.iv_gateway.specs.Replays.{IsRecordReplayed, behind}
-use Rattle.iv_gateway.proofs.Replayed.{forgiven_here, read_nothing, reads_all, reads_on, stops_here}
+use Rattle.iv_gateway.proofs.Replayed.{names_of-forgiven, HasRead-start, Restores-HasRead, HasRead-next, IsDamagedAt-IsRecordReplayed}
 use Rattle.iv_gateway.proofs.gateway.Gateway.replay.Goals as goal
 
 pub lines-init : goal.lines-init
-lines-init c = record { within = omega arith; leads = λ g n b. read_nothing g c.args.journal.now c.args.self.now n b }
+lines-init c = record { within = omega arith; leads = λ g n b. HasRead-start g c.args.journal.now c.args.self.now n b }
 
 pub lines-preserved : goal.lines-preserved
 lines-preserved c =
@@ -22,7 +22,7 @@ lines-preserved c =
       within = omega (arith, count, more, within);
       leads = λ g n b.
           let w = c.lines.invariant.leads g n b in
-          reads_on g c.args.journal.now c.lines.at c.in-Ok-Some.count c.lines.self c.replay_record.new.self w
+          HasRead-next g c.args.journal.now c.lines.at c.in-Ok-Some.count c.lines.self c.replay_record.new.self w
           (subst (λ (ls : List Line). IsRecordReplayed g w.entries ls (Some c.in-Ok-Some.count) c.replay_record.new.self) rest
           (rw c.in-Ok-Some.field-0-is at (c.in-Ok-Some.ensures.replayed g w.entries w.gate)));
     }
@@ -32,14 +32,14 @@ returns-clause-replayed c = λ g n b.
     let w = c.lines.invariant.leads g n b in
     let a = w.gate.gate in record {
       now = led g w.entries w.gate.state;
-      restores = reads_all g c.args.journal.now c.lines.at c.lines.self w (omega arith);
+      restores = Restores-HasRead g c.args.journal.now c.lines.at c.lines.self w (omega arith);
       gate = record {
         tokens = a.tokens;
         machine = a.machine;
         seats = a.seats;
         feeds = a.feeds;
         clients = a.clients;
-        names = forgiven_here (behind g w.gate.state w.entries) _ (names_of c.lines.self.names) a.names c.forgive.ensures;
+        names = names_of-forgiven (behind g w.gate.state w.entries) _ (names_of c.lines.self.names) a.names c.forgive.ensures;
         log = a.log;
         position = a.position;
         settled = a.settled;
@@ -54,6 +54,6 @@ returns-in-Ok-None-clause-damaged c = λ place e g n b.
     let w = c.lines.invariant.leads g n b in
     let same : c.lines.at ≡ place = cc e in
     subst (IsDamagedAt g c.args.journal.now) same
-    (stops_here g c.args.journal.now c.lines.at c.lines.self c.replay_record.new.self w (omega arith)
+    (IsDamagedAt-IsRecordReplayed g c.args.journal.now c.lines.at c.lines.self c.replay_record.new.self w (omega arith)
     (subst (λ (ls : List Line). IsRecordReplayed g w.entries ls None c.replay_record.new.self) (take_rest c.args.journal.now c.lines.at)
     (rw c.in-Ok-None.field-0-is at (c.in-Ok-None.ensures.replayed g w.entries w.gate))))

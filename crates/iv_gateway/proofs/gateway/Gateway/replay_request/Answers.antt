@@ -10,7 +10,7 @@ use Rattle.iv_gate.specs.Arriving.{fact_of}
 use Rattle.iv_gate.specs.Gate.{Gate}
 use Rattle.iv_gateway.specs.Replays.{IsPassed, behind, with_request}
 use Rattle.iv_gateway.specs.Shaping.{shape_in}
-use Rattle.iv_gateway.proofs.Replayed.{PassesTo, request_more, request_well, runs_out, runs_unaccepted, runs_unbegun, some_passed}
+use Rattle.iv_gateway.proofs.Replayed.{PassesTo, AreKept-with_request, is_well_act-IsRequest, IsPassed-finish, IsPassed-not_accepted, IsPassed-not_begun, PassesTo-IsPassed}
 use Rattle.iv_gateway.proofs.gateway.Gateway.replay_request.Goals as goal
 
 pub pass-requires : goal.pass-requires
@@ -21,29 +21,29 @@ pass-requires c =
 pub pass-requires-2 : goal.pass-requires-2
 pass-requires-2 c =
     let act : act_of c.request.inside.act ≡ c.args.request.act = search rules in
-    ap is_well_act act ∙ request_well c.requests_are_well.ensures c.args.request c.requires
+    ap is_well_act act ∙ is_well_act-IsRequest c.requests_are_well.ensures c.args.request c.requires
 
 pub returns-then-not-branch : goal.returns-then-not-branch
 returns-then-not-branch c = λ g s es e b.
     let q : Request = record { role = string_bytes c.request.inside.role; line = c.request.inside.line.items; act = act_of c.request.inside.act } in
     let h : Gate = behind g s (es ++ with_request e q ∷ []) in
     let shared = (subst IsRequest (sym c.request.view_is) c.requires).shared in
-    let began = c.in_ok-pass.ensures h (request_more g s es e q c.push_shape.new.text c.args.self.now b (c.in_ok-push_shape.ensures
+    let began = c.in_ok-pass.ensures h (AreKept-with_request g s es e q c.push_shape.new.text c.args.self.now b (c.in_ok-push_shape.ensures
     ∙ (λ i. c.args.self.now.shape.items ++ shape_in (record { role = c.as_str.ensures.value i; line = c.deref.ensures.value i; act = q.act })))) in
     subst (λ (r : Request). IsPassed (behind g s (es ++ with_request e r ∷ [])) (carried (fact_of r) s) false c.pass.new.self) c.request.view_is
-    (runs_unbegun h q c.in_ok-pass.field-0 c.pass.new.self c.pass.new.self shared began c.if-not-branch.true)
+    (IsPassed-not_begun h q c.in_ok-pass.field-0 c.pass.new.self c.pass.new.self shared began c.if-not-branch.true)
 
 pub returns-then-not-branch-2 : goal.returns-then-not-branch-2
 returns-then-not-branch-2 c = λ g s es e b.
     let q : Request = record { role = string_bytes c.request.inside.role; line = c.request.inside.line.items; act = act_of c.request.inside.act } in
     let h : Gate = behind g s (es ++ with_request e q ∷ []) in
     let shared = (subst IsRequest (sym c.request.view_is) c.requires).shared in
-    let began = c.in_ok-pass.ensures h (request_more g s es e q c.push_shape.new.text c.args.self.now b (c.in_ok-push_shape.ensures
+    let began = c.in_ok-pass.ensures h (AreKept-with_request g s es e q c.push_shape.new.text c.args.self.now b (c.in_ok-push_shape.ensures
     ∙ (λ i. c.args.self.now.shape.items ++ shape_in (record { role = c.as_str.ensures.value i; line = c.deref.ensures.value i; act = q.act })))) in
     let p : PassesTo h (passed (begin q.role) s) c.pass.new.self =
-    some_passed h (passed (begin q.role) s) c.in_ok-pass.field-0 c.pass.new.self began c.if-not-branch.false in
+    PassesTo-IsPassed h (passed (begin q.role) s) c.in_ok-pass.field-0 c.pass.new.self began c.if-not-branch.false in
     subst (λ (r : Request). IsPassed (behind g s (es ++ with_request e r ∷ [])) (carried (fact_of r) s) false c.pass-2.new.self) c.request.view_is
-    (runs_unaccepted h q c.in_ok-pass-2.field-0 c.pass.new.self c.pass-2.new.self c.pass-2.new.self shared p
+    (IsPassed-not_accepted h q c.in_ok-pass-2.field-0 c.pass.new.self c.pass-2.new.self c.pass-2.new.self shared p
     (c.in_ok-pass-2.ensures (record h { machine = p.state }) p.gate) c.if-not-branch-2.true)
 
 pub returns : goal.returns
@@ -51,13 +51,13 @@ returns c = λ g s es e b.
     let q : Request = record { role = string_bytes c.request.inside.role; line = c.request.inside.line.items; act = act_of c.request.inside.act } in
     let h : Gate = behind g s (es ++ with_request e q ∷ []) in
     let shared = (subst IsRequest (sym c.request.view_is) c.requires).shared in
-    let began = c.in_ok-pass.ensures h (request_more g s es e q c.push_shape.new.text c.args.self.now b (c.in_ok-push_shape.ensures
+    let began = c.in_ok-pass.ensures h (AreKept-with_request g s es e q c.push_shape.new.text c.args.self.now b (c.in_ok-push_shape.ensures
     ∙ (λ i. c.args.self.now.shape.items ++ shape_in (record { role = c.as_str.ensures.value i; line = c.deref.ensures.value i; act = q.act })))) in
     let p : PassesTo h (passed (begin q.role) s) c.pass.new.self =
-    some_passed h (passed (begin q.role) s) c.in_ok-pass.field-0 c.pass.new.self began c.if-not-branch.false in
+    PassesTo-IsPassed h (passed (begin q.role) s) c.in_ok-pass.field-0 c.pass.new.self began c.if-not-branch.false in
     let d : PassesTo (record h { machine = p.state }) (passed q.act p.state) c.pass-2.new.self =
-    some_passed (record h { machine = p.state }) (passed q.act p.state) c.in_ok-pass-2.field-0 c.pass-2.new.self
+    PassesTo-IsPassed (record h { machine = p.state }) (passed q.act p.state) c.in_ok-pass-2.field-0 c.pass-2.new.self
     (c.in_ok-pass-2.ensures (record h { machine = p.state }) p.gate) c.if-not-branch-2.false in
     subst (λ (r : Request). IsPassed (behind g s (es ++ with_request e r ∷ [])) (carried (fact_of r) s) c.in_ok-is_finished.is_finished c.pass-3.new.self) c.request.view_is
-    (runs_out h q c.in_ok-is_finished.is_finished c.pass.new.self c.pass-2.new.self c.pass-3.new.self shared p d
+    (IsPassed-finish h q c.in_ok-is_finished.is_finished c.pass.new.self c.pass-2.new.self c.pass-3.new.self shared p d
     (c.in_ok-is_finished.ensures (record h { machine = d.state }) d.gate))

@@ -2,8 +2,8 @@ use Rattle.std.proofs.Common.{◌≡◌, List, [], arith, rules, subst, sym}
 use Rattle.std.specs.List.{AllByRecursion}
 use Rattle.std.specs.Vec.Iter.{into_iter_items}
 use Rattle.iv_clients.specs.Journal.{IsRequest, Request}
-use Rattle.iv_store.proofs.RunLines.{no_items}
-use Rattle.iv_gateway.proofs.Replayed.{GoesOn, goes_first, goes_no_more, goes_on, goes_to_end}
+use Rattle.iv_store.proofs.RunLines.{nil-of_length_zero}
+use Rattle.iv_gateway.proofs.Replayed.{GoesOn, GoesOn-start, IsPassed-all_carried_false, GoesOn-next, IsPassed-GoesOn}
 use Rattle.iv_gateway.proofs.gateway.Gateway.replay_requests.Goals as goal
 
 pub replay_request-requires : goal.replay_request-requires
@@ -15,7 +15,7 @@ loop-request-init c =
       tt,
       tt,
       subst (AllByRecursion IsRequest) (sym items) c.requires,
-      λ g s es p b. subst (λ (qs : List Request). GoesOn g s es p c.args.requests.items qs c.args.self.now) (sym items) (goes_first g s es p c.args.requests.items c.args.self.now b),
+      λ g s es p b. subst (λ (qs : List Request). GoesOn g s es p c.args.requests.items qs c.args.self.now) (sym items) (GoesOn-start g s es p c.args.requests.items c.args.self.now b),
     )
 
 pub loop-request-preserved : goal.loop-request-preserved
@@ -28,7 +28,7 @@ loop-request-preserved c =
       (subst (AllByRecursion IsRequest) next c.loop-request.invariant.2).1,
       λ g s es p b.
           let w = subst (λ (qs : List Request). GoesOn g s es p c.args.requests.items qs c.loop-request.self) next (c.loop-request.invariant.3 g s es p b) in
-          goes_on g s es p c.args.requests.items rest q c.in_ok-replay_request.field-0 c.loop-request.self _ w
+          GoesOn-next g s es p c.args.requests.items rest q c.in_ok-replay_request.field-0 c.loop-request.self _ w
           (c.in_ok-replay_request.ensures g w.state es _ w.gate) c.if-not-branch.false,
     )
 
@@ -38,11 +38,11 @@ returns-then-not-branch c = λ g s es p b.
     let rest = into_iter_items c.next.new.self in
     let next = c.in-Some.ensures.steps.0 in
     let w = subst (λ (qs : List Request). GoesOn g s es p c.args.requests.items qs c.loop-request.self) next (c.loop-request.invariant.3 g s es p b) in
-    goes_no_more g s es p c.args.requests.items rest q c.in_ok-replay_request.field-0 c.loop-request.self _ w
+    IsPassed-all_carried_false g s es p c.args.requests.items rest q c.in_ok-replay_request.field-0 c.loop-request.self _ w
     (c.in_ok-replay_request.ensures g w.state es _ w.gate) c.if-not-branch.true
 
 pub returns : goal.returns
 returns c = λ g s es p b.
-    let none : into_iter_items c.loop-request.request-iterator ≡ [] = no_items (into_iter_items c.loop-request.request-iterator)
+    let none : into_iter_items c.loop-request.request-iterator ≡ [] = nil-of_length_zero (into_iter_items c.loop-request.request-iterator)
     (let empty = c.in-None.ensures.steps.0 in let ok = c.loop-request.request-iterator.rest.ok in omega (arith, empty, ok)) in
-    goes_to_end g s es p c.args.requests.items _ c.loop-request.self none (c.loop-request.invariant.3 g s es p b)
+    IsPassed-GoesOn g s es p c.args.requests.items _ c.loop-request.self none (c.loop-request.invariant.3 g s es p b)

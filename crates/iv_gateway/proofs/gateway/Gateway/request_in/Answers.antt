@@ -3,7 +3,7 @@ use Rattle.iv_command.specs.Views.{act_of, line_of}
 use Rattle.iv_gate.specs.Gate.{is_accepted, reply_in}
 use Rattle.iv_gateway.specs.Shaping.{shape_in}
 use Rattle.iv_gateway.specs.Speaking.{made_of, request_of}
-use Rattle.iv_gateway.proofs.Entered.{made_is}
+use Rattle.iv_gateway.proofs.Entered.{shape_text-entries_of}
 use Rattle.iv_gateway.proofs.gateway.Gateway.request_in.Goals as goal
 
 pub returns : goal.returns
@@ -15,7 +15,7 @@ returns c = λ g b.
     let made : c.deref-2.result.now ≡ made_of c.args.asked.now (act_of c.args.act) c.args.name (reply_in (map line_of c.deref-3.result.now)) =
     c.deref-2.ensures.value ∙ (c.clear_refused.ensures
     ∙ ((λ i. cond (is_accepted (reply_in (map line_of ((c.deref.ensures.value ∙ sym c.deref-3.ensures.value) i)))) (shape i) [])
-    ∙ made_is (request_of c.args.asked.now (act_of c.args.act)) c.args.name (reply_in (map line_of c.deref-3.result.now))
+    ∙ shape_text-entries_of (request_of c.args.asked.now (act_of c.args.act)) c.args.name (reply_in (map line_of c.deref-3.result.now))
     (is_accepted (reply_in (map line_of c.deref-3.result.now))) c.requires.shared refl)) in
     let run = c.in_ok-lines.ensures g b in
     c.in_ok-tell_request.ensures g (act_of c.args.act) c.args.session (record { lines = ap (map line_of) c.deref-3.ensures.value ∙ run.lines; gate = run.gate })

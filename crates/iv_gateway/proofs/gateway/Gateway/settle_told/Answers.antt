@@ -1,6 +1,6 @@
 use Rattle.std.proofs.Common.{◌∙◌, ◌++◌, ap}
 use Rattle.iv_message.specs.Told.{settled, told_text}
-use Rattle.iv_gateway.proofs.Standing.{stands_settled}
+use Rattle.iv_gateway.proofs.Standing.{at_all-settling}
 use Rattle.iv_gateway.proofs.gateway.Gateway.settle_told.Goals as goal
 
 pub returns : goal.returns
@@ -16,6 +16,6 @@ returns c = λ g b. record {
   forgiven = b.forgiven;
   pending = b.pending;
   shape = b.shape;
-  clients = c.in_ok-settle.ensures ∙ stands_settled g.entries g.clients c.args.self.now.clients c.deref.result.now
+  clients = c.in_ok-settle.ensures ∙ at_all-settling g.entries g.clients c.args.self.now.clients c.deref.result.now
       (c.deref.ensures.value ∙ (c.in_ok-push_settled.ensures ∙ ap (λ z. z ++ told_text settled) c.new-text.ensures.items)) b.clients;
 }

@@ -6,8 +6,8 @@ use Rattle.iv_store.specs.Engine.{IsBehind}
 use Rattle.iv_clients.specs.Feeds.{next_seat}
 use Rattle.iv_gate.specs.Gate.{Gate, in_session, is_accepted, reply_in, reply_to}
 use Rattle.iv_gateway.specs.Views.{IsRun}
-use Rattle.iv_gateway.proofs.Refused.{refused_leaves}
-use Rattle.iv_gateway.proofs.Seated.{begun_by}
+use Rattle.iv_gateway.proofs.Refused.{state-refused}
+use Rattle.iv_gateway.proofs.Seated.{begun_for-next_seat}
 use Rattle.iv_gateway.proofs.gateway.Gateway.sit.Goals as goal
 
 pub returns : goal.returns
@@ -20,7 +20,7 @@ returns c = λ g b.
     let passes : is_accepted (reply_in (map line_of c.in_ok-lines.lines.items)) ≡ true =
     sym (c.is_accepted.ensures ∙ ap (λ ls. is_accepted (reply_in (map line_of ls))) c.deref-2.ensures.value) ∙ c.if-not-is_accepted.false in
     let h : Gate = record g { seats = g.seats ++ record { session = c.in-Some.session; role = string_bytes c.args.role } ∷ [] } in (
-      begun_by g role n true (sym (ap next_seat (c.deref.ensures.value ∙ b.seats)) ∙ (sym c.next_seat.ensures ∙ c.in-Some.is))
+      begun_for-next_seat g role n true (sym (ap next_seat (c.deref.ensures.value ∙ b.seats)) ∙ (sym c.next_seat.ensures ∙ c.in-Some.is))
           (ap (λ ls. is_accepted (reply_in ls)) (sym run.lines) ∙ passes),
       c.in_ok-hear_plain.ensures (record g { seats = g.seats ++ record { session = c.in-Some.session; role = string_bytes c.args.role } ∷ [] })
           (in_session c.in-Some.session (begin (string_bytes c.args.role)))
@@ -54,7 +54,7 @@ returns-then-not-is_accepted c = λ g b.
     sym (c.is_accepted.ensures ∙ ap (λ ls. is_accepted (reply_in (map line_of ls))) c.deref-2.ensures.value) ∙ c.if-not-is_accepted.true in
     let rejected : is_accepted (reply_to g (in_session c.in-Some.session (begin (string_bytes c.args.role)))) ≡ false =
     ap (λ ls. is_accepted (reply_in ls)) (sym run.lines) ∙ refuses in (
-      begun_by g role n false (sym (ap next_seat (c.deref.ensures.value ∙ b.seats)) ∙ (sym c.next_seat.ensures ∙ c.in-Some.is)) rejected,
+      begun_for-next_seat g role n false (sym (ap next_seat (c.deref.ensures.value ∙ b.seats)) ∙ (sym c.next_seat.ensures ∙ c.in-Some.is)) rejected,
       record {
         tokens = run.gate.tokens;
         seats = run.gate.seats;
@@ -67,7 +67,7 @@ returns-then-not-is_accepted c = λ g b.
         forgiven = run.gate.forgiven;
         pending = run.gate.pending;
         shape = run.gate.shape;
-        machine = subst (λ z. IsBehind z c.run.new.self.engine) (refused_leaves g.machine (in_session c.in-Some.session (begin (string_bytes c.args.role)))
+        machine = subst (λ z. IsBehind z c.run.new.self.engine) (state-refused g.machine (in_session c.in-Some.session (begin (string_bytes c.args.role)))
             rejected) run.gate.machine;
       },
     )

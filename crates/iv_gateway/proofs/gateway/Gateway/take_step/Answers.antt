@@ -1,6 +1,6 @@
 use Rattle.std.proofs.Common.{◌∙◌, refl, sym}
 use Rattle.iv_gate.specs.Events.{arrived}
-use Rattle.iv_gateway.proofs.Alive.{alive_next}
+use Rattle.iv_gateway.proofs.Alive.{IsGate-IsAlive}
 use Rattle.iv_gateway.proofs.Landed.{taken_lives}
 use Rattle.iv_gateway.proofs.gateway.Gateway.take_step.Goals as goal
 
@@ -9,7 +9,7 @@ returns-in-Ok-clause-gate c = λ g b.
     let lives = sym b.dead ∙ c.if-self.false in
     let r = c.in-Ok.ensures.gate g (b.alive lives) in
     let a = r.1 in
-    alive_next g (arrived c.args.step) _ lives refl (taken_lives g c.args.step r.0.none)
+    IsGate-IsAlive g (arrived c.args.step) _ lives refl (taken_lives g c.args.step r.0.none)
     (record {
       tokens = a.tokens;
       machine = a.machine;

@@ -1,5 +1,5 @@
 use Rattle.std.proofs.Common.{◌∙◌}
-use Rattle.iv_gateway.proofs.Standing.{stands_told}
+use Rattle.iv_gateway.proofs.Standing.{at_client-told_one}
 use Rattle.iv_gateway.proofs.gateway.Gateway.tell.Goals as goal
 
 pub returns : goal.returns
@@ -15,5 +15,5 @@ returns c = λ g t b e. record {
   forgiven = b.forgiven;
   pending = b.pending;
   shape = b.shape;
-  clients = c.in_ok-hold.ensures ∙ stands_told g.entries g.clients c.args.self.now.clients c.args.client t c.args.text.now e b.clients;
+  clients = c.in_ok-hold.ensures ∙ at_client-told_one g.entries g.clients c.args.self.now.clients c.args.client t c.args.text.now e b.clients;
 }

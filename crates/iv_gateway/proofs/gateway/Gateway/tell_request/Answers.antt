@@ -4,7 +4,7 @@ use Rattle.iv_machine.specs.Machine.{step}
 use Rattle.iv_gate.specs.Gate.{Gate, entries_of, in_session, informs, ran, replies_to, reply_in, reply_to}
 use Rattle.iv_gateway.specs.Speaking.{asked_id, request_of}
 use Rattle.iv_gateway.specs.Views.{IsAlive}
-use Rattle.iv_gateway.proofs.Said.{replied_first}
+use Rattle.iv_gateway.proofs.Said.{IsRun-replies_to}
 use Rattle.iv_gateway.proofs.gateway.Gateway.tell_request.Goals as goal
 
 pub returns : goal.returns
@@ -14,7 +14,7 @@ returns c = λ g act n run s t k.
     let q = request_of c.args.asked.now act in
     let answered : Gate = record g { machine = (step g.machine (in_session n act)).state } in
     let told = c.in_ok-answer_first.ensures answered act run.gate s t in
-    let first = replied_first g c.args.asked.now.client (asked_id c.args.asked.now) (request_of c.args.asked.now act) c.args.name n (map line_of c.args.lines.now) c.answer_first.new.self
+    let first = IsRun-replies_to g c.args.asked.now.client (asked_id c.args.asked.now) (request_of c.args.asked.now act) c.args.name n (map line_of c.args.lines.now) c.answer_first.new.self
     run.lines told in
     let replying : Gate = replies_to g c.args.asked.now.client (asked_id c.args.asked.now) (request_of c.args.asked.now act) c.args.name (reply_to g (in_session n act)) in
     let heard = c.in_ok-hear.ensures replying (in_session n act) first k in

@@ -1,22 +1,23 @@
 use Rattle.std.proofs.Common.{◌∙◌, ap, refl}
 use Rattle.iv_clients.specs.Clients.{at_client}
 use Rattle.iv_clients.specs.Kept.{asking}
-use Rattle.iv_hall.proofs.Calls.{asks, fails}
-use Rattle.iv_hall.proofs.Waiting.{nobody, same_at}
+use Rattle.iv_hall.proofs.Calls.{IsHall-asking, IsHall-fail}
+use Rattle.iv_hall.proofs.Waiting.{AreCounted-none, AreCounted-at_client}
 use Rattle.iv_hall.proofs.hall.Hall.ask.Goals as goal
 
 pub invariant_of-self : goal.invariant_of-self
 invariant_of-self c = (
-  asks c.self.inside.most c.self.inside.slots.items _ c.self.inside.owed c.self.inside.told c.self.inside.readers.items c.args.client c.self.invariant.0
+  IsHall-asking c.self.inside.most c.self.inside.slots.items _ c.self.inside.owed c.self.inside.told c.self.inside.readers.items c.args.client
+    c.self.invariant.0
       c.in-Ok.ensures,
-  same_at c.args.client c.self.inside.waiting asking c.self.inside.slots.items _ (λ k. refl) c.in-Ok.ensures c.self.invariant.1,
+  AreCounted-at_client c.args.client c.self.inside.waiting asking c.self.inside.slots.items _ (λ k. refl) c.in-Ok.ensures c.self.invariant.1,
 )
 
 pub invariant_of-self-in-Err : goal.invariant_of-self-in-Err
 invariant_of-self-in-Err c = (
-  fails c.self.inside.most c.self.inside.slots.items _ c.self.inside.owed c.self.inside.owed _ c.self.inside.told _ c.self.inside.readers.items _
+  IsHall-fail c.self.inside.most c.self.inside.slots.items _ c.self.inside.owed c.self.inside.owed _ c.self.inside.told _ c.self.inside.readers.items _
       c.self.invariant.0 refl c.lose.ensures.owed c.lose.ensures.told c.lose.ensures.readers c.lose.ensures.clients,
-  nobody _ c.self.inside.waiting c.lose.ensures.clients,
+  AreCounted-none _ c.self.inside.waiting c.lose.ensures.clients,
 )
 
 pub returns-in-Ok : goal.returns-in-Ok

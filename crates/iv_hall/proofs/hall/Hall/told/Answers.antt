@@ -1,7 +1,7 @@
 use Rattle.std.proofs.Common.{◌∙◌, ap, subst, sym, ◌≡◌, true}
 use Rattle.std.specs.List.{Contains}
 use Rattle.iv_clients.specs.Clients.{client_at}
-use Rattle.iv_hall.proofs.Calls.{told_due}
+use Rattle.iv_hall.proofs.Calls.{Contains-is_due}
 use Rattle.iv_hall.specs.Hall.{is_told_at}
 use Rattle.iv_hall.proofs.hall.Hall.told.Goals as goal
 
@@ -11,5 +11,5 @@ returns-clause-only c = λ m i. subst (λ z. is_told_at z m ≡ true) c.self.vie
 
 pub returns-clause-listed : goal.returns-clause-listed
 returns-clause-listed c = λ m k there due. subst (λ z. Contains z m) (sym c.list.ensures.list)
-    (told_due c.self.inside.most c.self.inside.slots.items c.self.inside.owed c.self.inside.told c.self.inside.readers.items c.self.invariant.0 m k
+    (Contains-is_due c.self.inside.most c.self.inside.slots.items c.self.inside.owed c.self.inside.told c.self.inside.readers.items c.self.invariant.0 m k
     (ap (λ z. client_at z m) c.self.view_is ∙ there) due)

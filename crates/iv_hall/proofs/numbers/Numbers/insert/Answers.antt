@@ -2,7 +2,7 @@ use Rattle.std.proofs.Common.{◌≡◌, ◌∙◌, ◌<◌, ◌+◌, take, leng
 use Rattle.std.specs.List.{Contains}
 use Rattle.std.proofs.lemmas.List.{get_or_default}
 use Rattle.iv_hall.specs.Numbers.{HasGained}
-use Rattle.iv_hall.proofs.Placed.{gained, place_front}
+use Rattle.iv_hall.proofs.Placed.{HasGained-IsExchanged, Contains-IsOrder}
 use Rattle.iv_hall.proofs.numbers.Numbers.insert.Goals as goal
 
 pub returns-then-at-self : goal.returns-then-at-self
@@ -18,7 +18,8 @@ returns-then-at-self c =
       size =
           length c.exchange.new.order.items;
     })) c.self.view_is
-    (gained c.self.inside.order.items c.self.inside.places.items _ _ c.self.inside.count c.args.number w (omega (arith, at, below)) ln (omega (arith, at))
+    (HasGained-IsExchanged c.self.inside.order.items c.self.inside.places.items _ _ c.self.inside.count c.args.number w (omega (arith, at, below)) ln
+      (omega (arith, at))
     c.exchange.ensures)
 
 pub returns-else-at-self : goal.returns-else-at-self
@@ -31,7 +32,7 @@ returns-else-at-self c =
     record {
       size = refl;
       put = λ h. subst (λ z. Contains z.list c.args.number) c.self.view_is
-          (place_front c.self.inside.order.items c.self.inside.places.items c.self.inside.count c.args.number w c.self.invariant.0 ln (omega (arith, at)));
+          (Contains-IsOrder c.self.inside.order.items c.self.inside.places.items c.self.inside.count c.args.number w c.self.invariant.0 ln (omega (arith, at)));
       kept = λ m h. h;
       only = λ m h. inl h;
     }

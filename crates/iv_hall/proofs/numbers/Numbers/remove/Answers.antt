@@ -2,7 +2,7 @@ use Rattle.std.proofs.Common.{◌≡◌, ◌∙◌, ◌<◌, ◌+◌, ◌-◌, l
 use Rattle.std.specs.List.{Contains}
 use Rattle.std.proofs.lemmas.List.{get_or_default}
 use Rattle.iv_hall.specs.Numbers.{HasLost}
-use Rattle.iv_hall.proofs.Placed.{lost, not_in}
+use Rattle.iv_hall.proofs.Placed.{HasLost-IsExchanged, not_Contains-IsOrder}
 use Rattle.iv_hall.proofs.numbers.Numbers.remove.Goals as goal
 
 pub returns-then-at-self : goal.returns-then-at-self
@@ -18,7 +18,8 @@ returns-then-at-self c =
     c.self.view_is
     (subst (λ k. HasLost c.args.number (record { list = take k c.self.inside.order.items; size = length c.self.inside.order.items })
     (record { list = take (c.self.inside.count - 1) c.exchange.new.order.items; size = length c.exchange.new.order.items })) one
-    (lost c.self.inside.order.items c.self.inside.places.items _ _ (c.self.inside.count - 1) c.args.number w (omega (arith, within)) ln (omega (arith, at))
+    (HasLost-IsExchanged c.self.inside.order.items c.self.inside.places.items _ _ (c.self.inside.count - 1) c.args.number w (omega (arith, within)) ln
+      (omega (arith, at))
     c.exchange.ensures))
 
 pub returns-else-at-self : goal.returns-else-at-self
@@ -30,7 +31,8 @@ returns-else-at-self c =
     get_or_default c.self.inside.places.items c.args.number 0 _ lp ∙ sym c.index-at.ensures in
     record {
       size = refl;
-      gone = λ h. not_in c.self.inside.order.items c.self.inside.places.items c.self.inside.count c.args.number w c.self.invariant.0 (λ l. omega (arith, at))
+      gone = λ h. not_Contains-IsOrder c.self.inside.order.items c.self.inside.places.items c.self.inside.count c.args.number w c.self.invariant.0
+        (λ l. omega (arith, at))
           (subst (λ z. Contains z.list c.args.number) (sym c.self.view_is) h);
       kept = λ m ne h. h;
       only = λ m h. h;

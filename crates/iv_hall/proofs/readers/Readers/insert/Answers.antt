@@ -1,13 +1,13 @@
 use Rattle.std.proofs.Common.{◌≡◌, ◌∙◌, ◌++◌, ◌∷◌, [], cond, eqb, false, ap, sym}
 use Rattle.std.specs.List.{list_any}
-use Rattle.iv_hall.proofs.Joined.{once_more, with_number}
+use Rattle.iv_hall.proofs.Joined.{IsDistinct-push_number, with_number}
 use Rattle.iv_hall.proofs.readers.Readers.insert.Goals as goal
 
 pub invariant_of-self : goal.invariant_of-self
 invariant_of-self c =
     let none : list_any (eqb c.args.number) c.self.inside.numbers.items ≡ false =
     ap (list_any (eqb c.args.number)) (sym c.deref.ensures.value) ∙ (sym c.has_number.ensures ∙ c.if-not-has_number.true) in
-    rw c.in_ok-push.ensures.items (once_more c.self.inside.numbers.items c.args.number c.self.invariant none)
+    rw c.in_ok-push.ensures.items (IsDistinct-push_number c.self.inside.numbers.items c.args.number c.self.invariant none)
 
 pub returns-in_ok-push : goal.returns-in_ok-push
 returns-in_ok-push c =

@@ -1,14 +1,14 @@
 use Rattle.std.proofs.Common.{◌≡◌, ◌∙◌, ℕ, ap, filter, not, rules}
 use Rattle.std.specs.Prelude.{◌==◌}
 use Rattle.std.proofs.lemmas.Fn.{filter_same}
-use Rattle.iv_hall.proofs.Joined.{once_left}
+use Rattle.iv_hall.proofs.Joined.{IsDistinct-filter}
 use Rattle.iv_hall.proofs.readers.Readers.remove.Goals as goal
 
 pub invariant_of-self : goal.invariant_of-self
 invariant_of-self c =
     let left : c.retain.new.self.items ≡ filter {X = ℕ} (λ m. not (c.args.number == m)) c.self.inside.numbers.items =
     filter_same _ _ _ (λ x b f' k. search rules) _ _ c.retain.ensures.filtered in
-    rw left (once_left (λ m. not (c.args.number == m)) c.self.inside.numbers.items c.self.invariant)
+    rw left (IsDistinct-filter (λ m. not (c.args.number == m)) c.self.inside.numbers.items c.self.invariant)
 
 pub returns : goal.returns
 returns c =

@@ -6,8 +6,8 @@ use Rattle.websocket.specs.View.{KeepsRest, Returns, ReadLeaves}
 use Rattle.websocket.specs.declared.protocol.frame.codec.FrameStatus.TheVariants.{Complete}
 use Rattle.iv_peer.specs.declared.peer.Read.TheVariants as read
 use Rattle.iv_peer.specs.Reading.{IsRead, IsSaidAs}
-use Rattle.iv_peer.proofs.ProtocolSteps.{step_is}
-use Rattle.iv_peer.proofs.Roles.{role_stays}
+use Rattle.iv_peer.proofs.ProtocolSteps.{IsRead-Returns}
+use Rattle.iv_peer.proofs.Roles.{role-read_step}
 use Rattle.iv_peer.proofs.peer.Peer.read_frame.Goals as goal
 
 pub returns-in_ok-said-in-Ok-Complete : goal.returns-in_ok-said-in-Ok-Complete
@@ -26,5 +26,5 @@ returns-in_ok-said-in-Ok-Complete c = λ conn e server.
     let said : IsSaidAs (option_map (received_content c.deref.result.now) c.in-Ok-Complete.step.message) c.in_ok-said-in-Ok-Complete.said = c.in_ok-said-in-Ok-Complete.ensures in
     subst (λ k. IsRead (read_step k c.args.self.now.input) (read.Frame c.in_ok-said-in-Ok-Complete.said) c.args.self.now c.drop_front.new.self) same
     (subst (IsRead (read_step c.in-Some.socket c.args.self.now.input) (read.Frame c.in_ok-said-in-Ok-Complete.said) c.args.self.now) (search rules)
-    (step_is (read_step c.in-Some.socket c.args.self.now.input) c.in-Some.socket c.read.new.self c.args.self.now c.deref.result.now c.read.new.output.items c.in-Ok-Complete.step c.in_ok-said-in-Ok-Complete.said
-    (ap (λ (k : Connection). k.role) same ∙ server) (λ x is. role_stays c.in-Some.socket c.args.self.now.input x is) returns leaves kept said))
+    (IsRead-Returns (read_step c.in-Some.socket c.args.self.now.input) c.in-Some.socket c.read.new.self c.args.self.now c.deref.result.now c.read.new.output.items c.in-Ok-Complete.step c.in_ok-said-in-Ok-Complete.said
+    (ap (λ (k : Connection). k.role) same ∙ server) (λ x is. role-read_step c.in-Some.socket c.args.self.now.input x is) returns leaves kept said))

@@ -5,7 +5,7 @@ use Rattle.iv_circuit.specs.Nodes.{total_of}
 use Rattle.iv_readers.specs.Held.{Reading, held_at}
 use Rattle.iv_readers.specs.Readers.{RoleCircuit}
 use Rattle.iv_readers.specs.Rows.{AreInOrder, shared_rows}
-use Rattle.iv_readers.proofs.Held.{place_low, reader_is}
+use Rattle.iv_readers.proofs.Held.{lt-read_from, read_from-get_or}
 use Rattle.iv_readers.proofs.circuits.Circuits.rows.Goals as goal
 
 pub returns-clause-rows : goal.returns-clause-rows
@@ -18,5 +18,5 @@ returns-clause-rows c =
     IfOk-weaker c.rows_at.result (λ rows. AreInOrder (total_of (held_at c.deref_mut.result.now at).node) false (shared_rows rows))
     (λ rows. (k : RoleCircuit) → k ≡ get_or ks c.args.place k → AreInOrder (total_of k.circuit.node) false (shared_rows rows))
     (λ rows order k k_at. subst (λ (x : Running). AreInOrder (total_of x.node) false (shared_rows rows))
-    (here ∙ ap (λ (x : RoleCircuit). x.circuit) (reader_is hs rs ks c.self.view_is c.args.place c.index.result.now
-    (place_low hs rs ks c.self.view_is c.args.place c.requires) c.index.ensures k k_at)) order) c.rows_at.ensures.rows
+    (here ∙ ap (λ (x : RoleCircuit). x.circuit) (read_from-get_or hs rs ks c.self.view_is c.args.place c.index.result.now
+    (lt-read_from hs rs ks c.self.view_is c.args.place c.requires) c.index.ensures k k_at)) order) c.rows_at.ensures.rows

@@ -5,7 +5,7 @@ use Rattle.iv_store.specs.Store.{Store, database_of}
 use Rattle.iv_store.specs.Openable.{MayOpen}
 use Rattle.iv_command.specs.declared.stop.Stop.{Stop}
 use Rattle.iv_database.proofs.PolicyTests.{IsErrAnd-gives}
-use Rattle.iv_store.proofs.NewSubscription.{not_acting}
+use Rattle.iv_store.proofs.NewSubscription.{MayOpen-IsActingOn}
 use Rattle.iv_store.proofs.store.Store.check_subscribe.Goals as goal
 
 pub acting_on-requires : goal.acting_on-requires
@@ -18,7 +18,7 @@ returns-in_err-acting c =
     let name = c.args.rel.now in
     IsErrAnd-gives c.from_residual.result _ (MayOpen e n name) c.from_residual.ensures.1
     (λ stop is. subst (λ (s : Stop). MayOpen e n name (Err s)) (sym is)
-    (not_acting e n name c.in_err-acting.field-0.0 (subst (λ (v : Store). IsActingOn (database_of v) n name (Err c.in_err-acting.field-0.0)) c.self.view_is c.in_err-acting.ensures)))
+    (MayOpen-IsActingOn e n name c.in_err-acting.field-0.0 (subst (λ (v : Store). IsActingOn (database_of v) n name (Err c.in_err-acting.field-0.0)) c.self.view_is c.in_err-acting.ensures)))
 
 pub name_of-requires : goal.name_of-requires
 name_of-requires c = subst (λ (v : Store). IsDatabase (database_of v)) (sym c.self.view_is) c.requires.database

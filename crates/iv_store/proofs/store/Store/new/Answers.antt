@@ -1,6 +1,6 @@
 use Rattle.std.proofs.Common.{sym, subst}
 use Rattle.iv_store.specs.Store.{IsSoundStore}
-use Rattle.iv_store.proofs.Sound.{start_sound}
+use Rattle.iv_store.proofs.Sound.{IsSoundStore-kept_at_start}
 use Rattle.iv_store.proofs.store.Store.new.Goals as goal
 
 pub returns-clause-sound : goal.returns-clause-sound
@@ -13,4 +13,4 @@ returns-clause-sound c = subst IsSoundStore (λ i. record {
   circuits = sym c.new-3.ensures i;
   last = 0;
   tables = (sym c.in_ok-new.ensures i).tables;
-}) (start_sound c.args.cap c.requires)
+}) (IsSoundStore-kept_at_start c.args.cap c.requires)

@@ -3,7 +3,7 @@ use Rattle.std.specs.Global.{Vec}
 use Rattle.iv_machine.specs.State.{Subscription}
 use Rattle.iv_store.specs.Aside.{nobody_in}
 use Rattle.iv_store.specs.Store.{IsSoundStore, store_of}
-use Rattle.iv_store.proofs.HangUps.{nobody_sound}
+use Rattle.iv_store.proofs.HangUps.{IsSoundStore-nobody_in}
 use Rattle.iv_store.proofs.store.Store.set_aside.Goals as goal
 
 pub returns-clause-left : goal.returns-clause-left
@@ -13,4 +13,4 @@ returns-clause-left c =
     (λ i. store_of (c.take_sessions-sessions.ensures.left i) (subscriptions i) (circuits i) (c.replace-last.ensures.after i)) ∙ ap nobody_in c.self.view_is
 
 pub returns-clause-sound : goal.returns-clause-sound
-returns-clause-sound c = λ h. subst IsSoundStore (sym (returns-clause-left c)) (nobody_sound c.args.self.now h)
+returns-clause-sound c = λ h. subst IsSoundStore (sym (returns-clause-left c)) (IsSoundStore-nobody_in c.args.self.now h)

@@ -9,7 +9,7 @@ use Rattle.iv_store.specs.Answering.{IsStep}
 use Rattle.iv_store.specs.Store.{Store}
 use Rattle.iv_store.specs.Openable.{IsCircuitAt, IsOpenable, MayOpen}
 use Rattle.iv_command.specs.declared.command.Reply.TheVariants.{Subscribed}
-use Rattle.iv_store.proofs.NewSubscription.{asked, beyond_step, not_opened, opened_step}
+use Rattle.iv_store.proofs.NewSubscription.{asked, beyond_step, IsStep-MayOpen, opened_step}
 use Rattle.iv_store.proofs.store.Store.subscribe.Goals as goal
 
 pub returns-in_err-rel : goal.returns-in_err-rel
@@ -19,7 +19,7 @@ returns-in_err-rel c =
     let act = subscribe (string_bytes c.args.rel) in
     IsErrAnd-gives c.from_residual.result _ (λ r. IsStep e n act r e) c.from_residual.ensures.1
     (λ stop is. subst (λ (s : Stop). IsStep e n act (Err s) e) (sym is)
-    (not_opened e n (string_bytes c.args.rel) c.in_err-rel.field-0.0 (subst (λ (name : Name). MayOpen e n name (Err c.in_err-rel.field-0.0)) c.as_str.ensures.value c.in_err-rel.ensures)))
+    (IsStep-MayOpen e n (string_bytes c.args.rel) c.in_err-rel.field-0.0 (subst (λ (name : Name). MayOpen e n name (Err c.in_err-rel.field-0.0)) c.as_str.ensures.value c.in_err-rel.ensures)))
 
 pub returns-in_default : goal.returns-in_default
 returns-in_default c =
