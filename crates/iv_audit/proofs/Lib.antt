@@ -1,7 +1,7 @@
 pub mod Texts
 pub mod Bytes
-pub mod Cuts
-pub mod Goes
-pub mod Further
-pub mod Read
+pub mod JournalCuts
+pub mod JournalLines
+pub mod TornJournals
+pub mod ReadJournals
 pub mod PlainLines

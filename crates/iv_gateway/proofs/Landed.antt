@@ -28,9 +28,9 @@ use Rattle.iv_gateway.specs.Views.{IsAlive}
 use Rattle.iv_gateway.specs.declared.arriving.StepFault.{StepFault}
 use Rattle.iv_gateway.specs.declared.arriving.StepFault.TheVariants as fault
 use Rattle.iv_gateway.specs.declared.gateway.Gateway.{Gateway}
-use Rattle.iv_gateway.proofs.Entered.{AreKept, forgiven_more, names_by, names_by-push, pends_more, position_of-push, settled_stays}
-use Rattle.iv_gateway.proofs.Replayed.{is_well_act-IsRequest}
-use Rattle.iv_gateway.proofs.Shaped.{no_shape, one_shape, shape_text-added}
+use Rattle.iv_gateway.proofs.AddedEntries.{AreKept, forgiven_more, names_by, names_by-push, pends_more, position_of-push, settled_stays}
+use Rattle.iv_gateway.proofs.JournalReplays.{is_well_act-IsRequest}
+use Rattle.iv_gateway.proofs.ShapeLines.{no_shape, one_shape, shape_text-added}
 
 -- ---- names are learned
 

@@ -33,8 +33,8 @@ use Rattle.iv_steps.specs.Steps.{all_carried, among, carried, is_shared, looked_
 use Rattle.iv_gate.specs.Arriving.{fact_of, newly}
 use Rattle.iv_gateway.specs.Granting.{text_granted}
 use Rattle.iv_gateway.specs.Newly.{AreBefore, AreNewly, IsReadable, Newly, Readable, had, hearing_newly, is_among, newly_in, only_new, text_for}
-use Rattle.iv_gateway.proofs.Granted.{both_all, holding_all-holding, role_held, at_all-same, at_all-identity}
-use Rattle.iv_gateway.proofs.Keeping.{length-told_text}
+use Rattle.iv_gateway.proofs.GrantTexts.{both_all, holding_all-holding, role_held, at_all-same, at_all-identity}
+use Rattle.iv_gateway.proofs.ClientChanges.{length-told_text}
 
 -- ---- roles are gathered
 

@@ -19,16 +19,16 @@ use Rattle.iv_hall.specs.Listing.{AreThose, is_so_at, walked}
 use Rattle.iv_hall.specs.Numbers.{AreSet, HasGainedAll, HasLost, Numbers}
 use Rattle.iv_hall.specs.Readers.{HasKept, HasLeft, IsReader, Readers, readers_of}
 use Rattle.iv_hall.proofs.Halls.{IsHall-at_all, IsHall-at_client, IsHall-empty, IsHall-at_client_following, IsHall-set}
-use Rattle.iv_hall.proofs.Heard.{owed-hearing_for, FollowsAlike-holding_all, owed-holding_all}
-use Rattle.iv_hall.proofs.Joined.{list_any-AreThose}
-use Rattle.iv_hall.proofs.Numbered.{followed_by-keeping_closed, AreNumbered-filter, AreNumbered-moved_sub, AreNumbered-push_own}
-use Rattle.iv_hall.proofs.Placed.{AreSet-by}
-use Rattle.iv_hall.proofs.Quiet.{FollowsAlike-checking, owed-checking, is_told-is_due, FollowsAlike-emptied, owed-emptied, list_any-filter_feeds, list_any-moved_other, list_any-moved_either, list_any-push_feed}
-use Rattle.iv_hall.proofs.Quiet.{list_any-push_on, hearing_for-not_following, FollowsAlike-releasing, owed-releasing, releasing-not_told, is_told-releasing, FollowsAlike-holding_owed, owed-holding_owed}
-use Rattle.iv_hall.proofs.Quiet.{holding_owed-not_owed}
-use Rattle.iv_hall.proofs.Those.{client_at-at_client_apart, client_at-set_apart, is_so_at-at_all_same, is_so_at-at_client_same, is_so_at-at_all, is_so_at-at_client_back, is_so_at-at_client_here, is_so_at-client_at, is_so_at-at_client_on, is_so_at-at_all_on, true-is_so_at_set, AreThose-AreSet_below, AreThose-but_one}
-use Rattle.iv_hall.proofs.Those.{AreThose-none, AreThose-AreSet_one, AreThose-same, AreThose-AreSet_some}
-use Rattle.iv_hall.proofs.Walked.{walked-AreThose}
+use Rattle.iv_hall.proofs.TextsOfLines.{owed-hearing_for, FollowsAlike-holding_all, owed-holding_all}
+use Rattle.iv_hall.proofs.FeedReaders.{list_any-AreThose}
+use Rattle.iv_hall.proofs.OwnNumbers.{followed_by-keeping_closed, AreNumbered-filter, AreNumbered-moved_sub, AreNumbered-push_own}
+use Rattle.iv_hall.proofs.NumberPlaces.{AreSet-by}
+use Rattle.iv_hall.proofs.QuietClients.{FollowsAlike-checking, owed-checking, is_told-is_due, FollowsAlike-emptied, owed-emptied, list_any-filter_feeds, list_any-moved_other, list_any-moved_either, list_any-push_feed}
+use Rattle.iv_hall.proofs.QuietClients.{list_any-push_on, hearing_for-not_following, FollowsAlike-releasing, owed-releasing, releasing-not_told, is_told-releasing, FollowsAlike-holding_owed, owed-holding_owed}
+use Rattle.iv_hall.proofs.QuietClients.{holding_owed-not_owed}
+use Rattle.iv_hall.proofs.ClientLists.{client_at-at_client_apart, client_at-set_apart, is_so_at-at_all_same, is_so_at-at_client_same, is_so_at-at_all, is_so_at-at_client_back, is_so_at-at_client_here, is_so_at-client_at, is_so_at-at_client_on, is_so_at-at_all_on, true-is_so_at_set, AreThose-AreSet_below, AreThose-but_one}
+use Rattle.iv_hall.proofs.ClientLists.{AreThose-none, AreThose-AreSet_one, AreThose-same, AreThose-AreSet_some}
+use Rattle.iv_hall.proofs.ClientWalks.{walked-AreThose}
 
 -- the set is over the clients as they are written
 over : {W : ℕ → Type 0} (xs ys : Places) (old new : Numbers) → ys ≡ xs → AreSet W (is_told_at ys) old new → AreSet W (is_told_at xs) old new

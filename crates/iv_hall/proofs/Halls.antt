@@ -11,9 +11,9 @@ use Rattle.iv_hall.specs.Hall.{AreNumbered, IsHall, is_owed}
 use Rattle.iv_hall.specs.Listing.{AreThose, is_so_at}
 use Rattle.iv_hall.specs.Numbers.{HasLost, Numbers}
 use Rattle.iv_hall.specs.Readers.{HasLeft, Readers, readers_of}
-use Rattle.iv_hall.proofs.Numbered.{AreAllNumbered-at_all, AreAllNumbered-at_client}
-use Rattle.iv_hall.proofs.Quiet.{FollowsAlike}
-use Rattle.iv_hall.proofs.Those.{client_at-set_apart, is_so_at-at_all_same, is_so_at-at_client_same, true-is_so_at_set, AreThose-but_one, AreThose-none, AreThose-same}
+use Rattle.iv_hall.proofs.OwnNumbers.{AreAllNumbered-at_all, AreAllNumbered-at_client}
+use Rattle.iv_hall.proofs.QuietClients.{FollowsAlike}
+use Rattle.iv_hall.proofs.ClientLists.{client_at-set_apart, is_so_at-at_all_same, is_so_at-at_client_same, true-is_so_at_set, AreThose-but_one, AreThose-none, AreThose-same}
 
 -- nobody is there
 pub IsHall-empty : (most : ℕ) (places : Places) (owing telling : Numbers) (reading : List Readers) → places ≡ [] → owing ≡ record { list = []; size = most }

@@ -1,4 +1,4 @@
-pub mod WrittenThere
+pub mod StandingTexts
 pub mod Entries
-pub mod ReadThere
+pub mod EntryLines
 pub mod Standings

@@ -1,7 +1,7 @@
-pub mod Appended
+pub mod LineParts
 pub mod Blanks
-pub mod Deciding
+pub mod FormValues
 pub mod Lines
 pub mod Meaning
 pub mod Options
-pub mod Walks
+pub mod FirstKey

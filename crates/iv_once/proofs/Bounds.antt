@@ -7,9 +7,9 @@ use Rattle.iv_once.specs.Names.{Limits, Ask, Entry, named, plain, renewed, Journ
 use Rattle.iv_once.specs.Runs.{Event, asks, does, synced, crashed, compacted, restored, forgiven, Run, after, copied, done_by, entered, history, in_epoch, is_new, journal, kept, known, names, next, noted, nothing_known, restarted, start}
 use Rattle.iv_once.specs.Laws.{HasReason, HasToWait, blames, forgiveness}
 use Rattle.iv_once.proofs.Lists.{append-associative, append-take_drop, append-take_drop_append, lt-nat_le_false, le-nat_le, same-bytes_eq}
-use Rattle.iv_once.proofs.Kept.{followed-append}
-use Rattle.iv_once.proofs.Sound.{IsSound, AreKept-IsSound, or-both_false, HasReason-AreKept}
-use Rattle.iv_once.proofs.Once.{IsSound-after, IsSound-next, append-take_rest}
+use Rattle.iv_once.proofs.HolderEntries.{followed-append}
+use Rattle.iv_once.proofs.NamesOnce.{IsSound, AreKept-IsSound, or-both_false, HasReason-AreKept}
+use Rattle.iv_once.proofs.SoundRuns.{IsSound-after, IsSound-next, append-take_rest}
 
 -- ---- blame
 

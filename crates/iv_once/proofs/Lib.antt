@@ -1,9 +1,9 @@
 pub mod Lists
-pub mod Kept
-pub mod Sound
-pub mod Once
-pub mod Final
+pub mod HolderEntries
+pub mod NamesOnce
+pub mod SoundRuns
+pub mod FinalAnswers
 pub mod Bounds
 pub mod Places
-pub mod Read
-pub mod Put
+pub mod FirstRecord
+pub mod HolderPlaces

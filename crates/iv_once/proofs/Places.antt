@@ -6,9 +6,9 @@ use Rattle.iv_once.specs.Names.{Limits, Ask, named, plain, renewed, Journal, Own
 use Rattle.iv_once.specs.Runs.{Event, asks, does, synced, crashed, compacted, restored, forgiven, Run, after, copied, done_by, is_new, kept, names, next, noted, nothing_known, on_disk, restarted, start}
 use Rattle.iv_once.specs.Laws.{StaysReached}
 use Rattle.iv_once.proofs.Lists.{append-take_drop}
-use Rattle.iv_once.proofs.Kept.{epoch-in_epoch, own_of-learned_named, own_of-learned_renewed}
-use Rattle.iv_once.proofs.Sound.{IsSeen, not_same-IsSeen, false-not, or-both_false, IsSeen-head, IsSeen-cons}
-use Rattle.iv_once.proofs.Final.{AreOther, Stays, IsPast-Stays, stays_next}
+use Rattle.iv_once.proofs.HolderEntries.{epoch-in_epoch, own_of-learned_named, own_of-learned_renewed}
+use Rattle.iv_once.proofs.NamesOnce.{IsSeen, not_same-IsSeen, false-not, or-both_false, IsSeen-head, IsSeen-cons}
+use Rattle.iv_once.proofs.FinalAnswers.{AreOther, Stays, IsPast-Stays, stays_next}
 
 -- new epochs that wait were seen
 abbrev AreDrawn : List (List ℕ) → Journal → Type 0

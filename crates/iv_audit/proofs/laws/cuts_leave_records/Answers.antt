@@ -1,4 +1,4 @@
-use Rattle.iv_audit.proofs.Cuts.{CutsAreFronts-take}
+use Rattle.iv_audit.proofs.JournalCuts.{CutsAreFronts-take}
 use Rattle.iv_audit.proofs.laws.cuts_leave_records.Goals as goal
 
 pub returns : goal.returns

@@ -1,4 +1,4 @@
-use Rattle.iv_audit.proofs.Further.{GoOn-HaveTexts}
+use Rattle.iv_audit.proofs.TornJournals.{GoOn-HaveTexts}
 use Rattle.iv_audit.proofs.laws.journals_go_on_by_lines.Goals as goal
 
 pub returns : goal.returns

@@ -1,5 +1,5 @@
 use Rattle.std.proofs.Common.{◌∙◌, sym}
-use Rattle.iv_audit.proofs.Read.{IsAudit-IsReading}
+use Rattle.iv_audit.proofs.ReadJournals.{IsAudit-IsReading}
 use Rattle.iv_audit.proofs.reading.read_audit.Goals as goal
 
 pub returns-clause-read : goal.returns-clause-read

@@ -1,4 +1,4 @@
-use Rattle.iv_audit.proofs.Goes.{IsAnew-GoesOnWith}
+use Rattle.iv_audit.proofs.JournalLines.{IsAnew-GoesOnWith}
 use Rattle.iv_audit.proofs.writing.anew.Goals as goal
 
 pub returns : goal.returns

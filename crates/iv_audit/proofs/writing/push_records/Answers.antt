@@ -1,6 +1,6 @@
 use Rattle.std.proofs.Common.{◌≡◌, ◌+◌, ◌∷◌, drop, drop_of_length-le, refl, ap, ◌∙◌, sym, arith}
 use Rattle.std.proofs.lemmas.List.{at_drop_more}
-use Rattle.iv_audit.proofs.Goes.{GoesOnWith-IsDone, IsDone-next}
+use Rattle.iv_audit.proofs.JournalLines.{GoesOnWith-IsDone, IsDone-next}
 use Rattle.iv_audit.proofs.writing.push_records.Goals as goal
 
 pub loop-place-preserved : goal.loop-place-preserved

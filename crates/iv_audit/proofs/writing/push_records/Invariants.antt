@@ -1,5 +1,5 @@
 use Rattle.std.proofs.Common.{drop}
-use Rattle.iv_audit.proofs.Goes.{IsDone}
+use Rattle.iv_audit.proofs.JournalLines.{IsDone}
 use Rattle.iv_audit.proofs.writing.push_records.Given as goal
 
 abbrev pub invariant-loop-place : goal.invariant-loop-place

@@ -1,6 +1,6 @@
 use Rattle.std.proofs.Common.{◌∙◌, ap, sym, not}
 use Rattle.iv_clients.specs.Feeds.{is_begun}
-use Rattle.iv_clients.proofs.Counting.{find-count_to_next, find-count_to_none, find-count_to_all}
+use Rattle.iv_clients.proofs.FirstNumber.{find-count_to_next, find-count_to_none, find-count_to_all}
 use Rattle.iv_clients.proofs.feeds.next_seat.Goals as goal
 
 pub returns-then-not-is_begun : goal.returns-then-not-is_begun

@@ -1,6 +1,6 @@
 use Rattle.std.proofs.Common.{◌≡◌, drop, take, option_map}
 use Rattle.iv_clients.specs.Tokens.{cut_at}
-use Rattle.iv_clients.proofs.Cutting.{before}
+use Rattle.iv_clients.proofs.CutPlaces.{before}
 use Rattle.iv_clients.proofs.journal.cut_at.Given as goal
 
 abbrev pub invariant-loop-at : goal.invariant-loop-at

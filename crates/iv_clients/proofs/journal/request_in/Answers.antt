@@ -1,5 +1,5 @@
 use Rattle.std.proofs.Common.{rules}
-use Rattle.iv_clients.proofs.Calling.{request_in-not_IsUtf8}
+use Rattle.iv_clients.proofs.PartsAsText.{request_in-not_IsUtf8}
 use Rattle.iv_clients.proofs.journal.request_in.Goals as goal
 
 pub returns-in_default-from_utf8-clause-entry : goal.returns-in_default-from_utf8-clause-entry

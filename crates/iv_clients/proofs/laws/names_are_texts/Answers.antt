@@ -1,4 +1,4 @@
-use Rattle.iv_clients.proofs.Claiming.{claims_are_well, holders_are_text}
+use Rattle.iv_clients.proofs.ClaimedNames.{claims_are_well, holders_are_text}
 use Rattle.iv_clients.proofs.laws.names_are_texts.Goals as goal
 
 pub returns-clause-claims : goal.returns-clause-claims

@@ -1,4 +1,4 @@
-use Rattle.iv_clients.proofs.Recording.{reads_back}
+use Rattle.iv_clients.proofs.EntryRecords.{reads_back}
 use Rattle.iv_clients.proofs.laws.records_are_read_back.Goals as goal
 
 pub returns : goal.returns

@@ -1,6 +1,6 @@
 use Rattle.std.proofs.Common.{string_bytes}
 use Rattle.std.proofs.lemmas.Str.{is_utf8-from_IsUtf8}
-use Rattle.iv_clients.proofs.Calling.{holder_of-append}
+use Rattle.iv_clients.proofs.PartsAsText.{holder_of-append}
 use Rattle.iv_clients.proofs.names.holder_of.Goals as goal
 
 pub returns : goal.returns

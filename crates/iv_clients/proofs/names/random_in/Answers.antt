@@ -1,4 +1,4 @@
-use Rattle.iv_clients.proofs.Calling.{passing-is_random}
+use Rattle.iv_clients.proofs.PartsAsText.{passing-is_random}
 use Rattle.iv_clients.proofs.names.random_in.Goals as goal
 
 pub returns-in_default : goal.returns-in_default

@@ -3,7 +3,7 @@ use Rattle.std.specs.Prelude.{codes}
 use Rattle.hex.specs.Hex.{encode_lower}
 use Rattle.serde_json.specs.Data.{string}
 use Rattle.serde_json.specs.Written.{compact_text}
-use Rattle.iv_message.proofs.Appended.{append-six}
+use Rattle.iv_message.proofs.LineParts.{append-six}
 use Rattle.iv_once.specs.Names.{Named}
 use Rattle.iv_clients.specs.Names.{place_text}
 use Rattle.iv_clients.specs.Journal.{answer_key, name_text}

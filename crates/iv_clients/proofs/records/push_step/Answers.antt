@@ -1,4 +1,4 @@
-use Rattle.iv_clients.proofs.Recording.{OnOk-record_of}
+use Rattle.iv_clients.proofs.EntryRecords.{OnOk-record_of}
 use Rattle.iv_clients.proofs.records.push_step.Goals as goal
 
 pub returns : goal.returns

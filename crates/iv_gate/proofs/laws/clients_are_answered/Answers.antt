@@ -1,4 +1,4 @@
-use Rattle.iv_gate.proofs.Lasting.{IsAnswered-Runs}
+use Rattle.iv_gate.proofs.SoundRuns.{IsAnswered-Runs}
 use Rattle.iv_gate.proofs.laws.clients_are_answered.Goals as goal
 
 pub returns : goal.returns

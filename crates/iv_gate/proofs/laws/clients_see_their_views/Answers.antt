@@ -1,5 +1,5 @@
-use Rattle.iv_gate.proofs.Lasting.{AreOver-Runs, SeesViews-Runs}
-use Rattle.iv_gate.proofs.Sound.{Sounds}
+use Rattle.iv_gate.proofs.SoundRuns.{AreOver-Runs, SeesViews-Runs}
+use Rattle.iv_gate.proofs.SoundCommands.{Sounds}
 use Rattle.iv_gate.proofs.laws.clients_see_their_views.Goals as goal
 
 pub returns-clause-views : goal.returns-clause-views

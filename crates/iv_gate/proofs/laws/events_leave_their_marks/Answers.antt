@@ -1,5 +1,5 @@
-use Rattle.iv_gate.proofs.Together.{LeavesMarks-IsWell}
-use Rattle.iv_gate.proofs.Touching.{next-dead}
+use Rattle.iv_gate.proofs.EventLaws.{LeavesMarks-IsWell}
+use Rattle.iv_gate.proofs.EventMarks.{next-dead}
 use Rattle.iv_gate.proofs.laws.events_leave_their_marks.Goals as goal
 
 pub returns-clause-rests : goal.returns-clause-rests

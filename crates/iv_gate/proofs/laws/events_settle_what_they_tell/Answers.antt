@@ -1,5 +1,5 @@
-use Rattle.iv_gate.proofs.Settling.{IsSettledBy-Runs}
-use Rattle.iv_gate.proofs.Sound.{Sounds}
+use Rattle.iv_gate.proofs.LastWords.{IsSettledBy-Runs}
+use Rattle.iv_gate.proofs.SoundCommands.{Sounds}
 use Rattle.iv_gate.proofs.laws.events_settle_what_they_tell.Goals as goal
 
 pub returns : goal.returns

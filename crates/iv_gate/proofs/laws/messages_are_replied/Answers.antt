@@ -1,5 +1,5 @@
-use Rattle.iv_gate.proofs.Lasting.{AreReplied-Runs}
-use Rattle.iv_gate.proofs.Sound.{Sounds}
+use Rattle.iv_gate.proofs.SoundRuns.{AreReplied-Runs}
+use Rattle.iv_gate.proofs.SoundCommands.{Sounds}
 use Rattle.iv_gate.proofs.laws.messages_are_replied.Goals as goal
 
 pub returns : goal.returns

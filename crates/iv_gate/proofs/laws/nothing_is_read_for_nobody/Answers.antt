@@ -1,5 +1,5 @@
-use Rattle.iv_gate.proofs.Freeing.{ReadsForClients-Runs}
-use Rattle.iv_gate.proofs.Sound.{Sounds}
+use Rattle.iv_gate.proofs.FollowedFeeds.{ReadsForClients-Runs}
+use Rattle.iv_gate.proofs.SoundCommands.{Sounds}
 use Rattle.iv_gate.proofs.laws.nothing_is_read_for_nobody.Goals as goal
 
 pub returns : goal.returns

@@ -1,5 +1,5 @@
-use Rattle.iv_gate.proofs.Lasting.{ActsAs-Runs}
-use Rattle.iv_gate.proofs.Sound.{Sounds}
+use Rattle.iv_gate.proofs.SoundRuns.{ActsAs-Runs}
+use Rattle.iv_gate.proofs.SoundCommands.{Sounds}
 use Rattle.iv_gate.proofs.laws.sessions_act_in_their_roles.Goals as goal
 
 pub returns : goal.returns

@@ -1,5 +1,5 @@
-use Rattle.iv_gate.proofs.Tables.{KnowsMachine-Runs}
-use Rattle.iv_gate.proofs.Sound.{Sounds}
+use Rattle.iv_gate.proofs.MachineSessions.{KnowsMachine-Runs}
+use Rattle.iv_gate.proofs.SoundCommands.{Sounds}
 use Rattle.iv_gate.proofs.laws.sessions_and_feeds_are_the_machines.Goals as goal
 
 pub returns : goal.returns

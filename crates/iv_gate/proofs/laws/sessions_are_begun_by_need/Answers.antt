@@ -1,4 +1,4 @@
-use Rattle.iv_gate.proofs.Seating.{AreSeatsBehind-next}
+use Rattle.iv_gate.proofs.SessionsAfterEvents.{AreSeatsBehind-next}
 use Rattle.iv_gate.proofs.laws.sessions_are_begun_by_need.Goals as goal
 
 pub returns : goal.returns

@@ -1,6 +1,6 @@
 use Rattle.std.proofs.Common.{◌∙◌, arith}
 use Rattle.iv_gateway.specs.Granting.{holding_for, is_granted}
-use Rattle.iv_gateway.proofs.Granted.{first_all-next, first_all-whole}
+use Rattle.iv_gateway.proofs.GrantTexts.{first_all-next, first_all-whole}
 use Rattle.iv_gateway.proofs.granting.grant_all.Goals as goal
 
 pub loop-client-preserved : goal.loop-client-preserved

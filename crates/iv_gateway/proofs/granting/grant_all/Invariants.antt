@@ -1,6 +1,6 @@
 use Rattle.std.proofs.Common.{◌≡◌}
 use Rattle.iv_gateway.specs.Granting.{holding_for, is_granted}
-use Rattle.iv_gateway.proofs.Granted.{first_all}
+use Rattle.iv_gateway.proofs.GrantTexts.{first_all}
 use Rattle.iv_gateway.proofs.granting.grant_all.Given as goal
 
 abbrev pub invariant-loop-client : goal.invariant-loop-client

@@ -2,7 +2,7 @@ use Rattle.std.proofs.Common.{◌≡◌, ◌∙◌, ap, length, rules, sym, true
 use Rattle.std.specs.Prelude.{◌==◌}
 use Rattle.iv_clients.specs.Clients.{at_all}
 use Rattle.iv_gateway.specs.Granting.{holding_for, is_granted, names_granted}
-use Rattle.iv_gateway.proofs.Granted.{at_all-told_names_none, at_all-told_names}
+use Rattle.iv_gateway.proofs.GrantTexts.{at_all-told_names_none, at_all-told_names}
 use Rattle.iv_gateway.proofs.granting.hear_granted.Goals as goal
 
 pub returns-then-is_empty : goal.returns-then-is_empty

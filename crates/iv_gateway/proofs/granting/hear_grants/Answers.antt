@@ -1,7 +1,7 @@
 use Rattle.std.proofs.Common.{◌∙◌, map, sym}
 use Rattle.iv_command.specs.Views.{line_of}
 use Rattle.iv_gate.specs.Gate.{is_accepted, reply_in}
-use Rattle.iv_gateway.proofs.Granted.{at_all-hearing_granted_none}
+use Rattle.iv_gateway.proofs.GrantTexts.{at_all-hearing_granted_none}
 use Rattle.iv_gateway.proofs.granting.hear_grants.Goals as goal
 
 pub returns-then-not-is_accepted : goal.returns-then-not-is_accepted

@@ -1,6 +1,6 @@
 use Rattle.std.proofs.Common.{Bor, sym, append-nil}
 use Rattle.iv_access.specs.Rights.{Name}
-use Rattle.iv_gateway.proofs.Granted.{text_granted-take_next}
+use Rattle.iv_gateway.proofs.GrantTexts.{text_granted-take_next}
 use Rattle.iv_gateway.proofs.granting.push_names.Goals as goal
 
 pub loop-name-init : goal.loop-name-init

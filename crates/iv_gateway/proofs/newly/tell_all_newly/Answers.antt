@@ -1,6 +1,6 @@
 use Rattle.std.proofs.Common.{◌∙◌, arith}
 use Rattle.iv_gateway.specs.Newly.{hearing_newly}
-use Rattle.iv_gateway.proofs.Granted.{first_all-next, first_all-whole}
+use Rattle.iv_gateway.proofs.GrantTexts.{first_all-next, first_all-whole}
 use Rattle.iv_gateway.proofs.newly.tell_all_newly.Goals as goal
 
 pub loop-client-preserved : goal.loop-client-preserved

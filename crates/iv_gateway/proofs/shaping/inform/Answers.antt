@@ -3,7 +3,7 @@ use Rattle.iv_rows.specs.Options.{if_some}
 use Rattle.iv_clients.specs.Clients.{client_at}
 use Rattle.iv_clients.specs.Kept.{Kept}
 use Rattle.iv_gateway.specs.Shaping.{is_admin}
-use Rattle.iv_gateway.proofs.Granted.{at_client-holding_for, at_client-not_holding_for}
+use Rattle.iv_gateway.proofs.GrantTexts.{at_client-holding_for, at_client-not_holding_for}
 use Rattle.iv_gateway.proofs.shaping.inform.Goals as goal
 
 pub returns-then-not-is_admin_at : goal.returns-then-not-is_admin_at

@@ -1,7 +1,7 @@
 use Rattle.std.proofs.Common.{◌∙◌, arith}
 use Rattle.iv_gateway.specs.Granting.{holding_for}
 use Rattle.iv_gateway.specs.Shaping.{is_admin}
-use Rattle.iv_gateway.proofs.Granted.{first_all-next, first_all-whole}
+use Rattle.iv_gateway.proofs.GrantTexts.{first_all-next, first_all-whole}
 use Rattle.iv_gateway.proofs.shaping.inform_all.Goals as goal
 
 pub loop-client-preserved : goal.loop-client-preserved

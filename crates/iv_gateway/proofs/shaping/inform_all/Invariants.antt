@@ -1,7 +1,7 @@
 use Rattle.std.proofs.Common.{◌≡◌}
 use Rattle.iv_gateway.specs.Granting.{holding_for}
 use Rattle.iv_gateway.specs.Shaping.{is_admin}
-use Rattle.iv_gateway.proofs.Granted.{first_all}
+use Rattle.iv_gateway.proofs.GrantTexts.{first_all}
 use Rattle.iv_gateway.proofs.shaping.inform_all.Given as goal
 
 abbrev pub invariant-loop-client : goal.invariant-loop-client

@@ -2,7 +2,7 @@ use Rattle.std.proofs.Common.{◌≡◌, ◌∙◌, ◌++◌, ◌-◌, None, ap,
 use Rattle.iv_command.specs.Views.{reply_of}
 use Rattle.iv_message.specs.Told.{replied, told_text}
 use Rattle.iv_gate.specs.Gate.{answer_text}
-use Rattle.iv_gateway.proofs.Entered.{take-but_last}
+use Rattle.iv_gateway.proofs.AddedEntries.{take-but_last}
 use Rattle.iv_gateway.proofs.sharing.answer_text.Goals as goal
 
 pub returns : goal.returns

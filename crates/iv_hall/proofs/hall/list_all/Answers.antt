@@ -1,6 +1,6 @@
 use Rattle.std.proofs.Common.{◌<◌, arith}
 use Rattle.iv_hall.specs.Hall.{is_told_at}
-use Rattle.iv_hall.proofs.Placed.{AreSet-below, AreSet-none}
+use Rattle.iv_hall.proofs.NumberPlaces.{AreSet-below, AreSet-none}
 use Rattle.iv_hall.proofs.hall.list_all.Goals as goal
 
 pub loop-number-init : goal.loop-number-init

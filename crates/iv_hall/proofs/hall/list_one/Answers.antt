@@ -1,5 +1,5 @@
 use Rattle.iv_hall.specs.Hall.{is_told_at}
-use Rattle.iv_hall.proofs.Placed.{AreSet-by}
+use Rattle.iv_hall.proofs.NumberPlaces.{AreSet-by}
 use Rattle.iv_hall.proofs.hall.list_one.Goals as goal
 
 pub returns : goal.returns

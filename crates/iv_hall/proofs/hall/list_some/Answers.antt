@@ -1,8 +1,8 @@
 use Rattle.std.proofs.Common.{[]}
 use Rattle.std.specs.List.{Contains}
 use Rattle.iv_hall.specs.Hall.{is_told_at}
-use Rattle.iv_hall.proofs.Joined.{not_Contains-none}
-use Rattle.iv_hall.proofs.Placed.{AreSet-next, AreSet-none}
+use Rattle.iv_hall.proofs.FeedReaders.{not_Contains-none}
+use Rattle.iv_hall.proofs.NumberPlaces.{AreSet-next, AreSet-none}
 use Rattle.iv_hall.proofs.hall.list_some.Goals as goal
 
 pub loop-number-init : goal.loop-number-init

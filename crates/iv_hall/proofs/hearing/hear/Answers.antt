@@ -2,8 +2,8 @@ use Rattle.std.proofs.Common.{◌<◌, ap, length, subst, sym, take}
 use Rattle.std.specs.Prelude.{flat_map}
 use Rattle.iv_command.specs.Views.{line_of}
 use Rattle.iv_hall.specs.Hearing.{told_for}
-use Rattle.iv_hall.proofs.Heard.{subs-holding_all, holding_all-take_next}
-use Rattle.iv_hall.proofs.Waiting.{CountsOn-trans}
+use Rattle.iv_hall.proofs.TextsOfLines.{subs-holding_all, holding_all-take_next}
+use Rattle.iv_hall.proofs.WaitingBytes.{CountsOn-trans}
 use Rattle.iv_hall.proofs.hearing.hear.Goals as goal
 
 pub hear_at-requires-clause-place : goal.hear_at-requires-clause-place

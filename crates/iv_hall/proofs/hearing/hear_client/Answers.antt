@@ -3,7 +3,7 @@ use Rattle.std.proofs.lemmas.Grind.{common_steps}
 use Rattle.iv_command.specs.Views.{line_of}
 use Rattle.iv_hall.specs.Hearing.{hearing_for}
 use Rattle.iv_clients.proofs.Slots.{at_client-past, at_client-set}
-use Rattle.iv_hall.proofs.Waiting.{CountsOn-set}
+use Rattle.iv_hall.proofs.WaitingBytes.{CountsOn-set}
 use Rattle.iv_hall.proofs.hearing.hear_client.Goals as goal
 
 pub returns-in-None-clause-told : goal.returns-in-None-clause-told

@@ -1,5 +1,5 @@
 use Rattle.iv_hall.specs.Waiting.{bytes_waiting}
-use Rattle.iv_hall.proofs.Waiting.{CountsOn-same}
+use Rattle.iv_hall.proofs.WaitingBytes.{CountsOn-same}
 use Rattle.iv_hall.proofs.hearing.hear_listed.Goals as goal
 
 pub returns-clause-counted : goal.returns-clause-counted

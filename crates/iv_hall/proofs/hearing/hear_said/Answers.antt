@@ -1,8 +1,8 @@
 use Rattle.iv_command.specs.Views.{line_of}
 use Rattle.iv_hall.specs.Hearing.{hearing_for}
 use Rattle.iv_hall.specs.Waiting.{bytes_waiting}
-use Rattle.iv_hall.proofs.Waiting.{CountsOn-trans}
-use Rattle.iv_hall.proofs.Walked.{walked-take_next}
+use Rattle.iv_hall.proofs.WaitingBytes.{CountsOn-trans}
+use Rattle.iv_hall.proofs.ClientWalks.{walked-take_next}
 use Rattle.iv_hall.proofs.hearing.hear_said.Goals as goal
 
 pub loop-number-preserved : goal.loop-number-preserved

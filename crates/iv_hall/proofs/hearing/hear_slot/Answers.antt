@@ -1,5 +1,5 @@
 use Rattle.std.proofs.Common.{Some, refl}
-use Rattle.iv_hall.proofs.Waiting.{CountsOn-bytes_of}
+use Rattle.iv_hall.proofs.WaitingBytes.{CountsOn-bytes_of}
 use Rattle.iv_hall.proofs.hearing.hear_slot.Goals as goal
 
 pub returns-in_ok-hear-in-Some-clause-counted : goal.returns-in_ok-hear-in-Some-clause-counted

@@ -1,7 +1,7 @@
 use Rattle.std.proofs.Common.{◌≡◌, ◌∙◌, ap, length, sym, true}
 use Rattle.std.specs.Prelude.{◌==◌}
 use Rattle.iv_hall.specs.Readers.{readers_of}
-use Rattle.iv_hall.proofs.Joined.{HasAll-filter}
+use Rattle.iv_hall.proofs.FeedReaders.{HasAll-filter}
 use Rattle.iv_hall.proofs.readers.drop_empty.Goals as goal
 
 pub returns-then-is_empty : goal.returns-then-is_empty

@@ -2,7 +2,7 @@ use Rattle.std.proofs.Common.{◌≡◌, ◌∙◌, Some, None, ap, subst, sym}
 use Rattle.std.specs.Prelude.{◌==◌}
 use Rattle.std.specs.List.{position}
 use Rattle.iv_hall.specs.Readers.{HasJoined, Readers}
-use Rattle.iv_hall.proofs.Joined.{HasJoined-set, HasJoined-new, IsDistinct-none, with_number}
+use Rattle.iv_hall.proofs.FeedReaders.{HasJoined-set, HasJoined-new, IsDistinct-none, with_number}
 use Rattle.iv_hall.proofs.readers.join.Goals as goal
 
 pub invariant_of-those : goal.invariant_of-those

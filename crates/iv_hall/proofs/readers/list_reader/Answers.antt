@@ -1,5 +1,5 @@
 use Rattle.std.proofs.Common.{◌∙◌, sym}
-use Rattle.iv_hall.proofs.Joined.{IsReader-HasJoined}
+use Rattle.iv_hall.proofs.FeedReaders.{IsReader-HasJoined}
 use Rattle.iv_hall.proofs.readers.list_reader.Goals as goal
 
 pub returns-in_ok-join : goal.returns-in_ok-join

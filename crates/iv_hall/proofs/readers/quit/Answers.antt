@@ -2,7 +2,7 @@ use Rattle.std.proofs.Common.{◌≡◌, ◌∙◌, Some, None, ap, sym}
 use Rattle.std.specs.Prelude.{◌==◌}
 use Rattle.std.specs.List.{position}
 use Rattle.iv_hall.specs.Readers.{Readers}
-use Rattle.iv_hall.proofs.Joined.{HasQuit-set, HasQuit-none, HasQuit-HasAll}
+use Rattle.iv_hall.proofs.FeedReaders.{HasQuit-set, HasQuit-none, HasQuit-HasAll}
 use Rattle.iv_hall.proofs.readers.quit.Goals as goal
 
 pub returns-in-Some : goal.returns-in-Some

@@ -4,7 +4,7 @@ use Rattle.std.specs.Prelude.{◌==◌}
 use Rattle.std.specs.List.{list_any}
 use Rattle.iv_clients.specs.Clients.{Sub}
 use Rattle.iv_hall.specs.Readers.{HasLeft}
-use Rattle.iv_hall.proofs.Joined.{HasLeft-next, HasLeft-none}
+use Rattle.iv_hall.proofs.FeedReaders.{HasLeft-next, HasLeft-none}
 use Rattle.iv_hall.proofs.readers.quit_all.Goals as goal
 
 pub loop-sub-init : goal.loop-sub-init

@@ -1,6 +1,6 @@
 use Rattle.std.proofs.Common.{◌∙◌, Option, ℕ, subst, sym}
 use Rattle.iv_hall.specs.Readers.{HasKept}
-use Rattle.iv_hall.proofs.Joined.{HasKept-HasQuit}
+use Rattle.iv_hall.proofs.FeedReaders.{HasKept-HasQuit}
 use Rattle.iv_hall.proofs.readers.quit_unfollowed.Goals as goal
 
 pub returns-then-not-follows_at : goal.returns-then-not-follows_at

@@ -1,7 +1,7 @@
 use Rattle.std.proofs.Common.{◌∙◌, [], Bor, ap, option_map, sym}
 use Rattle.iv_rows.specs.Options.{if_some}
 use Rattle.iv_hall.specs.Readers.{Readers}
-use Rattle.iv_hall.proofs.Joined.{IsDistinct-none}
+use Rattle.iv_hall.proofs.FeedReaders.{IsDistinct-none}
 use Rattle.iv_hall.proofs.readers.readers_of.Goals as goal
 
 pub returns-in-None-clause-numbers : goal.returns-in-None-clause-numbers

@@ -1,5 +1,5 @@
 use Rattle.iv_clients.specs.Kept.{holding_owed}
-use Rattle.iv_hall.proofs.Walked.{walked-take_next}
+use Rattle.iv_hall.proofs.ClientWalks.{walked-take_next}
 use Rattle.iv_hall.proofs.slots.settle_listed.Goals as goal
 
 pub loop-number-preserved : goal.loop-number-preserved

@@ -1,7 +1,7 @@
 use Rattle.std.proofs.Common.{map}
 use Rattle.iv_command.specs.Views.{line_of}
 use Rattle.iv_clients.specs.Kept.{keeping_on}
-use Rattle.iv_hall.proofs.Walked.{walked-take_next}
+use Rattle.iv_hall.proofs.ClientWalks.{walked-take_next}
 use Rattle.iv_hall.proofs.slots.stay_listed.Goals as goal
 
 pub loop-number-preserved : goal.loop-number-preserved

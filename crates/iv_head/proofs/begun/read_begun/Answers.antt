@@ -2,7 +2,7 @@ use Rattle.std.proofs.Common.{◌+◌, length, ap, ◌∙◌}
 use Rattle.std.specs.Prelude.{is_some}
 use Rattle.std.specs.Int.{from_bool}
 use Rattle.iv_head.specs.Begun.{standings_in}
-use Rattle.iv_head.proofs.ReadThere.{begun_is, said_within}
+use Rattle.iv_head.proofs.EntryLines.{begun_is, said_within}
 use Rattle.iv_head.proofs.begun.read_begun.Goals as goal
 
 pub returns-clause-within : goal.returns-clause-within

@@ -1,5 +1,5 @@
 use Rattle.iv_message.proofs.Meaning.{option_map-act_in}
-use Rattle.iv_message.proofs.Deciding.{Decides-form_of}
+use Rattle.iv_message.proofs.FormValues.{Decides-form_of}
 use Rattle.iv_message.proofs.laws.clients_ask_what_viewd_reads.Goals as goal
 
 pub returns-clause-meaning : goal.returns-clause-meaning

@@ -1,7 +1,7 @@
 use Rattle.std.proofs.Common.{◌++◌, ◌∙◌, ap}
 use Rattle.std.specs.Prelude.{codes}
 use Rattle.iv_message.specs.Parts.{own_text}
-use Rattle.iv_message.proofs.Appended.{append-three, told_text-changed}
+use Rattle.iv_message.proofs.LineParts.{append-three, told_text-changed}
 use Rattle.iv_message.proofs.telling.push_changed.Goals as goal
 
 pub returns : goal.returns

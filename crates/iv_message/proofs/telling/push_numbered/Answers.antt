@@ -4,7 +4,7 @@ use Rattle.serde_json.specs.Data.{member, no_members}
 use Rattle.serde_json.specs.Written.{has_float}
 use Rattle.iv_lines.specs.Texts.{text_of}
 use Rattle.iv_request.specs.Values.{natural}
-use Rattle.iv_message.proofs.Appended.{has_float-with_id}
+use Rattle.iv_message.proofs.LineParts.{has_float-with_id}
 use Rattle.iv_message.proofs.telling.push_numbered.Goals as goal
 
 pub returns-in-Ok : goal.returns-in-Ok

@@ -2,7 +2,7 @@ use Rattle.std.proofs.Common.{◌++◌, ◌∙◌, ap}
 use Rattle.std.proofs.lemmas.Result.{on_ok_weaker}
 use Rattle.serde_json.specs.Written.{has_float}
 use Rattle.iv_lines.specs.Texts.{text_of}
-use Rattle.iv_message.proofs.Appended.{has_float-opened}
+use Rattle.iv_message.proofs.LineParts.{has_float-opened}
 use Rattle.iv_message.proofs.telling.push_opened.Goals as goal
 
 pub returns-in-Ok : goal.returns-in-Ok

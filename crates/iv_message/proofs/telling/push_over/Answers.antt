@@ -3,7 +3,7 @@ use Rattle.std.specs.Prelude.{codes}
 use Rattle.serde_json.specs.Data.{string}
 use Rattle.serde_json.specs.Written.{compact_text}
 use Rattle.iv_message.specs.Parts.{cause_key, own_text}
-use Rattle.iv_message.proofs.Appended.{append-four, told_text-over}
+use Rattle.iv_message.proofs.LineParts.{append-four, told_text-over}
 use Rattle.iv_message.proofs.telling.push_over.Goals as goal
 
 pub returns : goal.returns

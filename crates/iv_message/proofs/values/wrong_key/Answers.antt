@@ -3,7 +3,7 @@ use Rattle.std.specs.Prelude.{codes}
 use Rattle.iv_request.specs.Documents.{value_data}
 use Rattle.iv_request.specs.Names.{keys_seen}
 use Rattle.iv_message.specs.Message.{passes}
-use Rattle.iv_message.proofs.Walks.{unwrap_or-find_first, unwrap_or-find_second, unwrap_or-find_neither}
+use Rattle.iv_message.proofs.FirstKey.{unwrap_or-find_first, unwrap_or-find_second, unwrap_or-find_neither}
 use Rattle.iv_message.proofs.values.wrong_key.Goals as goal
 
 pub returns-in-Some : goal.returns-in-Some

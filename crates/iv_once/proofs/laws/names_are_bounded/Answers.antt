@@ -1,5 +1,5 @@
 use Rattle.iv_once.proofs.Bounds.{le-blames, le-holders, HasToWait-after}
-use Rattle.iv_once.proofs.Sound.{IsSound-start}
+use Rattle.iv_once.proofs.NamesOnce.{IsSound-start}
 use Rattle.iv_once.proofs.laws.names_are_bounded.Goals as goal
 
 pub returns-clause-refusals : goal.returns-clause-refusals

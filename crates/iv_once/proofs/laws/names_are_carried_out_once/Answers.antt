@@ -1,4 +1,4 @@
-use Rattle.iv_once.proofs.Once.{IsSound-run}
+use Rattle.iv_once.proofs.SoundRuns.{IsSound-run}
 use Rattle.iv_once.proofs.laws.names_are_carried_out_once.Goals as goal
 
 pub returns-clause-once : goal.returns-clause-once

@@ -1,5 +1,5 @@
 use Rattle.iv_once.specs.Runs.{after, start}
-use Rattle.iv_once.proofs.Once.{AreAlike-IsSound, AreRemembered-IsSound, IsSound-run}
+use Rattle.iv_once.proofs.SoundRuns.{AreAlike-IsSound, AreRemembered-IsSound, IsSound-run}
 use Rattle.iv_once.proofs.laws.repetitions_are_told_the_same.Goals as goal
 
 pub returns-clause-kept : goal.returns-clause-kept

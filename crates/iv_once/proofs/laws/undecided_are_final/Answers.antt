@@ -1,7 +1,7 @@
 use Rattle.iv_once.specs.Runs.{after, start}
-use Rattle.iv_once.proofs.Once.{IsSound-run}
-use Rattle.iv_once.proofs.Sound.{AreKept-IsSound, HasReason-AreKept, IsSound-start}
-use Rattle.iv_once.proofs.Final.{AreFinal-IsSound}
+use Rattle.iv_once.proofs.SoundRuns.{IsSound-run}
+use Rattle.iv_once.proofs.NamesOnce.{AreKept-IsSound, HasReason-AreKept, IsSound-start}
+use Rattle.iv_once.proofs.FinalAnswers.{AreFinal-IsSound}
 use Rattle.iv_once.proofs.laws.undecided_are_final.Goals as goal
 
 pub returns-clause-settled : goal.returns-clause-settled

@@ -1,8 +1,8 @@
 use Rattle.iv_once.specs.Runs.{after, start}
-use Rattle.iv_once.proofs.Once.{IsSound-run}
+use Rattle.iv_once.proofs.SoundRuns.{IsSound-run}
 use Rattle.iv_once.proofs.Places.{StaysReached-after}
-use Rattle.iv_once.proofs.Read.{IsReadBack-AreKept}
-use Rattle.iv_once.proofs.Sound.{AreKept-IsSound}
+use Rattle.iv_once.proofs.FirstRecord.{IsReadBack-AreKept}
+use Rattle.iv_once.proofs.NamesOnce.{AreKept-IsSound}
 use Rattle.iv_once.proofs.laws.what_is_kept_survives.Goals as goal
 
 pub returns-clause-kept : goal.returns-clause-kept

@@ -1,5 +1,5 @@
 use Rattle.std.proofs.Common.{drop}
-use Rattle.iv_clients.proofs.Filling.{IsFilling}
+use Rattle.iv_clients.proofs.RecordRest.{IsFilling}
 use Rattle.iv_clients.proofs.records.Entry.fill.Given as goal
 
 abbrev pub invariant-loop-at : goal.invariant-loop-at

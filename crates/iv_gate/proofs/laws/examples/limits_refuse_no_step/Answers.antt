@@ -1,5 +1,5 @@
 use Rattle.std.proofs.Common.{refl}
-use Rattle.iv_gate.proofs.Computing.{texts_compute}
+use Rattle.iv_gate.proofs.QueryTexts.{texts_compute}
 use Rattle.iv_gate.proofs.laws.examples.limits_refuse_no_step.Goals as goal
 
 pub returns : goal.returns

@@ -1,6 +1,6 @@
-use Rattle.iv_gate.proofs.Bounding.{IsBounded-Runs, le-next_last, length-next_clients}
-use Rattle.iv_gate.proofs.Lasting.{IsSoundGate-Runs}
-use Rattle.iv_gate.proofs.Sound.{Sounds}
+use Rattle.iv_gate.proofs.ClientBounds.{IsBounded-Runs, le-next_last, length-next_clients}
+use Rattle.iv_gate.proofs.SoundRuns.{IsSoundGate-Runs}
+use Rattle.iv_gate.proofs.SoundCommands.{Sounds}
 use Rattle.iv_gate.proofs.laws.hearing.clients_are_bounded.Goals as goal
 
 pub returns-clause-bounded : goal.returns-clause-bounded

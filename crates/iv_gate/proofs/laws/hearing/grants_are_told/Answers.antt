@@ -1,7 +1,7 @@
-use Rattle.iv_gate.proofs.Endowing.{GrantsAreTrue-Runs}
-use Rattle.iv_gate.proofs.Exact.{GrantsAreTold-IsSoundGate}
-use Rattle.iv_gate.proofs.Lasting.{IsSoundGate-Runs}
-use Rattle.iv_gate.proofs.Sound.{Sounds}
+use Rattle.iv_gate.proofs.GrantsByEvents.{GrantsAreTrue-Runs}
+use Rattle.iv_gate.proofs.GrantsByName.{GrantsAreTold-IsSoundGate}
+use Rattle.iv_gate.proofs.SoundRuns.{IsSoundGate-Runs}
+use Rattle.iv_gate.proofs.SoundCommands.{Sounds}
 use Rattle.iv_gate.proofs.laws.hearing.grants_are_told.Goals as goal
 
 pub returns-clause-has : goal.returns-clause-has

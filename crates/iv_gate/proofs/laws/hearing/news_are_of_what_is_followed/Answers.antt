@@ -1,9 +1,9 @@
-use Rattle.iv_gate.proofs.Heeding.{EndsForCause-IsSoundGate, HearsFollowed-IsSoundGate}
-use Rattle.iv_gate.proofs.Lasting.{AreEven-Runs, IsSoundGate-Runs}
-use Rattle.iv_gate.proofs.Serving.{IsSoundGate-next}
-use Rattle.iv_gate.proofs.Telling.{TellsApart-IsSoundGate}
-use Rattle.iv_gate.proofs.Together.{TellsDifference-TellsApart}
-use Rattle.iv_gate.proofs.Sound.{Sounds}
+use Rattle.iv_gate.proofs.FollowedNumbers.{EndsForCause-IsSoundGate, HearsFollowed-IsSoundGate}
+use Rattle.iv_gate.proofs.SoundRuns.{AreEven-Runs, IsSoundGate-Runs}
+use Rattle.iv_gate.proofs.SoundEvents.{IsSoundGate-next}
+use Rattle.iv_gate.proofs.DifferenceTexts.{TellsApart-IsSoundGate}
+use Rattle.iv_gate.proofs.EventLaws.{TellsDifference-TellsApart}
+use Rattle.iv_gate.proofs.SoundCommands.{Sounds}
 use Rattle.iv_gate.proofs.laws.hearing.news_are_of_what_is_followed.Goals as goal
 
 pub returns-clause-hears : goal.returns-clause-hears

@@ -1,6 +1,6 @@
-use Rattle.iv_gate.proofs.Knowing.{ShapeIsTold-Runs, ShapeIsBounded-event}
-use Rattle.iv_gate.proofs.Making.{MakesShape-Runs}
-use Rattle.iv_gate.proofs.Sound.{Sounds}
+use Rattle.iv_gate.proofs.ShapeTold.{ShapeIsTold-Runs, ShapeIsBounded-event}
+use Rattle.iv_gate.proofs.ShapeRequests.{MakesShape-Runs}
+use Rattle.iv_gate.proofs.SoundCommands.{Sounds}
 use Rattle.iv_gate.proofs.laws.hearing.the_shape_is_told.Goals as goal
 
 pub returns-clause-told : goal.returns-clause-told

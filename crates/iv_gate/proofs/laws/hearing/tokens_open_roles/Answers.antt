@@ -1,5 +1,5 @@
-use Rattle.iv_gate.proofs.Entering.{ActsByToken-Runs, LetsIn-Runs}
-use Rattle.iv_gate.proofs.Sound.{Sounds}
+use Rattle.iv_gate.proofs.TokensOfClients.{ActsByToken-Runs, LetsIn-Runs}
+use Rattle.iv_gate.proofs.SoundCommands.{Sounds}
 use Rattle.iv_gate.proofs.laws.hearing.tokens_open_roles.Goals as goal
 
 pub returns-clause-acts : goal.returns-clause-acts

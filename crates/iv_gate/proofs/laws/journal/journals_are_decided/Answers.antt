@@ -1,4 +1,4 @@
-use Rattle.iv_gate.proofs.Damage.{IsDecided-ReadsBack}
+use Rattle.iv_gate.proofs.JournalDamage.{IsDecided-ReadsBack}
 use Rattle.iv_gate.proofs.laws.journal.journals_are_decided.Goals as goal
 
 pub returns : goal.returns

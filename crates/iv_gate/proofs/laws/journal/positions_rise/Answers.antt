@@ -1,5 +1,5 @@
-use Rattle.iv_gate.proofs.Booking.{Texts}
-use Rattle.iv_gate.proofs.Positions.{PositionsLast-Runs, PositionsRise-Runs}
+use Rattle.iv_gate.proofs.AddedEntries.{Texts}
+use Rattle.iv_gate.proofs.LogPositions.{PositionsLast-Runs, PositionsRise-Runs}
 use Rattle.iv_gate.proofs.laws.journal.positions_rise.Goals as goal
 
 pub returns-clause-rise : goal.returns-clause-rise

@@ -1,6 +1,6 @@
-use Rattle.iv_gate.proofs.Booking.{Texts}
-use Rattle.iv_gate.proofs.Leading.{CrashesAreSafe-Runs, LeadsBack-Runs}
-use Rattle.iv_gate.proofs.Sound.{Sounds}
+use Rattle.iv_gate.proofs.AddedEntries.{Texts}
+use Rattle.iv_gate.proofs.EntryRuns.{CrashesAreSafe-Runs, LeadsBack-Runs}
+use Rattle.iv_gate.proofs.SoundCommands.{Sounds}
 use Rattle.iv_gate.proofs.laws.journal.the_journal_leads_back.Goals as goal
 
 pub returns-clause-back : goal.returns-clause-back

@@ -1,4 +1,4 @@
-use Rattle.iv_gate.proofs.Holding.{SentIsKept-Runs}
+use Rattle.iv_gate.proofs.TextsAndDisk.{SentIsKept-Runs}
 use Rattle.iv_gate.proofs.laws.journal.what_is_sent_is_on_disk.Goals as goal
 
 pub returns : goal.returns

@@ -1,8 +1,8 @@
 use Rattle.iv_clients.specs.Journal.{names_in}
 use Rattle.iv_gate.specs.Gate.{known_at}
-use Rattle.iv_gate.proofs.Answered.{le-times_first_known}
-use Rattle.iv_gate.proofs.Booking.{Texts}
-use Rattle.iv_gate.proofs.Holding.{IsWritten-Runs}
+use Rattle.iv_gate.proofs.NameVerdicts.{le-times_first_known}
+use Rattle.iv_gate.proofs.AddedEntries.{Texts}
+use Rattle.iv_gate.proofs.TextsAndDisk.{IsWritten-Runs}
 use Rattle.iv_gate.proofs.laws.names.names_are_once.Goals as goal
 
 pub returns : goal.returns

@@ -2,7 +2,7 @@ use Rattle.std.proofs.Common.{◌≡◌, ◌∙◌, ap, is_some, option_map, rul
 use Rattle.std.specs.Prelude.{string_bytes}
 use Rattle.iv_command.specs.Views.{act_of}
 use Rattle.iv_message.specs.Seen.{id_data}
-use Rattle.iv_gateway.proofs.Said.{IsAlive-claim_not_shared, IsAlive-acts, IsAlive-shares}
+use Rattle.iv_gateway.proofs.HeardMessages.{IsAlive-claim_not_shared, IsAlive-acts, IsAlive-shares}
 use Rattle.iv_gateway.proofs.gateway.Gateway.act.Goals as goal
 
 pub returns-then-is_shared : goal.returns-then-is_shared

@@ -1,7 +1,7 @@
 use Rattle.std.proofs.Common.{◌∙◌, refl, sym}
 use Rattle.iv_gate.specs.Events.{presented}
-use Rattle.iv_gateway.proofs.Alive.{IsGate-IsAlive}
-use Rattle.iv_gateway.proofs.Came.{dead-came}
+use Rattle.iv_gateway.proofs.LiveGateways.{IsGate-IsAlive}
+use Rattle.iv_gateway.proofs.TokenEntries.{dead-came}
 use Rattle.iv_gateway.proofs.gateway.Gateway.admit.Goals as goal
 
 pub returns-in-Ok-clause-gate : goal.returns-in-Ok-clause-gate

@@ -4,7 +4,7 @@ use Rattle.iv_message.specs.Seen.{id_data}
 use Rattle.iv_clients.specs.Clients.{saying}
 use Rattle.iv_gate.specs.Gate.{acts}
 use Rattle.iv_gateway.specs.Views.{IsAlive}
-use Rattle.iv_gateway.proofs.Said.{acts_none}
+use Rattle.iv_gateway.proofs.HeardMessages.{acts_none}
 use Rattle.iv_gateway.proofs.gateway.Gateway.ask.Goals as goal
 
 pub returns-in_ok-close-in-Unsubscribe : goal.returns-in_ok-close-in-Unsubscribe

@@ -6,7 +6,7 @@ use Rattle.iv_once.specs.Names.{again, ahead, another, carry, foreign, late, ove
 use Rattle.iv_gate.specs.Gate.{place_of, tells}
 use Rattle.iv_gateway.specs.Speaking.{asked_id, request_of}
 use Rattle.iv_gateway.specs.Views.{IsAlive}
-use Rattle.iv_gateway.proofs.Said.{IsAlive-by_verdict, verdict_of-IsAlive}
+use Rattle.iv_gateway.proofs.HeardMessages.{IsAlive-by_verdict, verdict_of-IsAlive}
 use Rattle.iv_gateway.proofs.gateway.Gateway.ask_named.Goals as goal
 
 pub returns-in_ok-decide-in-Carry : goal.returns-in_ok-decide-in-Carry

@@ -3,7 +3,7 @@ use Rattle.std.specs.Prelude.{string_bytes}
 use Rattle.iv_message.specs.Seen.{id_data}
 use Rattle.iv_gateway.specs.Reading.{follows_new}
 use Rattle.iv_gateway.specs.Views.{IsAlive, opening_of}
-use Rattle.iv_gateway.proofs.Subscribed.{IsAlive-feed_begun}
+use Rattle.iv_gateway.proofs.NewSubscriptions.{IsAlive-feed_begun}
 use Rattle.iv_gateway.proofs.gateway.Gateway.begin_feed.Goals as goal
 
 pub returns-in_ok-insert-in-Subscribed : goal.returns-in_ok-insert-in-Subscribed

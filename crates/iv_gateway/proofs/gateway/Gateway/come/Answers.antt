@@ -5,7 +5,7 @@ use Rattle.iv_clients.specs.Clients.{fresh}
 use Rattle.iv_clients.specs.Tokens.{Token}
 use Rattle.iv_gate.specs.Gate.{at_text, has_session, with_session}
 use Rattle.iv_gateway.specs.Views.{IsAlive}
-use Rattle.iv_gateway.proofs.Came.{IsAlive-came_as, IsAlive-came_none, IsAlive-came_no_session, presented_by-token_of}
+use Rattle.iv_gateway.proofs.TokenEntries.{IsAlive-came_as, IsAlive-came_none, IsAlive-came_no_session, presented_by-token_of}
 use Rattle.iv_gateway.proofs.gateway.Gateway.come.Goals as goal
 
 pub returns-in-None : goal.returns-in-None

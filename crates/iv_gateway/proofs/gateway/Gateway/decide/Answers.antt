@@ -3,7 +3,7 @@ use Rattle.iv_command.specs.Views.{act_of}
 use Rattle.iv_gate.specs.Gate.{decided_elsewhere, tells}
 use Rattle.iv_gateway.specs.Speaking.{asked_id, request_of}
 use Rattle.iv_gateway.specs.Views.{IsAlive}
-use Rattle.iv_gateway.proofs.Said.{IsAlive-decides, IsAlive-decided_elsewhere}
+use Rattle.iv_gateway.proofs.HeardMessages.{IsAlive-decides, IsAlive-decided_elsewhere}
 use Rattle.iv_gateway.proofs.gateway.Gateway.decide.Goals as goal
 
 pub returns-then-is_none : goal.returns-then-is_none

@@ -1,5 +1,5 @@
 use Rattle.iv_once.specs.Views.{names_of}
-use Rattle.iv_gateway.proofs.Entered.{AreKept-entered}
+use Rattle.iv_gateway.proofs.AddedEntries.{AreKept-entered}
 use Rattle.iv_gateway.proofs.gateway.Gateway.enter_request.Goals as goal
 
 pub returns : goal.returns

@@ -1,7 +1,7 @@
 use Rattle.std.proofs.Common.{◌∙◌, arith, refl, sym}
 use Rattle.iv_gate.specs.Events.{forgave}
-use Rattle.iv_gateway.proofs.Alive.{IsGate-IsAlive}
-use Rattle.iv_gateway.proofs.Replayed.{names_of-forgiven}
+use Rattle.iv_gateway.proofs.LiveGateways.{IsGate-IsAlive}
+use Rattle.iv_gateway.proofs.JournalReplays.{names_of-forgiven}
 use Rattle.iv_gateway.proofs.gateway.Gateway.forgive.Goals as goal
 
 pub returns-then-not-self : goal.returns-then-not-self

@@ -7,7 +7,7 @@ use Rattle.iv_clients.specs.Kept.{keeping_on}
 use Rattle.iv_message.specs.Told.{granted}
 use Rattle.iv_gate.specs.Gate.{granted_by, is_accepted, reply_in}
 use Rattle.iv_hall.specs.Hearing.{hearing_lines}
-use Rattle.iv_gateway.proofs.Standing.{cond-no_grants, kept_slots-heard}
+use Rattle.iv_gateway.proofs.ClientStates.{cond-no_grants, kept_slots-heard}
 use Rattle.iv_gateway.proofs.gateway.Gateway.hear_plain.Goals as goal
 
 pub returns : goal.returns

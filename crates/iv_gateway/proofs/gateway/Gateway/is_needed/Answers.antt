@@ -1,5 +1,5 @@
 use Rattle.std.proofs.Common.{rules}
-use Rattle.iv_gateway.proofs.Seated.{is_needed-no_role, is_needed-has_role}
+use Rattle.iv_gateway.proofs.RoleSessions.{is_needed-no_role, is_needed-has_role}
 use Rattle.iv_gateway.proofs.gateway.Gateway.is_needed.Goals as goal
 
 pub returns-then-has_role : goal.returns-then-has_role

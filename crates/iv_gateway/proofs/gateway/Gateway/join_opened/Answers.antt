@@ -1,5 +1,5 @@
 use Rattle.std.proofs.Common.{◌∙◌, sym}
-use Rattle.iv_gateway.proofs.Subscribed.{IsAlive-joined_by_Done, IsAlive-joined_by_Subscribed, IsAlive-joined_by_Refused}
+use Rattle.iv_gateway.proofs.NewSubscriptions.{IsAlive-joined_by_Done, IsAlive-joined_by_Subscribed, IsAlive-joined_by_Refused}
 use Rattle.iv_gateway.proofs.gateway.Gateway.join_opened.Goals as goal
 
 pub returns-in_ok-join-in-Subscribed : goal.returns-in_ok-join-in-Subscribed

@@ -1,6 +1,6 @@
 use Rattle.std.proofs.Common.{◌∙◌, refl, sym}
 use Rattle.iv_gate.specs.Events.{gone}
-use Rattle.iv_gateway.proofs.Alive.{IsGate-IsAlive, dead-went}
+use Rattle.iv_gateway.proofs.LiveGateways.{IsGate-IsAlive, dead-went}
 use Rattle.iv_gateway.proofs.gateway.Gateway.left.Goals as goal
 
 pub returns-in-Ok-clause-gate : goal.returns-in-Ok-clause-gate

@@ -1,5 +1,5 @@
 use Rattle.std.proofs.Common.{◌∙◌, sym}
-use Rattle.iv_gateway.proofs.Said.{IsAlive-said, IsAlive-said_unheard, IsSpeaker-speaker_in}
+use Rattle.iv_gateway.proofs.HeardMessages.{IsAlive-said, IsAlive-said_unheard, IsSpeaker-speaker_in}
 use Rattle.iv_gateway.proofs.gateway.Gateway.listen.Goals as goal
 
 pub returns-in-None : goal.returns-in-None

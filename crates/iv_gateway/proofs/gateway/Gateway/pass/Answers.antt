@@ -1,7 +1,7 @@
 use Rattle.std.proofs.Common.{◌∙◌, ap, map}
 use Rattle.iv_command.specs.Views.{act_of, line_of}
 use Rattle.iv_gate.specs.Gate.{is_accepted, reply_in}
-use Rattle.iv_gateway.proofs.Replayed.{IsPassed-step}
+use Rattle.iv_gateway.proofs.JournalReplays.{IsPassed-step}
 use Rattle.iv_gateway.proofs.gateway.Gateway.pass.Goals as goal
 
 pub returns : goal.returns

@@ -2,7 +2,7 @@ use Rattle.std.proofs.Common.{◌∙◌, ℕ, option_map, sym}
 use Rattle.std.specs.Prelude.{string_bytes}
 use Rattle.iv_message.specs.Seen.{id_data}
 use Rattle.iv_clients.specs.Feeds.{feed_for}
-use Rattle.iv_gateway.proofs.Subscribed.{place, IsAlive-reads_full, IsAlive-reads_new, IsAlive-reads_shared}
+use Rattle.iv_gateway.proofs.NewSubscriptions.{place, IsAlive-reads_full, IsAlive-reads_new, IsAlive-reads_shared}
 use Rattle.iv_gateway.proofs.gateway.Gateway.read.Goals as goal
 
 pub returns-then-not-has_place : goal.returns-then-not-has_place

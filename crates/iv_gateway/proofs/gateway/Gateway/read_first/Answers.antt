@@ -2,7 +2,7 @@ use Rattle.std.proofs.Common.{◌∙◌, option_map, sym}
 use Rattle.std.specs.Prelude.{string_bytes}
 use Rattle.iv_message.specs.Seen.{id_data}
 use Rattle.iv_clients.specs.Feeds.{room_for}
-use Rattle.iv_gateway.proofs.Subscribed.{IsAlive-reads_first, IsAlive-reads_first_no_room}
+use Rattle.iv_gateway.proofs.NewSubscriptions.{IsAlive-reads_first, IsAlive-reads_first_no_room}
 use Rattle.iv_gateway.proofs.gateway.Gateway.read_first.Goals as goal
 
 pub returns-in_ok-subscribe-in-Some : goal.returns-in_ok-subscribe-in-Some

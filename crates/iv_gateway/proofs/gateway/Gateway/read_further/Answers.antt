@@ -3,7 +3,7 @@ use Rattle.std.specs.Prelude.{string_bytes}
 use Rattle.iv_message.specs.Seen.{id_data}
 use Rattle.iv_gate.specs.Gate.{seated}
 use Rattle.iv_gateway.specs.Views.{IsSeated}
-use Rattle.iv_gateway.proofs.Subscribed.{IsAlive-reads_further, IsAlive-reads_further_unseated}
+use Rattle.iv_gateway.proofs.NewSubscriptions.{IsAlive-reads_further, IsAlive-reads_further_unseated}
 use Rattle.iv_gateway.proofs.gateway.Gateway.read_further.Goals as goal
 
 pub returns-in_ok-reply_full-in-None : goal.returns-in_ok-reply_full-in-None

@@ -3,9 +3,9 @@ use Rattle.std.proofs.lemmas.List.{take_rest}
 use Rattle.iv_journal.specs.Journal.{Line}
 use Rattle.iv_once.specs.Views.{names_of}
 use Rattle.iv_gate.specs.Restoring.{IsDamagedAt}
-use Rattle.iv_gate.proofs.Damage.{led}
+use Rattle.iv_gate.proofs.JournalDamage.{led}
 use Rattle.iv_gateway.specs.Replays.{IsRecordReplayed, behind}
-use Rattle.iv_gateway.proofs.Replayed.{names_of-forgiven, HasRead-start, Restores-HasRead, HasRead-next, IsDamagedAt-IsRecordReplayed}
+use Rattle.iv_gateway.proofs.JournalReplays.{names_of-forgiven, HasRead-start, Restores-HasRead, HasRead-next, IsDamagedAt-IsRecordReplayed}
 use Rattle.iv_gateway.proofs.gateway.Gateway.replay.Goals as goal
 
 pub lines-init : goal.lines-init

@@ -2,7 +2,7 @@ use Rattle.std.proofs.Common.{◌-◌, ◌≤◌, length}
 use Rattle.iv_gate.specs.Gate.{Gate}
 use Rattle.iv_gateway.specs.Replays.{IsNew}
 use Rattle.iv_gateway.specs.Views.{IsAlive}
-use Rattle.iv_gateway.proofs.Replayed.{HasRead}
+use Rattle.iv_gateway.proofs.JournalReplays.{HasRead}
 use Rattle.iv_gateway.proofs.gateway.Gateway.replay.Given as goal
 
 abbrev pub invariant-lines : goal.invariant-lines

@@ -2,7 +2,7 @@ use Rattle.std.proofs.Common.{◌≡◌, ◌∙◌, ap, rules, sym}
 use Rattle.std.proofs.lemmas.Bool.{false≢true}
 use Rattle.iv_once.specs.Names.{is_new}
 use Rattle.iv_once.specs.Views.{names_of}
-use Rattle.iv_gateway.proofs.Replayed.{AreKept-with_name, is_new-IsAlive, settled-IsAlive}
+use Rattle.iv_gateway.proofs.JournalReplays.{AreKept-with_name, is_new-IsAlive, settled-IsAlive}
 use Rattle.iv_gateway.proofs.gateway.Gateway.replay_name.Goals as goal
 
 pub returns-then-not-is_new : goal.returns-then-not-is_new

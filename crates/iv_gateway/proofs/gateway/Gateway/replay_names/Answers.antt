@@ -2,7 +2,7 @@ use Rattle.std.proofs.Common.{◌≡◌, List, [], arith, rules, subst, sym}
 use Rattle.std.specs.Vec.Iter.{into_iter_items}
 use Rattle.iv_once.specs.Names.{Named}
 use Rattle.iv_store.proofs.RunLines.{nil-of_length_zero}
-use Rattle.iv_gateway.proofs.Replayed.{AreLearning, AreLearning-start, AreNamesReplayed-not_new, AreLearning-next, AreNamesReplayed-AreLearning}
+use Rattle.iv_gateway.proofs.JournalReplays.{AreLearning, AreLearning-start, AreNamesReplayed-not_new, AreLearning-next, AreNamesReplayed-AreLearning}
 use Rattle.iv_gateway.proofs.gateway.Gateway.replay_names.Goals as goal
 
 pub loop-name-init : goal.loop-name-init

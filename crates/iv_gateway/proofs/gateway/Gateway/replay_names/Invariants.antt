@@ -5,7 +5,7 @@ use Rattle.iv_clients.specs.Journal.{Entry, Request}
 use Rattle.iv_gate.specs.Gate.{Gate}
 use Rattle.iv_gateway.specs.Replays.{behind, part}
 use Rattle.iv_gateway.specs.Views.{IsAlive}
-use Rattle.iv_gateway.proofs.Replayed.{AreLearning}
+use Rattle.iv_gateway.proofs.JournalReplays.{AreLearning}
 use Rattle.iv_gateway.proofs.gateway.Gateway.replay_names.Given as goal
 
 abbrev pub invariant-loop-name : goal.invariant-loop-name

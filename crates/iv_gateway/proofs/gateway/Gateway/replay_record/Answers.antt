@@ -2,7 +2,7 @@ use Rattle.std.proofs.Common.{◌∙◌, List, drop, option_map, ap, subst, sym}
 use Rattle.iv_clients.specs.Journal.{Entry}
 use Rattle.iv_journal.specs.Journal.{Line}
 use Rattle.iv_gateway.specs.Replays.{IsReplayed}
-use Rattle.iv_gateway.proofs.Replayed.{IsEntry-record_in, IsRecordReplayed-false, IsRecordReplayed-IsReplayed, IsRecordReplayed-None}
+use Rattle.iv_gateway.proofs.JournalReplays.{IsEntry-record_in, IsRecordReplayed-false, IsRecordReplayed-IsReplayed, IsRecordReplayed-None}
 use Rattle.iv_gateway.proofs.gateway.Gateway.replay_record.Goals as goal
 
 pub replay_entry-requires : goal.replay_entry-requires

@@ -6,7 +6,7 @@ use Rattle.iv_clients.specs.Journal.{Entry, IsRequest}
 use Rattle.iv_gate.specs.Gate.{Gate}
 use Rattle.iv_gateway.specs.Replays.{behind, part}
 use Rattle.iv_gateway.specs.Views.{IsAlive}
-use Rattle.iv_gateway.proofs.Replayed.{GoesOn}
+use Rattle.iv_gateway.proofs.JournalReplays.{GoesOn}
 use Rattle.iv_gateway.proofs.gateway.Gateway.replay_requests.Given as goal
 
 abbrev pub invariant-loop-request : goal.invariant-loop-request

@@ -3,7 +3,7 @@ use Rattle.iv_command.specs.Views.{act_of, line_of}
 use Rattle.iv_gate.specs.Gate.{is_accepted, reply_in}
 use Rattle.iv_gateway.specs.Shaping.{shape_in}
 use Rattle.iv_gateway.specs.Speaking.{made_of, request_of}
-use Rattle.iv_gateway.proofs.Entered.{shape_text-entries_of}
+use Rattle.iv_gateway.proofs.AddedEntries.{shape_text-entries_of}
 use Rattle.iv_gateway.proofs.gateway.Gateway.request_in.Goals as goal
 
 pub returns : goal.returns

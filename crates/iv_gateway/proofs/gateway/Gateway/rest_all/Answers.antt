@@ -1,6 +1,6 @@
 use Rattle.std.proofs.Common.{refl}
 use Rattle.std.proofs.lemmas.List.{drop_all}
-use Rattle.iv_gateway.proofs.Seated.{IsAlive-all_rested, IsResting-next}
+use Rattle.iv_gateway.proofs.RoleSessions.{IsAlive-all_rested, IsResting-next}
 use Rattle.iv_gateway.proofs.gateway.Gateway.rest_all.Goals as goal
 
 pub loop-seat-init : goal.loop-seat-init

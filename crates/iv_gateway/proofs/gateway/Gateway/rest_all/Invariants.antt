@@ -1,7 +1,7 @@
 use Rattle.std.proofs.Common.{drop}
 use Rattle.iv_gate.specs.Gate.{Gate}
 use Rattle.iv_gateway.specs.Views.{IsAlive}
-use Rattle.iv_gateway.proofs.Seated.{IsResting}
+use Rattle.iv_gateway.proofs.RoleSessions.{IsResting}
 use Rattle.iv_gateway.proofs.gateway.Gateway.rest_all.Given as goal
 
 abbrev pub invariant-loop-seat : goal.invariant-loop-seat

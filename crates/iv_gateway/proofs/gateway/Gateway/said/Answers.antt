@@ -1,7 +1,7 @@
 use Rattle.std.proofs.Common.{◌∙◌, refl, sym}
 use Rattle.iv_gate.specs.Events.{message}
-use Rattle.iv_gateway.proofs.Alive.{IsGate-IsAlive}
-use Rattle.iv_gateway.proofs.Said.{dead-said}
+use Rattle.iv_gateway.proofs.LiveGateways.{IsGate-IsAlive}
+use Rattle.iv_gateway.proofs.HeardMessages.{dead-said}
 use Rattle.iv_gateway.proofs.gateway.Gateway.said.Goals as goal
 
 pub returns-in-Ok-clause-gate : goal.returns-in-Ok-clause-gate

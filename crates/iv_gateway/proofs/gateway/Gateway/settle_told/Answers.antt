@@ -1,6 +1,6 @@
 use Rattle.std.proofs.Common.{◌∙◌, ◌++◌, ap}
 use Rattle.iv_message.specs.Told.{settled, told_text}
-use Rattle.iv_gateway.proofs.Standing.{at_all-settling}
+use Rattle.iv_gateway.proofs.ClientStates.{at_all-settling}
 use Rattle.iv_gateway.proofs.gateway.Gateway.settle_told.Goals as goal
 
 pub returns : goal.returns

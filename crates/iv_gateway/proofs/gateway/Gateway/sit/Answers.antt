@@ -6,8 +6,8 @@ use Rattle.iv_store.specs.Engine.{IsBehind}
 use Rattle.iv_clients.specs.Feeds.{next_seat}
 use Rattle.iv_gate.specs.Gate.{Gate, in_session, is_accepted, reply_in, reply_to}
 use Rattle.iv_gateway.specs.Views.{IsRun}
-use Rattle.iv_gateway.proofs.Refused.{state-refused}
-use Rattle.iv_gateway.proofs.Seated.{begun_for-next_seat}
+use Rattle.iv_gateway.proofs.RefusedCommands.{state-refused}
+use Rattle.iv_gateway.proofs.RoleSessions.{begun_for-next_seat}
 use Rattle.iv_gateway.proofs.gateway.Gateway.sit.Goals as goal
 
 pub returns : goal.returns

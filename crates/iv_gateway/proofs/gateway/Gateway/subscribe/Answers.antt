@@ -6,7 +6,7 @@ use Rattle.iv_machine.specs.Machine.{step}
 use Rattle.iv_message.specs.Seen.{id_data}
 use Rattle.iv_gate.specs.Gate.{feed_begun, in_session, reply_in, reply_to}
 use Rattle.iv_gateway.specs.Views.{IsRun, opening_of}
-use Rattle.iv_gateway.proofs.Subscribed.{IsRun-feed_begun}
+use Rattle.iv_gateway.proofs.NewSubscriptions.{IsRun-feed_begun}
 use Rattle.iv_gateway.proofs.gateway.Gateway.subscribe.Goals as goal
 
 pub returns-clause-gate : goal.returns-clause-gate

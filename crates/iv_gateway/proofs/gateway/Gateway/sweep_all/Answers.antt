@@ -1,6 +1,6 @@
 use Rattle.std.proofs.Common.{refl}
 use Rattle.std.proofs.lemmas.List.{drop_all}
-use Rattle.iv_gateway.proofs.Swept.{IsAlive-all_swept, IsSweeping-next}
+use Rattle.iv_gateway.proofs.UnfollowedFeeds.{IsAlive-all_swept, IsSweeping-next}
 use Rattle.iv_gateway.proofs.gateway.Gateway.sweep_all.Goals as goal
 
 pub loop-number-init : goal.loop-number-init

@@ -1,6 +1,6 @@
 use Rattle.std.proofs.Common.{◌∙◌, refl, sym}
 use Rattle.iv_gate.specs.Events.{arrived}
-use Rattle.iv_gateway.proofs.Alive.{IsGate-IsAlive}
+use Rattle.iv_gateway.proofs.LiveGateways.{IsGate-IsAlive}
 use Rattle.iv_gateway.proofs.Landed.{taken_lives}
 use Rattle.iv_gateway.proofs.gateway.Gateway.take_step.Goals as goal
 

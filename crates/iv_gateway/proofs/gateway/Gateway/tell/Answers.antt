@@ -1,5 +1,5 @@
 use Rattle.std.proofs.Common.{◌∙◌}
-use Rattle.iv_gateway.proofs.Standing.{at_client-told_one}
+use Rattle.iv_gateway.proofs.ClientStates.{at_client-told_one}
 use Rattle.iv_gateway.proofs.gateway.Gateway.tell.Goals as goal
 
 pub returns : goal.returns

@@ -1,6 +1,6 @@
 use Rattle.std.proofs.Common.{◌∙◌, refl, sym}
 use Rattle.iv_gate.specs.Events.{ticked}
-use Rattle.iv_gateway.proofs.Alive.{IsGate-IsAlive}
+use Rattle.iv_gateway.proofs.LiveGateways.{IsGate-IsAlive}
 use Rattle.iv_gateway.proofs.gateway.Gateway.tick.Goals as goal
 
 pub returns-in-Ok-clause-gate : goal.returns-in-Ok-clause-gate

@@ -2,7 +2,7 @@ use Rattle.std.proofs.Common.{◌≡◌, ◌∙◌, ap, rules, subst, Some, None
 use Rattle.std.specs.Prelude.{string_bytes}
 use Rattle.iv_clients.specs.Feeds.{seat_of}
 use Rattle.iv_gateway.specs.Views.{IsSeated}
-use Rattle.iv_gateway.proofs.Seated.{IsAlive-not_seated, IsAlive-with_session_seated, IsAlive-with_session_there}
+use Rattle.iv_gateway.proofs.RoleSessions.{IsAlive-not_seated, IsAlive-with_session_seated, IsAlive-with_session_there}
 use Rattle.iv_gateway.proofs.gateway.Gateway.with_session.Goals as goal
 
 pub returns-then-is_some : goal.returns-then-is_some

@@ -2,7 +2,7 @@ use Rattle.std.proofs.Common.{◌∙◌, ap, refl}
 use Rattle.iv_clients.specs.Clients.{at_client}
 use Rattle.iv_clients.specs.Kept.{asking}
 use Rattle.iv_hall.proofs.Calls.{IsHall-asking, IsHall-fail}
-use Rattle.iv_hall.proofs.Waiting.{AreCounted-none, AreCounted-at_client}
+use Rattle.iv_hall.proofs.WaitingBytes.{AreCounted-none, AreCounted-at_client}
 use Rattle.iv_hall.proofs.hall.Hall.ask.Goals as goal
 
 pub invariant_of-self : goal.invariant_of-self

@@ -4,7 +4,7 @@ use Rattle.iv_clients.specs.Kept.{holding_beat}
 use Rattle.iv_hall.proofs.Calls.{IsHall-holding_beat, IsHall-fail}
 use Rattle.iv_hall.specs.Numbers.{AreSet}
 use Rattle.iv_hall.specs.Hall.{is_told_at}
-use Rattle.iv_hall.proofs.Waiting.{AreCounted-holding_beat, AreCounted-none}
+use Rattle.iv_hall.proofs.WaitingBytes.{AreCounted-holding_beat, AreCounted-none}
 use Rattle.iv_hall.proofs.hall.Hall.beat.Goals as goal
 
 pub invariant_of-self : goal.invariant_of-self

@@ -4,7 +4,7 @@ use Rattle.iv_clients.specs.Kept.{checking}
 use Rattle.iv_hall.proofs.Calls.{IsHall-checking}
 use Rattle.iv_hall.specs.Numbers.{AreSet}
 use Rattle.iv_hall.specs.Hall.{is_told_at}
-use Rattle.iv_hall.proofs.Waiting.{AreCounted-checking}
+use Rattle.iv_hall.proofs.WaitingBytes.{AreCounted-checking}
 use Rattle.iv_hall.proofs.hall.Hall.check.Goals as goal
 
 pub invariant_of-self : goal.invariant_of-self

@@ -4,7 +4,7 @@ use Rattle.std.specs.Prelude.{option_and_then}
 use Rattle.iv_clients.specs.Clients.{at_client, client_at, followed_by}
 use Rattle.iv_clients.specs.Kept.{Kept, keeping_closed}
 use Rattle.iv_hall.proofs.Calls.{IsHall-keeping_closed}
-use Rattle.iv_hall.proofs.Waiting.{AreCounted-at_client}
+use Rattle.iv_hall.proofs.WaitingBytes.{AreCounted-at_client}
 use Rattle.iv_hall.proofs.hall.Hall.close.Goals as goal
 
 pub invariant_of-self : goal.invariant_of-self

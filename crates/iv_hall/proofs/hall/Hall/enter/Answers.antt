@@ -5,8 +5,8 @@ use Rattle.iv_rows.specs.Options.{if_some}
 use Rattle.iv_clients.specs.Clients.{client_at}
 use Rattle.iv_clients.specs.Kept.{Kept}
 use Rattle.iv_hall.specs.Hall.{is_told_at}
-use Rattle.iv_hall.proofs.Joined.{HasLeft-is_so_at}
-use Rattle.iv_hall.proofs.Waiting.{AreCounted-coming}
+use Rattle.iv_hall.proofs.FeedReaders.{HasLeft-is_so_at}
+use Rattle.iv_hall.proofs.WaitingBytes.{AreCounted-coming}
 use Rattle.iv_hall.proofs.hall.Hall.enter.Goals as goal
 
 pub invariant_of-self : goal.invariant_of-self

@@ -2,7 +2,7 @@ use Rattle.std.proofs.Common.{◌∙◌, ap, refl}
 use Rattle.iv_clients.specs.Clients.{at_client}
 use Rattle.iv_clients.specs.Kept.{keeping_new}
 use Rattle.iv_hall.proofs.Calls.{IsHall-fail, IsHall-keeping_new}
-use Rattle.iv_hall.proofs.Waiting.{AreCounted-none, AreCounted-at_client}
+use Rattle.iv_hall.proofs.WaitingBytes.{AreCounted-none, AreCounted-at_client}
 use Rattle.iv_hall.proofs.hall.Hall.follow.Goals as goal
 
 pub invariant_of-self : goal.invariant_of-self

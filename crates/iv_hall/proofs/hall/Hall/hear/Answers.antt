@@ -1,5 +1,5 @@
 use Rattle.iv_command.specs.Views.{line_of}
-use Rattle.iv_hall.proofs.Heard.{at_all-hearing_lines_next, at_all-hearing_lines_none}
+use Rattle.iv_hall.proofs.TextsOfLines.{at_all-hearing_lines_next, at_all-hearing_lines_none}
 use Rattle.iv_hall.proofs.hall.Hall.hear.Goals as goal
 
 pub loop-line-init : goal.loop-line-init

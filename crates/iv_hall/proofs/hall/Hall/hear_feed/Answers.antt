@@ -7,7 +7,7 @@ use Rattle.iv_hall.proofs.Calls.{IsHall-fail, walked-hearing_for, IsHall-hearing
 use Rattle.iv_hall.specs.Numbers.{AreSet}
 use Rattle.iv_hall.specs.Hall.{is_told_at}
 use Rattle.std.specs.List.{Contains}
-use Rattle.iv_hall.proofs.Waiting.{AreCounted-none, AreCounted-CountsOn}
+use Rattle.iv_hall.proofs.WaitingBytes.{AreCounted-none, AreCounted-CountsOn}
 use Rattle.iv_hall.proofs.hall.Hall.hear_feed.Goals as goal
 
 pub invariant_of-self : goal.invariant_of-self

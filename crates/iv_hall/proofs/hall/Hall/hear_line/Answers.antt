@@ -2,7 +2,7 @@ use Rattle.std.proofs.Common.{◌∙◌, ap, sym}
 use Rattle.iv_command.specs.Views.{line_of}
 use Rattle.iv_clients.specs.Clients.{at_all}
 use Rattle.iv_hall.specs.Hearing.{hearing_for}
-use Rattle.iv_hall.proofs.Heard.{at_all-hearing_for, at_all-hearing_line_none}
+use Rattle.iv_hall.proofs.TextsOfLines.{at_all-hearing_for, at_all-hearing_line_none}
 use Rattle.iv_hall.proofs.hall.Hall.hear_line.Goals as goal
 
 pub returns-in-None : goal.returns-in-None

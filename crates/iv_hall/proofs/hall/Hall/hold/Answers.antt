@@ -5,7 +5,7 @@ use Rattle.iv_clients.specs.Kept.{holding}
 use Rattle.iv_hall.proofs.Calls.{IsHall-fail, IsHall-holding}
 use Rattle.iv_hall.specs.Numbers.{AreSet}
 use Rattle.iv_hall.specs.Hall.{is_told_at}
-use Rattle.iv_hall.proofs.Waiting.{AreCounted-holding, AreCounted-none}
+use Rattle.iv_hall.proofs.WaitingBytes.{AreCounted-holding, AreCounted-none}
 use Rattle.iv_hall.proofs.hall.Hall.hold.Goals as goal
 
 pub invariant_of-self : goal.invariant_of-self

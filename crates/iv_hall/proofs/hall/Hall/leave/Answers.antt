@@ -2,9 +2,9 @@ use Rattle.std.proofs.Common.{◌∙◌, [], None, ap, set}
 use Rattle.iv_rows.specs.Options.{if_some}
 use Rattle.iv_clients.specs.Clients.{client_at}
 use Rattle.iv_clients.specs.Kept.{Kept}
-use Rattle.iv_hall.proofs.Joined.{HasLeft-is_so_at}
+use Rattle.iv_hall.proofs.FeedReaders.{HasLeft-is_so_at}
 use Rattle.iv_hall.proofs.Calls.{IsHall-set_None}
-use Rattle.iv_hall.proofs.Waiting.{AreCounted-set_None}
+use Rattle.iv_hall.proofs.WaitingBytes.{AreCounted-set_None}
 use Rattle.iv_hall.proofs.hall.Hall.leave.Goals as goal
 
 pub invariant_of-self : goal.invariant_of-self

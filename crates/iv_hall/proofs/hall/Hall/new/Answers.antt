@@ -1,5 +1,5 @@
 use Rattle.iv_hall.proofs.Calls.{IsHall-new}
-use Rattle.iv_hall.proofs.Waiting.{AreCounted-replicate}
+use Rattle.iv_hall.proofs.WaitingBytes.{AreCounted-replicate}
 use Rattle.iv_hall.proofs.hall.Hall.new.Goals as goal
 
 pub invariant_of-result : goal.invariant_of-result

@@ -3,7 +3,7 @@ use Rattle.std.proofs.Common.{◌∙◌, Some, ap, refl, subst}
 use Rattle.iv_clients.specs.Clients.{at_client}
 use Rattle.iv_clients.specs.Kept.{keeping_moved}
 use Rattle.iv_hall.proofs.Calls.{IsHall-fail, IsHall-keeping_moved}
-use Rattle.iv_hall.proofs.Waiting.{AreCounted-none, AreCounted-at_client}
+use Rattle.iv_hall.proofs.WaitingBytes.{AreCounted-none, AreCounted-at_client}
 use Rattle.iv_hall.proofs.hall.Hall.redirect.Goals as goal
 
 pub invariant_of-self : goal.invariant_of-self

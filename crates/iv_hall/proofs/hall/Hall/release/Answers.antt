@@ -2,7 +2,7 @@ use Rattle.std.proofs.Common.{◌∙◌, ap, refl}
 use Rattle.iv_clients.specs.Clients.{at_all}
 use Rattle.iv_clients.specs.Kept.{releasing}
 use Rattle.iv_hall.proofs.Calls.{IsHall-fail, walked-releasing, IsHall-releasing}
-use Rattle.iv_hall.proofs.Waiting.{AreCounted-releasing, AreCounted-none}
+use Rattle.iv_hall.proofs.WaitingBytes.{AreCounted-releasing, AreCounted-none}
 use Rattle.iv_hall.proofs.hall.Hall.release.Goals as goal
 
 pub invariant_of-self : goal.invariant_of-self

@@ -5,7 +5,7 @@ use Rattle.iv_hall.proofs.Calls.{IsHall-fail, walked-holding_owed, IsHall-holdin
 use Rattle.iv_hall.specs.Numbers.{AreSet}
 use Rattle.iv_hall.specs.Hall.{is_told_at}
 use Rattle.std.specs.List.{Contains}
-use Rattle.iv_hall.proofs.Waiting.{AreCounted-none, AreCounted-walked}
+use Rattle.iv_hall.proofs.WaitingBytes.{AreCounted-none, AreCounted-walked}
 use Rattle.iv_hall.proofs.hall.Hall.settle.Goals as goal
 
 pub invariant_of-self : goal.invariant_of-self

@@ -1,5 +1,5 @@
 use Rattle.iv_command.specs.Views.{line_of}
-use Rattle.iv_hall.proofs.Stayed.{at_all-keeping_on_none, at_all-keeping_on_next}
+use Rattle.iv_hall.proofs.FeedEnds.{at_all-keeping_on_none, at_all-keeping_on_next}
 use Rattle.iv_hall.proofs.hall.Hall.stay.Goals as goal
 
 pub loop-line-init : goal.loop-line-init

@@ -4,8 +4,8 @@ use Rattle.iv_clients.specs.Clients.{at_all}
 use Rattle.iv_clients.specs.Kept.{keeping_on}
 use Rattle.iv_hall.specs.Listing.{walked}
 use Rattle.iv_hall.specs.Readers.{readers_of}
-use Rattle.iv_hall.proofs.Stayed.{IsEnding-feed_ended, at_all-keeping_on_IsNoEnd, IsNoEnd-feed_ended, walked-keeping_on, IsHall-keeping_on}
-use Rattle.iv_hall.proofs.Waiting.{AreCounted-at_all}
+use Rattle.iv_hall.proofs.FeedEnds.{IsEnding-feed_ended, at_all-keeping_on_IsNoEnd, IsNoEnd-feed_ended, walked-keeping_on, IsHall-keeping_on}
+use Rattle.iv_hall.proofs.WaitingBytes.{AreCounted-at_all}
 use Rattle.iv_hall.proofs.hall.Hall.stay_behind.Goals as goal
 
 pub invariant_of-self : goal.invariant_of-self

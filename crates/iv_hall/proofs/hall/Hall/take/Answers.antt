@@ -5,7 +5,7 @@ use Rattle.iv_rows.specs.Options.{if_some}
 use Rattle.iv_hall.proofs.Calls.{IsHall-emptied}
 use Rattle.iv_hall.specs.Numbers.{AreSet}
 use Rattle.iv_hall.specs.Hall.{is_told_at}
-use Rattle.iv_hall.proofs.Waiting.{AreCounted-emptied}
+use Rattle.iv_hall.proofs.WaitingBytes.{AreCounted-emptied}
 use Rattle.iv_hall.proofs.hall.Hall.take.Goals as goal
 
 pub invariant_of-self : goal.invariant_of-self

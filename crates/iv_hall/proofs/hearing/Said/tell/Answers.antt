@@ -1,6 +1,6 @@
 use Rattle.std.proofs.Common.{◌∙◌, ap}
 use Rattle.iv_clients.specs.Kept.{holding}
-use Rattle.iv_hall.proofs.Waiting.{CountsOn-holding}
+use Rattle.iv_hall.proofs.WaitingBytes.{CountsOn-holding}
 use Rattle.iv_hall.proofs.hearing.Said.tell.Goals as goal
 
 pub returns-clause-counted : goal.returns-clause-counted

@@ -2,7 +2,7 @@ use Rattle.std.proofs.Common.{◌≡◌, ◌∙◌, ◌<◌, ◌+◌, take, leng
 use Rattle.std.specs.List.{Contains}
 use Rattle.std.proofs.lemmas.List.{get_or_default}
 use Rattle.iv_hall.specs.Numbers.{HasGained}
-use Rattle.iv_hall.proofs.Placed.{HasGained-IsExchanged, Contains-IsOrder}
+use Rattle.iv_hall.proofs.NumberPlaces.{HasGained-IsExchanged, Contains-IsOrder}
 use Rattle.iv_hall.proofs.numbers.Numbers.insert.Goals as goal
 
 pub returns-then-at-self : goal.returns-then-at-self

@@ -1,4 +1,4 @@
-use Rattle.iv_hall.proofs.Placed.{HasGainedAll-next, HasGainedAll-none}
+use Rattle.iv_hall.proofs.NumberPlaces.{HasGainedAll-next, HasGainedAll-none}
 use Rattle.iv_hall.proofs.numbers.Numbers.insert_all.Goals as goal
 
 pub loop-number-init : goal.loop-number-init

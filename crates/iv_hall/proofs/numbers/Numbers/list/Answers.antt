@@ -1,4 +1,4 @@
-use Rattle.iv_hall.proofs.Placed.{IsDistinct-IsOrder}
+use Rattle.iv_hall.proofs.NumberPlaces.{IsDistinct-IsOrder}
 use Rattle.iv_hall.proofs.numbers.Numbers.list.Goals as goal
 
 pub returns-clause-once : goal.returns-clause-once

@@ -2,7 +2,7 @@ use Rattle.std.proofs.Common.{◌≡◌, ◌∙◌, ◌<◌, ◌+◌, ◌-◌, l
 use Rattle.std.specs.List.{Contains}
 use Rattle.std.proofs.lemmas.List.{get_or_default}
 use Rattle.iv_hall.specs.Numbers.{HasLost}
-use Rattle.iv_hall.proofs.Placed.{HasLost-IsExchanged, not_Contains-IsOrder}
+use Rattle.iv_hall.proofs.NumberPlaces.{HasLost-IsExchanged, not_Contains-IsOrder}
 use Rattle.iv_hall.proofs.numbers.Numbers.remove.Goals as goal
 
 pub returns-then-at-self : goal.returns-then-at-self

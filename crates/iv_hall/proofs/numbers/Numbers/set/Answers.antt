@@ -1,4 +1,4 @@
-use Rattle.iv_hall.proofs.Placed.{AreSet-HasGained, AreSet-HasLost}
+use Rattle.iv_hall.proofs.NumberPlaces.{AreSet-HasGained, AreSet-HasLost}
 use Rattle.iv_hall.proofs.numbers.Numbers.set.Goals as goal
 
 pub returns-then-is_in : goal.returns-then-is_in

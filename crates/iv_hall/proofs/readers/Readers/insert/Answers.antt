@@ -1,6 +1,6 @@
 use Rattle.std.proofs.Common.{◌≡◌, ◌∙◌, ◌++◌, ◌∷◌, [], cond, eqb, false, ap, sym}
 use Rattle.std.specs.List.{list_any}
-use Rattle.iv_hall.proofs.Joined.{IsDistinct-push_number, with_number}
+use Rattle.iv_hall.proofs.FeedReaders.{IsDistinct-push_number, with_number}
 use Rattle.iv_hall.proofs.readers.Readers.insert.Goals as goal
 
 pub invariant_of-self : goal.invariant_of-self

@@ -1,7 +1,7 @@
 use Rattle.std.proofs.Common.{◌≡◌, ◌∙◌, ℕ, ap, filter, not, rules}
 use Rattle.std.specs.Prelude.{◌==◌}
 use Rattle.std.proofs.lemmas.Fn.{filter_same}
-use Rattle.iv_hall.proofs.Joined.{IsDistinct-filter}
+use Rattle.iv_hall.proofs.FeedReaders.{IsDistinct-filter}
 use Rattle.iv_hall.proofs.readers.Readers.remove.Goals as goal
 
 pub invariant_of-self : goal.invariant_of-self
