@@ -137,8 +137,11 @@ lines_noted : (at : Option ℕ) (shares : List Share) (n : ℕ) (ls : List Line)
     → map line_in (map record_of (noted_from at shares n ls)) ≡ ls
 lines_noted at shares n [] h a = refl
 lines_noted at shares n (l ∷ ls) h a =
-    (λ i. record { is_last = l.is_last; text = text_in-text_by (note_by at (holder_at shares n) l.text) l.text a.0
-      (note_second at (holder_at shares n) l.text h) i }
+    (λ i. record {
+      is_last = l.is_last;
+      text = text_in-text_by (note_by at (holder_at shares n) l.text) l.text a.0
+          (note_second at (holder_at shares n) l.text h) i;
+    }
     ∷ lines_noted at shares (n + 1) ls h a.1 i)
 
 length_noted : (at : Option ℕ) (shares : List Share) (n : ℕ) (ls : List Line) → length (map record_of (noted_from at shares n ls)) ≡ length ls

@@ -64,7 +64,7 @@ is_part text p h =
     let first = Found-option_and_then (λ rest. option_and_then (λ (z : List ℕ × List ℕ). option_map {U = List ℕ × List ℕ} (λ t. (z.0, t)) (behind (codes ",") z.1)) (cut_at 34 rest))
     (behind (codes "\"as\":\"") text) q named.there in
     let second = Found-option_and_then (λ (z : List ℕ × List ℕ). option_map {U = List ℕ × List ℕ} (λ t. (z.0, t)) (behind (codes ",") z.1))
-      (cut_at 34 first.of) q first.is in
+    (cut_at 34 first.of) q first.is in
     last q named.is first.of second.of (same-behind (codes "\"as\":\"") text first.of first.there) (same-cut_at 34 first.of second.of second.there) (behind (codes ",") second.of.1) refl second.is
   where
     last : (q : List ℕ × List ℕ) → named_request q ≡ Some p → (rest : List ℕ) (z : List ℕ × List ℕ) → text ≡ codes "\"as\":\"" ++ rest → rest ≡ z.0 ++ 34 ∷ z.1

@@ -282,7 +282,7 @@ offer_hands l g m s t sent same going opened = by (is_open s) (is_dropped (next 
     by : (p q : Bool) → is_open s ≡ p → is_dropped (next g synced) m ≡ q → IsHanded g (offered_to m (next g synced) s).0 m
     by false q e f =
         let left : is_open t ≡ false =
-          ap is_open (same ∙ ap (λ (o : Gate × Socket). passed o.1) (offered_to-offered_by (next g synced) m s false q true e f all_sent))
+        ap is_open (same ∙ ap (λ (o : Gate × Socket). passed o.1) (offered_to-offered_by (next g synced) m s false q true e f all_sent))
         ∙ (passed_open (length s.output) s ∙ e) in
         absurd (false≢true (sym left ∙ opened))
     by true true e f =

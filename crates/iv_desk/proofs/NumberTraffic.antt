@@ -523,7 +523,7 @@ socket_living cap d m f step v = record {
   runs = v.runs;
   numbers = at_each_number (λ n. LivesFor (client_at d.gate.clients n) (client_at (at_client m f d.sockets) n)) m
       (subst (LivesFor (client_at d.gate.clients m)) (sym (client_at-at_client m f d.sockets))
-        (step (client_at d.gate.clients m) (socket_at d m) (v.numbers m)))
+      (step (client_at d.gate.clients m) (socket_at d m) (v.numbers m)))
       (λ n ne. subst (LivesFor (client_at d.gate.clients n)) (sym (client_at-at_other_client m n f d.sockets ne)) (v.numbers n));
 }
 
@@ -558,7 +558,7 @@ left_living l cap d m a v =
       runs = gate.goes_on d.gate (gone m) tt v.runs;
       numbers = at_each_number (λ n. LivesFor (client_at (next d.gate (gone m)).clients n) (client_at (set d.sockets m None) n)) m
           (subst (λ o. LivesFor o (client_at (set d.sockets m None) m)) (sym (t.leaves m refl))
-            (subst (LivesFor None) (sym (client_at-set_None m d.sockets)) tt))
+          (subst (LivesFor None) (sym (client_at-set_None m d.sockets)) tt))
           (λ n ne. subst (LivesFor (client_at (next d.gate (gone m)).clients n)) (sym (client_at-set_other m n None d.sockets ne))
           (same_lives (client_at d.gate.clients n) (client_at (next d.gate (gone m)).clients n) (socket_at d n) (beside_gone d.gate m n ne t) (v.numbers n)));
     }

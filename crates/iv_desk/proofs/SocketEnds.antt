@@ -171,8 +171,11 @@ at_number n m f xs s t here there = by (n == m) refl
     by : (b : Bool) → (n == m) ≡ b → (t ≡ s) ⊎ ((n ≡ m) × (t ≡ f s))
     by true e =
         let same = eqb-true n m e in
-        inr (same, sym (same-Some (f s) t
-          (sym (client_at-at_client m f xs ∙ ap (option_map f) here) ∙ subst (λ z. client_at (at_client z f xs) m ≡ Some t) same there)))
+        inr (
+          same,
+          sym (same-Some (f s) t
+              (sym (client_at-at_client m f xs ∙ ap (option_map f) here) ∙ subst (λ z. client_at (at_client z f xs) m ≡ Some t) same there)),
+        )
     by false e = inl (sym (same-Some s t (sym (client_at-at_other_client n m f xs (eqb-false n m e) ∙ here) ∙ there)))
 
 stays_going : (s t : Socket) → t ≡ s → s.over ≡ false → t.over ≡ true → ⊥

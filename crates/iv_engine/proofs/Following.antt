@@ -134,7 +134,7 @@ module _ (e d : Store) (given : Given) (tables : List ℕ) (h : IsSoundStore e) 
     numbers = record { unique = stored.numbers.unique; given = stored.numbers.given };
     database = stored.database;
     shows = AllByRecursion-map (IsOpen (v e d given tables h g w)) (IsOpen left) e.subscriptions
-      (λ s o. record { session = o.session; known = o.known }) stored.shows;
+        (λ s o. record { session = o.session; known = o.known }) stored.shows;
   }
 
   one_counted : (s : Subscription) → is_some (place_of e s) ≡ true → IsCounted (seen e) (seen left) s.rel (rounds_of e s) (rounds_of left s)

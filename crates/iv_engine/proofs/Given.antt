@@ -38,7 +38,7 @@ fact_stays f s t g k h = by (is_shared f.act) h
     by true p = option_and_then-Some (option_and_then (passed f.act) (passed (begin f.role) s)) (passed finish) t p (IsSoundWhole t) (λ y q r.
         option_and_then-Some (passed (begin f.role) s) (passed f.act) y q (IsSoundWhole t) (λ x a b.
         act_stays finish y t refl tt (act_stays f.act x y (is_well_act-is_well_fact f g.well) g.texts
-          (act_stays (begin f.role) s x (is_name-is_well_fact f g.well) tt k a) b) r))
+        (act_stays (begin f.role) s x (is_name-is_well_fact f g.well) tt k a) b) r))
 
 all_stay : (fs : List Fact) (s t : State) → All IsGivenFact fs → IsSoundWhole s → all_carried fs s ≡ Some t → IsSoundWhole t
 all_stay [] s t g k h = let same : s ≡ t = cc in subst IsSoundWhole same k

@@ -64,8 +64,12 @@ module _ (c : Store) (stored : IsStored c) where
         within = each_within ks (λ U stands. subst (AllByRecursion (λ s. is_within (at c U) s ≡ true)) (sym (keeps U stands))
             (AllByRecursion-map (λ s. stays_open c U s ≡ true) (λ s. is_within (at c U) s ≡ true) (filter (stays_open c U) c.subscriptions) (λ s o. within-first_cause (lacks s) (is_within (at c U) s) o) (AllByRecursion-filtered_pass (stays_open c U) c.subscriptions)));
         circuits = AllByRecursion-map (IsRoleCircuit c) (IsRoleCircuit (record c { subscriptions = ks; circuits = cs })) cs
-            (λ k i. record { known = i.known; is = IsCircuitFor-other_readers c ks cs c.last k.role
-              (plan_at c.catalog k.rel) k.circuit i.is; opened = i.opened }) circuits;
+            (λ k i. record {
+              known = i.known;
+              is = IsCircuitFor-other_readers c ks cs c.last k.role
+                  (plan_at c.catalog k.rel) k.circuit i.is;
+              opened = i.opened;
+            }) circuits;
         there = there;
         read = read;
       }
@@ -90,7 +94,7 @@ module _ (e c : Store) (unique : AreUnique e.subscriptions) (T U : Lists) where
   found : AllByRecursion Found e.subscriptions
   found = AllByRecursion-zip (λ s. subscription_of e.subscriptions s.number ≡ Some s) (λ s. subscription_of (filter (stays_open c U) e.subscriptions) s.number ≡ kept_one (stays_open c U) s) Found e.subscriptions
       (λ s a b. record { before = a; after = b }) (subscription_of-each e.subscriptions unique)
-        (subscription_of-kept_one (stays_open c U) e.subscriptions unique)
+      (subscription_of-kept_one (stays_open c U) e.subscriptions unique)
 
   pub turned_lines : flat_map (line_for (at e T) (at left U) (ending (at c U))) e.subscriptions ≡ flat_map (λ s. turned_line c U s (shown_rows e T s)) e.subscriptions
   turned_lines = flat_map-each_same (line_for (at e T) (at left U) (ending (at c U))) (λ s. turned_line c U s (shown_rows e T s)) e.subscriptions

@@ -56,7 +56,7 @@ module _ (e d : Store) (h : IsSoundStore e) (g : IsSoundStore d) (roles : length
     database = sessions_stored (database_of d) g.stored.database e.sessions
         (AllByRecursion-map (λ (s : Session). s.role < length e.known.rights.roles) (λ (s : Session). s.role < length d.known.rights.roles) e.sessions (λ s b. at_most _ _ s.role b roles) h.stored.database.roles);
     shows = AllByRecursion-map (IsOpen e) (IsOpen c) e.subscriptions
-      (λ s o. record { session = o.session; known = at_most _ _ s.rel o.known relations }) h.stored.shows;
+        (λ s o. record { session = o.session; known = at_most _ _ s.rel o.known relations }) h.stored.shows;
   }
 
   -- each acts for the role that it acted for

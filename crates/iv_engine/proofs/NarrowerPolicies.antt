@@ -62,5 +62,5 @@ pub IsNarrowed-create_policy : (e u : Store) (d : Database) (n : ℕ) (p : Polic
     → p.restrictive ≡ true → AllByRecursion (IsNarrowed (with_database d u) None) (with_database d u).circuits
 IsNarrowed-create_policy e u d n p is h table told restrictive =
     subst (λ (v : Store). AllByRecursion (IsNarrowed v None) v.circuits)
-      (sym (guard_is e u d n (create_policy p) p.rel is (IsGuarding-create_policy e n p) h table told))
+    (sym (guard_is e u d n (create_policy p) p.rel is (IsGuarding-create_policy e n p) h table told))
     (narrowed e (rel_of e.catalog p.rel) (policy_for (frame_of e) p) restrictive h)

@@ -173,7 +173,7 @@ module _ (e : Store) (ms : List Membership) (us : List Guard) (gs : List Grant) 
         (AllByRecursion-zip (λ s. is_some (place_of e s) ≡ true) (λ s. stays_open c T s ≡ true) WasThere (filter (stays_open c T) e.subscriptions)
         (λ s there stays. record { there = there; reads = not-first_cause (is_some (missing_for (frame_of c) (actor (frame_of c) s.session) s.rel)) (is_within (at c T) s) stays })
         (AllByRecursion-filter (λ s. is_some (place_of e s) ≡ true) (stays_open c T) e.subscriptions h.there)
-          (AllByRecursion-filtered_pass (stays_open c T) e.subscriptions))
+        (AllByRecursion-filtered_pass (stays_open c T) e.subscriptions))
 
     pub righted_step : (new : Store) (a : Answer) → frame_refusal (frame_of e) n act ≡ None → AreReadersTold c concerned a new → IsAccepted e n act a new
     righted_step new a passed told =
@@ -191,7 +191,7 @@ module _ (e : Store) (ms : List Membership) (us : List Guard) (gs : List Grant) 
         let R : (v : Store) → Subscription → ℕ → ℕ → Type 0 = λ v s was now. TurnsRounds (seen e) (seen v) act (actor (frame_of v) s.session) s.rel was now in
         let counted : AllByRecursion (λ s. R new s (rounds_of e s) (rounds_of new s)) ks =
         AllByRecursion-zip WasThere (λ s. rounds_of new s ≡ cond (beside_of false c concerned s) 0 (rounds_of e s))
-          (λ s. R new s (rounds_of e s) (rounds_of new s)) ks
+        (λ s. R new s (rounds_of e s) (rounds_of new s)) ks
         (λ s w r. subst (λ (v : Store). R v s (rounds_of e s) (rounds_of new s)) (sym told.state) (g.counts ks cs s (rounds_of e s) (rounds_of new s) w.there w.reads r)) was_there told.rounds in
         record {
           answer = λ T stands. (act_refusal T stands passed, ap reply_of told.done ∙ g.reply, sent T stands ∙ sym (act_sent T stands));

@@ -217,7 +217,7 @@ module _ (texts : Texts) (g : Gate) (c : Client) (text : List ℕ) (name : is_na
   act_more id (row_security rel enable force) h = shared_more (request_of c text (row_security rel enable force)) refl (IsRequest-said_by c.role text id (row_security rel enable force) name refl h)
   act_more id (create_policy p) h = shared_more (request_of c text (create_policy p)) refl (IsRequest-said_by c.role text id (create_policy p) name refl h)
   act_more id (drop_policy rel n) h =
-    shared_more (request_of c text (drop_policy rel n)) refl (IsRequest-said_by c.role text id (drop_policy rel n) name refl h)
+      shared_more (request_of c text (drop_policy rel n)) refl (IsRequest-said_by c.role text id (drop_policy rel n) name refl h)
   act_more id (write entries) h = shared_more (request_of c text (write entries)) refl (IsRequest-said_by c.role text id (write entries) name refl h)
 
   pub said_more : (m : Message) → said_by text ≡ m → MayAdd g (said_added g c text m)

@@ -73,7 +73,7 @@ pub OwnAnswer-IsOwn : (g : Gate) (e : Event) (m : ℕ) (c d : Client) (text : Li
 OwnAnswer-IsOwn g e m c d text live h k o =
     let p = Answers-hears g m c text h in
     subst (OwnAnswer g m c text) (same-Some p.now d
-      (sym p.there ∙ (ap (λ (x : Gate). client_at x.clients m) (sym (next-IsOwn g e m c text live h o)) ∙ k))) p.so
+    (sym p.there ∙ (ap (λ (x : Gate). client_at x.clients m) (sym (next-IsOwn g e m c text live h o)) ∙ k))) p.so
 
 -- by what is no message of its own that is heard it is told no reply
 pub Hears-heard_by : (g : Gate) (e : Event) (m : ℕ) (c d : Client) → g.dead ≡ false → client_at g.clients m ≡ Some c → client_at (next g e).clients m ≡ Some d → d.dropped ≡ false → heard_by m c e ≡ None → Hears c d
@@ -143,7 +143,7 @@ closes_own g e m c d text id own live a b u s w = marked (client_at (settles did
 
     there : option_map (answered c) (client_at (settles did).clients m) ≡ Some d
     there =
-      sym (client_at-at_client m (answered c) (settles did).clients) ∙ (ap (λ (x : Gate). client_at x.clients m) (sym (next-IsOwn g e m c text live a u)) ∙ b)
+        sym (client_at-at_client m (answered c) (settles did).clients) ∙ (ap (λ (x : Gate). client_at x.clients m) (sym (next-IsOwn g e m c text live a u)) ∙ b)
 
     marked : (o : Option Client) → client_at (settles did).clients m ≡ o → option_map (answered c) o ≡ Some d → is_own own d.subs ≡ false
     marked None f k = absurd (not_None-Some d (sym k))
@@ -188,7 +188,7 @@ Came-next P k g e before m d b = by g.dead refl
 
     there : g.dead ≡ false → (o : Option Client) → client_at g.clients m ≡ o → P d
     there live None h =
-      let x = (AreTouched-next g e live).comes m d h b.there in subst P (sym x.is) (k.new (next g e).entries x.token (at_text (next g e) x.token))
+        let x = (AreTouched-next g e live).comes m d h b.there in subst P (sym x.is) (k.new (next g e).entries x.token (at_text (next g e) x.token))
     there live (Some c) h = heard live c h (dropped-IsClient g e m c d live h b) (heard_by m c e) refl
 
     by : (t : Bool) → g.dead ≡ t → P d

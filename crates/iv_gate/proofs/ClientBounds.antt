@@ -198,11 +198,11 @@ module _ (sounds : Sounds) (g : Gate) (b : IsSoundGate g) (m : ℕ) (text : List
           let one : a ≡ c = same-Some a c (sym s ∙ (ap (client_at g.clients) same ∙ t)) in
           let there : client_at asked.clients j ≡ Some (saying text c) =
           ap (λ i. client_at (at_client i (saying text) g.clients) j) same ∙
-            (client_at-at_client j (saying text) g.clients ∙ ap (option_map (saying text)) t) in
+          (client_at-at_client j (saying text) g.clients ∙ ap (option_map (saying text)) t) in
           let p = served a (saying text c) there (bounded_saying text c (ap may_say (sym one) ∙ may) x) (λ q. ap (λ (v : Client). length v.subs) (sym one)) in
           let now : client_at (hears g m a text).clients j ≡ Some (answered a p.now) =
           ap (λ i. client_at (at_client i (answered a) last.clients) j) same ∙
-            (client_at-at_client j (answered a) last.clients ∙ ap (option_map (answered a)) p.there) in
+          (client_at-at_client j (answered a) last.clients ∙ ap (option_map (answered a)) p.there) in
           subst Bounded (same-Some (answered a p.now) d (sym now ∙ k)) (record { gone = p.so.gone; subs = p.so.subs; own = p.so.own; asked = p.so.asked })
       by false e =
           let ne = eqb-false m j e in
@@ -229,7 +229,7 @@ one_bounded m j f slots c d k t b h = by (m == j) refl
     by true e =
         let same = eqb-true m j e in
         subst Bounded (same-Some (f c) d (sym (ap (λ i. client_at (at_client i f slots) j) same ∙ (client_at-at_client j f slots ∙ ap (option_map f) t)) ∙ h))
-          (k c b)
+        (k c b)
     by false e = subst Bounded (same-Some c d (sym t ∙ (sym (client_at-at_other_client m j f slots (eqb-false m j e)) ∙ h))) b
 
 -- a step

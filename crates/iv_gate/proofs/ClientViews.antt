@@ -84,7 +84,7 @@ hindrance-IsSoundGate g b m c own k x h = look c.subs (b.clients m c x.there x.s
         let there : feed_of g.feeds k ≡ Some y.feed = ap (feed_of g.feeds) (sym f) ∙ y.found in
         let rel : rel_read g.feeds k ≡ y.feed.rel = ap (λ o. if_some o [] (λ (z : Feed). z.rel)) there in
         (λ i. hindrance g.machine (sym y.role i) (rel i)) ∙ may_read g.machine y.feed b.state
-          (AllByRecursion-feed_of (IsFeed g.machine) g.feeds k y.feed b.feeds there)
+        (AllByRecursion-feed_of (IsFeed g.machine) g.feeds k y.feed b.feeds there)
 
     look : (xs : List Sub) → AllByRecursion (IsFollowing g.machine g.feeds (seer c)) xs → followed_by xs own ≡ Some k → hindrance g.machine c.role (rel_read g.feeds k) ≡ None
     look [] a e = absurd (not_None-Some k (sym e))

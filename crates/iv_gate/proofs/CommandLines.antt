@@ -181,7 +181,7 @@ finish_still s n None b =
           (find-filter (λ (y : Session). e.session == y.number) (λ (y : Session). not (n == y.number)) s.frame.sessions
           (λ y h. ap (λ i. not (n == i)) (sym (eqb-true e.session y.number h)) ∙ ap not ne));
       found =
-        find-filter_left (λ (y : Subscription). e.number == y.number) (λ (y : Subscription). not (n == y.session)) s.frame.subscriptions e x.found (ap not ne);
+          find-filter_left (λ (y : Subscription). e.number == y.number) (λ (y : Subscription). not (n == y.session)) s.frame.subscriptions e x.found (ap not ne);
       before = x;
     }) s.frame.subscriptions (standing s b))))
 
@@ -195,7 +195,7 @@ close_still s n k None b =
     (λ e x ne. record {
       same = refl;
       found =
-        find-filter_left (λ (y : Subscription). e.number == y.number) (λ (y : Subscription). not (k == y.number)) s.frame.subscriptions e x.found (ap not ne);
+          find-filter_left (λ (y : Subscription). e.number == y.number) (λ (y : Subscription). not (k == y.number)) s.frame.subscriptions e x.found (ap not ne);
       before = x;
     }) s.frame.subscriptions (standing s b))))
 
@@ -230,8 +230,12 @@ subscribed_by s n rel None h z b =
     let served : ending (with_open s s.frame.sessions es (s.frame.last + 1)) e ≡ None = (λ i. first_cause (is_some (lacks i)) (fits i)) in
     ap (λ z. reply n (subscribed (s.frame.last + 1)) ∷ z) (new_changes s s.frame.sessions es (s.frame.last + 1) e s.frame.subscriptions refl served
     (AllByRecursion-zip {P = IsStanding s} {Q = λ (f : Subscription). f.number ≤ s.frame.last} {R = Stays s s.frame.sessions es (s.frame.last + 1) es}
-    (λ f x l. record { same = refl; found = find-insert_subscription f.number e f s.frame.subscriptions
-      (eq-le_last f.number s.frame.last l) x.found; before = x })
+    (λ f x l. record {
+      same = refl;
+      found = find-insert_subscription f.number e f s.frame.subscriptions
+          (eq-le_last f.number s.frame.last l) x.found;
+      before = x;
+    })
     s.frame.subscriptions (standing s b) (given_each s.frame.last s.frame.subscriptions b.numbers.given)))
 
 -- the new one is told what it shows, where it shows anything

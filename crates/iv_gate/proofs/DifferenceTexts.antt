@@ -333,7 +333,7 @@ module _ (g : Gate) (e : Event) (b : IsSoundGate g) (m : ℕ) (c d : Client) (x 
           (find-filter_left (λ (w : Sub). own == w.own) (λ (w : Sub). not (ends_in o.lines w.feed)) c.subs s f (ap not goes)))
       by (Some why) q =
           let over_now : ends_in o.lines s.feed ≡ true =
-            over_so ∙ ends_in-subscription_of s.feed g.machine now ends g.machine.frame.subscriptions x0 found (ap is_some q) in
+          over_so ∙ ends_in-subscription_of s.feed g.machine now ends g.machine.frame.subscriptions x0 found (ap is_some q) in
           let none : shown now x0.number ≡ [] = gone x0 why fd.found q (ap (ends_in o.lines) (sym number) ∙ over_now) in
           let was : shown g.machine x0.number ≡ read_by g c own =
           ap (shown g.machine) (sym number) ∙ shown_read g b m c own s.feed x (ap (option_map (λ (w : Sub). w.feed)) f) in
@@ -484,7 +484,7 @@ module _ (adds : Adds) (sounds : Sounds) (exact : (xs ys : List (List Cell)) →
       by : (o : Option ℕ) → followed_by c.subs own ≡ o → sum_for own q (told c) ≡ pos (copies q (read_by g c own))
       by None f = absurd (false≢true (sym (ap is_some f) ∙ h))
       by (Some k) f =
-        (AddsToView-IsSoundGate g b m c own k x f).sum q ∙ sym (ap (λ o. pos (copies q (if_some o [] (λ j. seen g.machine c.role (rel_read g.feeds j))))) f)
+          (AddsToView-IsSoundGate g b m c own k x f).sum q ∙ sym (ap (λ o. pos (copies q (if_some o [] (λ j. seen g.machine c.role (rel_read g.feeds j))))) f)
   sum_before (inr l) q =
       let sound = b.clients m c x.there x.stays in
       sound.later own q l ∙ sym (ap (λ o. pos (copies q (if_some o [] (λ j. seen g.machine c.role (rel_read g.feeds j)))))

@@ -205,7 +205,7 @@ came_other : (g : Gate) (m : ℕ) (token : List ℕ) (j : ℕ) (o : Option Token
 came_other g m token j None e ne = refl
 came_other g m token j (Some t) e ne =
     ap (λ (s : Sign). client_at s.slots j) (sign-came_as g m t) ∙ client_at-set_other m j (Some (mark_of (fresh g.entries t (at_text g t))))
-      (marks_in g.clients) (ne t e)
+    (marks_in g.clients) (ne t e)
 
 came_at : (g : Gate) (m : ℕ) (token : List ℕ) (j : ℕ) (c : Client) → client_at g.clients j ≡ Some c → client_at (marks_in (came g m token).clients) j ≡ Some (mark_of c)
 came_at g m token j c h =
@@ -362,7 +362,7 @@ client_at-came_as g m t free =
 
     free_marks : is_free m (with_session g t.role).clients ≡ true
     free_marks =
-      sym (free_of (with_session g t.role).clients m) ∙ (ap (λ (s : Sign). is_free m s.slots) (sign-with_session g t.role) ∙ (free_of g.clients m ∙ free))
+        sym (free_of (with_session g t.role).clients m) ∙ (ap (λ (s : Sign). is_free m s.slots) (sign-with_session g t.role) ∙ (free_of g.clients m ∙ free))
 
 pub record IsCome (g h : Gate) (m : ℕ) (token : List ℕ) (d : Client) : Type 0 where
   pub from : Token

@@ -172,7 +172,7 @@ module _ (sounds : Sounds) (g : Gate) (b : IsSoundGate g) (m : ℕ) (text : List
           let one : a ≡ c = same-Some a c (sym s ∙ (ap (client_at g.clients) same ∙ t)) in
           let there : client_at asked.clients j ≡ Some (saying text c) =
           ap (λ i. client_at (at_client i (saying text) g.clients) j) same ∙
-            (client_at-at_client j (saying text) g.clients ∙ ap (option_map (saying text)) t) in
+          (client_at-at_client j (saying text) g.clients ∙ ap (option_map (saying text)) t) in
           let p = told_by_it a (saying text c) there live in
           let rest = subs-settling es p.now in
           let then_there : client_at (settles (did a)).clients j ≡ Some (settling es p.now) = client_at-at_all (settling es) (did a).clients j ∙ ap (option_map (settling es)) p.there in
@@ -189,7 +189,7 @@ module _ (sounds : Sounds) (g : Gate) (b : IsSoundGate g) (m : ℕ) (text : List
           let rest = subs-settling es p.now in
           let then_there : client_at (settles (did a)).clients j ≡ Some (settling es p.now) = client_at-at_all (settling es) (did a).clients j ∙ ap (option_map (settling es)) p.there in
           let last : client_at (hears g m a text).clients j ≡ Some (settling es p.now) =
-            client_at-at_other_client m j (answered a) (settles (did a)).clients ne ∙ then_there in
+          client_at-at_other_client m j (answered a) (settles (did a)).clients ne ∙ then_there in
           subst (Hears g (hears g m a text) c) (same-Some (settling es p.now) d (sym last ∙ k))
           (after_calm g (did a) (hears g m a text) c p.now (settling es p.now) refl refl (settled_calm es p.now) rest.0 rest.1 (other_hears g asked.clients (did a) c p.now p.so))
 
@@ -247,7 +247,7 @@ either-gone sounds g b m j c d t k P same turned = test_by (m == j) refl
         ap (λ z. client_at z j) (all_rested_clients sounds i (filter (is_of_role a.role) i.seats) (at_all_swept (λ s seats. IsSoundState s) (Sits-IsSoundState sounds) left ks b.state))
         ∙ (ap (λ z. client_at z j) (clients-all_swept sounds left ks b.state) ∙ (client_at-set_other m j None g.clients ne ∙ t)) in
         turned r.entries (same-Some (settling r.entries c) d
-          (sym (client_at-at_all (settling r.entries) r.clients j ∙ ap (option_map (settling r.entries)) there) ∙ x))
+        (sym (client_at-at_all (settling r.entries) r.clients j ∙ ap (option_map (settling r.entries)) there) ∙ x))
 
     by : (m ≡ j → ⊥) → (o : Option Client) → client_at (if_some o g without).clients j ≡ Some d → P
     by ne None x = same (same_slot g.clients j c d t x)

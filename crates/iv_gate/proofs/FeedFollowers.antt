@@ -143,7 +143,7 @@ kept_sub k ls (x ∷ xs) e h = by (k == x.feed) refl (ends_in ls x.feed) refl h 
 went_followed : (but : ℕ → Bool) (g : Gate) (o : Outcome) (ts : Client → List Told) → AreFollowed but g.feeds g.clients → AreFollowed but (went_on g o ts).feeds (went_on g o ts).clients
 went_followed but g o ts a =
     AllByRecursion-filter_not (λ (f : Feed). but f.number ≡ false → is_followed f.number (at_all hears g.clients) ≡ true)
-      (λ (f : Feed). ends_in o.lines f.number) g.feeds
+    (λ (f : Feed). ends_in o.lines f.number) g.feeds
     (AllByRecursion-map {P = λ (f : Feed). but f.number ≡ false → is_followed f.number g.clients ≡ true}
     {Q = λ (f : Feed). ends_in o.lines f.number ≡ false → but f.number ≡ false → is_followed f.number (at_all hears g.clients) ≡ true}
     (λ f h e n. is_followed-at_all f.number hears g.clients (λ c t. heard f.number c e t) (h n)) g.feeds a)

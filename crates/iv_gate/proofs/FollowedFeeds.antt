@@ -130,7 +130,7 @@ module _ (g : Gate) (m : ℕ) (id : Option Data) (n : ℕ) (role rel : Name) whe
   begun_followed c e a = (
     λ w. is_followed-at_one next_number m (following next_number) told_slots (told_one g.entries next_told c)
         (client_at-at_client m (told_one g.entries next_told) g.clients ∙ ap (option_map (told_one g.entries next_told)) e)
-          (new_follows (told_one g.entries next_told c)),
+        (new_follows (told_one g.entries next_told c)),
     AllByRecursion-map {P = λ (x : Feed). none_but x.number ≡ false → is_followed x.number g.clients ≡ true}
         {Q = λ (x : Feed). none_but x.number ≡ false → is_followed x.number (at_client m (following next_number) told_slots) ≡ true}
         (λ x f w. is_followed-at_client x.number m (following next_number) told_slots (λ d i v. old_follows x.number d v)
@@ -171,7 +171,7 @@ module _ (g : Gate) (m : ℕ) (id : Option Data) (n : ℕ) (role rel : Name) whe
       client_at-one_changed (λ i d. Fits next_number (next_feed ∷ g.feeds) d) m (following next_number) told_slots
       (λ d h.
       let o =
-        IsFrom-option_map (told_one g.entries next_told) (client_at g.clients m) d (sym (client_at-at_client m (told_one g.entries next_told) g.clients) ∙ h) in
+      IsFrom-option_map (told_one g.entries next_told) (client_at g.clients m) d (sym (client_at-at_client m (told_one g.entries next_told) g.clients) ∙ h) in
       asker_fits d (ap (λ (x : Client). x.role) (sym o.same) ∙ (ap (λ (x : Client). x.role) (same-Some o.old c (sym o.there ∙ e)) ∙ same)) b (told m d h))
       (λ i d ne h. older_fits d (told i d h))
 
@@ -359,7 +359,7 @@ using_swept ks g k a = by (is_followed k g.clients) refl (feed_of g.feeds k) ref
     }
     by false h None e = record {
       followed = AllByRecursion-zip {P = λ (f : Feed). but_of (k ∷ ks) f.number ≡ false → is_followed f.number g.clients ≡ true} {Q = λ (f : Feed).
-        (k == f.number) ≡ false}
+          (k == f.number) ≡ false}
           {R = λ (f : Feed). but_of ks f.number ≡ false → is_followed f.number g.clients ≡ true} (λ f v q w. v (λ i. q i || w i)) g.feeds a.followed (none_found k g.feeds e);
       fit = a.fit;
     }
@@ -367,7 +367,7 @@ using_swept ks g k a = by (is_followed k g.clients) refl (feed_of g.feeds k) ref
         let same : k ≡ x.number = eqb-true k x.number (true-find (λ (f : Feed). k == f.number) g.feeds x e) in
         IsUsing-shut (but_of ks) g x
         (AllByRecursion-filter_not (λ (f : Feed). but_of ks f.number ≡ false → is_followed f.number g.clients ≡ true)
-          (λ (f : Feed). x.number == f.number) g.feeds
+        (λ (f : Feed). x.number == f.number) g.feeds
         (AllByRecursion-map {P = λ (f : Feed). but_of (k ∷ ks) f.number ≡ false → is_followed f.number g.clients ≡ true} {Q = λ (f : Feed). (x.number == f.number) ≡ false → but_of ks f.number ≡ false → is_followed f.number g.clients ≡ true}
         (λ f v q w. v (λ i. (ap (λ j. j == f.number) same ∙ q) i || w i)) g.feeds a.followed)) a.fit
 
@@ -466,7 +466,7 @@ using_hears adds sounds g m c text t says even b a =
     using_one none_but (settles (done_for asked m c text (said_by text))) m (answered c) (λ d. refl) (λ d. refl)
     (using_settles (done_for asked m c text (said_by text))
     (using_done adds sounds asked m c text (said_by text) (saying text c) c.given
-      (client_at-at_client m (saying text) g.clients ∙ ap (option_map (saying text)) t) refl
+    (client_at-at_client m (saying text) g.clients ∙ ap (option_map (saying text)) t) refl
     (record { role = refl; before = c.messages; messages = refl; pending = even }) refl (b.clients m c t live).own
     (IsSoundGate-at_client g m (saying text) (λ d e l. IsSoundClient-said g.machine g.feeds (seer d) text (b.clients m d e l)) b) (using_one none_but g m (saying text) (λ d. refl) (λ d. refl) a)))
 

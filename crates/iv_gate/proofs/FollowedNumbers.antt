@@ -146,7 +146,7 @@ HearsFollowed-IsSoundGate adds sounds g e b m c d x y own h = by (HearsBy-next s
     by : HearsBy g e c d → (is_some (followed_by c.subs own) ≡ true) ⊎ ((c.given < own) × (own ≤ d.given))
     by (heard n a) = by_event a
     by (untaken n k same) =
-      absurd (false≢true (sym (ap (list_any (is_told_of own)) (told_by-append c d [] (ap told (sym same) ∙ sym (append-nil (told c))))) ∙ h))
+        absurd (false≢true (sym (ap (list_any (is_told_of own)) (told_by-append c d [] (ap told (sym same) ∙ sym (append-nil (told c))))) ∙ h))
     by (taken s q a) = by_step s a (list_any (λ (z : Sub). own == z.own) c.subs) refl
 
 -- ---- the lines of a command that changes what is shared
@@ -178,7 +178,7 @@ cause_after s n act f why l h b e =
     let known : role_of new.frame.rights f.role ≡ Some b.acts.place = l.roles f.role b.acts.place b.acts.known in
     let session : session_of new.frame.sessions f.session ≡ Some (record { number = f.session; role = b.acts.place }) =
     l.sessions f.session (record { number = f.session; role = b.acts.place })
-      (not_finish-is_kept (in_session n act) f.session (shared_kept act h)) b.acts.session in
+    (not_finish-is_kept (in_session n act) f.session (shared_kept act h)) b.acts.session in
     let entry = Some-is_some (named s.frame.catalog f.rel) b.known in
     let role : role_number new.frame.rights f.role ≡ actor (after s n act).frame f.session =
     ap (λ o. unwrap_or o (length new.frame.rights.roles)) known ∙ sym (ap (λ o. unwrap_or (option_map (λ (x : Session). x.role) o) (length new.frame.rights.roles)) session) in
@@ -238,7 +238,7 @@ module _ (s : State) (n : ℕ) (act : Act) (h : is_shared act ≡ true) (u : Are
       let L = line_for s now (ending_by act (after s n act)) in
       subst (λ es. AllByRecursion (IsLineOf s now) (flat_map L es)) (sym (subscriptions-after s n act h))
       (AllByRecursion-flat_map (IsLineOf s now) L s.frame.subscriptions
-        (AllByRecursion-map (λ e f. line_is l e f) s.frame.subscriptions (AllByRecursion-subscription_of s.frame.subscriptions u)))
+      (AllByRecursion-map (λ e f. line_is l e f) s.frame.subscriptions (AllByRecursion-subscription_of s.frame.subscriptions u)))
 
 lines_by : Sounds → (s : State) (k : Command) (o : Option Refusal) → refusal s k.session k.act ≡ o → is_shared k.act ≡ true → AreUnique s.frame.subscriptions → AllByRecursion (IsLineOf s (outcome s k o).state) (outcome s k o).lines
 lines_by sounds s k (Some r) e h u = (tt, tt)
@@ -311,7 +311,7 @@ module _ (g : Gate) (e : Event) (b : IsSoundGate g) (c d : Client) (o : Outcome)
             followed = ap (option_map (λ (w : Sub). w.feed)) z.found ∙ ap Some (sym same);
             relation = refl;
             cause = (λ i. hindrance (a.machine i) (sym y.role i) (rel i)) ∙ x y.feed
-              (AllByRecursion-feed_of (IsFeed g.machine) g.feeds k y.feed b.feeds there) number;
+                (AllByRecursion-feed_of (IsFeed g.machine) g.feeds k y.feed b.feeds there) number;
           }
 
       by : (t : Bool) → (k == s.feed) ≡ t → AllByRecursion (IsEndTold g e c) (cond t (over s.own (rel_read g.feeds k) why rows ∷ []) [])

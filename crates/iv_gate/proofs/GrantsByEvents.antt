@@ -188,7 +188,7 @@ module _ (adds : Adds) (starts : Starts) (sounds : Sounds) (gives : GrantsGive) 
       let s = g.machine in let k = a.command in
       let z : refusal s k.session k.act ≡ None = None-is_accepted s k (refusal s k.session k.act) h in
       let seat =
-        Some-is_some (seat_of g.seats c.role) ((IsKept-Runs adds starts sounds cap g r).shared.seated c.role (has_role-client_at g.clients m c x.there)) in
+      Some-is_some (seat_of g.seats c.role) ((IsKept-Runs adds starts sounds cap g r).shared.seated c.role (has_role-client_at g.clients m c x.there)) in
       let acts = ActsAs-seat_of g sound c.role seat.0 seat.1 in
       let known = subst (λ o. role_of (outcome s k o).state.frame.rights c.role ≡ Some acts.place) z ((sounds.lasts s k).roles c.role acts.place acts.known) in
       let well : is_well_act k.act ≡ true = ap is_well_message (sym a.said.2) ∙ is_well_message-said_by reads a.said.0 in

@@ -219,7 +219,7 @@ module _ (sounds : Sounds) (g : Gate) (b : IsSoundGate g) (m : ℕ) (text : List
   own_ends : (c d : Client) → client_at g.clients m ≡ Some c → c.owed ≡ false → client_at (hears g m c text).clients m ≡ Some d → Ends c d
   own_ends c d t o k =
       let there : client_at (asked g m text).clients m ≡ Some (saying text c) =
-        client_at-at_client m (saying text) g.clients ∙ ap (option_map (saying text)) t in
+      client_at-at_client m (saying text) g.clients ∙ ap (option_map (saying text)) t in
       let p = heard_ends c m (saying text c) there o in
       let last : client_at (hears g m c text).clients m ≡ Some (answered c p.now) = client_at-at_client m (answered c) (settles (did c)).clients ∙ ap (option_map (answered c)) p.there in
       let x : Ends c p.now = record { more = p.so.more; text = p.so.text; ends = p.so.ends; owed = p.so.owed } in
@@ -380,4 +380,4 @@ pub IsSettledBy-Runs : Adds → Starts → Sounds → (cap : ℕ) (g : Gate) (e 
     → ByClient g e (λ m c d. IsSettledBy e (told_by c d))
 IsSettledBy-Runs adds starts sounds cap g e r live m c d x y =
     (next_told sounds g e (IsSoundGate-Runs adds starts sounds cap g r) live m c d x.there
-      (runs_owe adds starts sounds cap g r m c x.there) y.there).told y.stays
+    (runs_owe adds starts sounds cap g r m c x.there) y.there).told y.stays

@@ -103,7 +103,7 @@ goes_further g e k = by g.dead refl
   where
     by : (b : Bool) → g.dead ≡ b → GoesFurther g (next g e)
     by true d =
-      subst (GoesFurther g) (sym (next-dead g e d)) (record { head = refl; entries = IsFront-itself g.entries; kept = IsFront-itself (take g.kept g.entries) })
+        subst (GoesFurther g) (sym (next-dead g e d)) (record { head = refl; entries = IsFront-itself g.entries; kept = IsFront-itself (take g.kept g.entries) })
     by false d =
         let m = marks-next g e d in let grown = entries-next g e d in
         let more = IsFront-take_take g.kept (marks_behind g e).kept (g.entries ++ added_by g e) (kept_more g e k) in

@@ -164,7 +164,7 @@ pub ends_in-subscription_of : (k : ℕ) (old new : State) (ends : Subscription �
 ends_in-subscription_of k old new ends [] x h w = absurd (not_None-Some x (sym h))
 ends_in-subscription_of k old new ends (e ∷ es) x h w =
     list_any-append (is_end k) (line_for old new ends e) (flat_map (line_for old new ends) es) ∙ by (k == e.number) refl h
-      (λ f. ends_in-subscription_of k old new ends es x f w)
+    (λ f. ends_in-subscription_of k old new ends es x f w)
   where
     one : (o : Option Cause) → is_some o ≡ true → (k == e.number) ≡ true → list_any (is_end k) (lines_told o e (difference (shown old e.number) (shown new e.number))) ≡ true
     one None v q = absurd (false≢true v)

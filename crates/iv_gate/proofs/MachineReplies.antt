@@ -328,7 +328,7 @@ verdict_true : (g : Gate) (c : Client) (id : Option Data) (q : Request) (a : Ask
 verdict_true g c id q a _ (is_carried w) role shared seat b = named_true g c id q a role shared seat b
 verdict_true g c id q a _ (is_again x f t) role shared seat b =
     subst (λ at. IsNamedReply g c id q a (answered id true at x.answer) []) (sym (place_text-place_behind g a.holder))
-      (is_repeated x.answer (IsAnswer-find_named g a x f t))
+    (is_repeated x.answer (IsAnswer-find_named g a x f t))
 verdict_true g c id q a _ (is_another x f t) role shared seat b = is_left 101 (IsUndecided-other_digest g a x f t)
 verdict_true g c id q a _ (is_late t) role shared seat b = is_left 102 (IsUndecided-late g a t)
 verdict_true g c id q a _ (is_foreign t) role shared seat b = is_left 103 (IsUndecided-other_epoch g a t)

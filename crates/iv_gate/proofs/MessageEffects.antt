@@ -207,7 +207,7 @@ refused_clients : (g : Gate) (m : ℕ) (id : Option Data) (n : ℕ) (rel : Name)
 refused_clients g m id n rel r e =
     let k = in_session n (subscribe rel) in
     ap (λ (x : Gate). x.clients) (ran-one_line (tells g m (replied id (refused r))) k n (refused r) (ap (λ o. (outcome g.machine k o).lines) e)
-      (λ f role. refl))
+    (λ f role. refl))
 
 module _ (sounds : Sounds) (g : Gate) (m : ℕ) (c : Client) where
   unmoved : (h : Gate) → IsMoved m h h

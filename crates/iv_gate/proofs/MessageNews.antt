@@ -260,7 +260,7 @@ module _ (g : Gate) (m : ℕ) (a0 : Client) (h : Gate) (r : HasRead g m a0 h) wh
       by false q =
           let ne = eqb-false m j q in
           let second : client_at h0.clients j ≡ Some x =
-            client_at-at_other_client m j (following t) slots ne ∙ (client_at-at_other_client m j ask i.clients ne ∙ was) in
+          client_at-at_other_client m j (following t) slots ne ∙ (client_at-at_other_client m j ask i.clients ne ∙ was) in
           let third : client_at (ran h0 k).clients j ≡ Some (hears x) = client_at-at_all hears h0.clients j ∙ ap (option_map hears) second in
           record {
             now = hears x;
@@ -446,7 +446,7 @@ Later-IsDone_subs g m a h b (answers r) j x t asker few = by (m == j) refl
           so = omega (arith, l, few);
         }
     by false q =
-      record { now = x; there = ap (λ z. client_at z j) r.clients ∙ (client_at-at_other_client m j r.change g.clients (eqb-false m j q) ∙ t); so = few }
+        record { now = x; there = ap (λ z. client_at z j) r.clients ∙ (client_at-at_other_client m j r.change g.clients (eqb-false m j q) ∙ t); so = few }
 Later-IsDone_subs g m a h b (asks id q name n s said same) j x t asker few =
     subst (λ i. Later (λ n c d. length d.subs ≤ most_subs) i.clients j x) (sym same) (bounded_request g m id q name n s said j x t few)
 Later-IsDone_subs g m a h b (opens r) j x t asker few = bounded_subscribe g m a h r j x t asker few

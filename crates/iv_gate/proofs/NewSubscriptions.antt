@@ -87,7 +87,7 @@ module _ (g : Gate) (role rel : Name) (n : ℕ) where
       record {
         own = AreOwn-push c.given (g.machine.frame.last + 1) c.subs a.own;
         follows =
-          AllByRecursion-pushed (IsFollowing g.machine (new_feed ∷ g.feeds) (seer d)) c.subs (record { own = c.given + 1; feed = g.machine.frame.last + 1 })
+            AllByRecursion-pushed (IsFollowing g.machine (new_feed ∷ g.feeds) (seer d)) c.subs (record { own = c.given + 1; feed = g.machine.frame.last + 1 })
             (AllByRecursion-map {P = IsFollowing g.machine g.feeds (seer c)} {Q = IsFollowing g.machine (new_feed ∷ g.feeds) (seer d)}
             (λ x y. record { feed = y.feed; found = older b x.feed y.feed y.found; role = y.role; asked = y.asked; goes_on = y.goes_on; sum = y.sum }) c.subs a.follows)
             (record {
@@ -175,7 +175,7 @@ told_new : (g : Gate) (m : ℕ) (id : Option Data) (role rel : Name) (columns : 
 told_new g m id role rel columns same c h =
     let t = opened id (next_own g m) columns in
     client_at-one_changed (λ i x. i ≡ m → IsTold x role rel) m (told_one g.entries t) g.clients (λ x e _. one x e)
-      (λ i x ne e s. absurd (ne (sym s))) m c h refl
+    (λ i x ne e s. absurd (ne (sym s))) m c h refl
   where
     one : (x : Client) → client_at g.clients m ≡ Some x → IsTold (told_one g.entries (opened id (next_own g m) columns) x) role rel
     one x e =

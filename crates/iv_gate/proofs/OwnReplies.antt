@@ -434,7 +434,7 @@ answers_begun g h s id n role rel m c b (subscribed t) x e =
     record {
       now = following t (f b);
       there =
-        client_at-at_client m (following t) (at_client m f h.clients) ∙ ap (option_map (following t)) (client_at-at_client m f h.clients ∙ ap (option_map f) e);
+          client_at-at_client m (following t) (at_client m f h.clients) ∙ ap (option_map (following t)) (client_at-at_client m f h.clients ∙ ap (option_map f) e);
       so = subst (λ i. Answer g s (opened id (c.given + 1) (columns_in h.machine rel)) c (following t (told_one h.entries (opened id i (columns_in h.machine rel)) b))) (sym o)
           (answer_opened g s h.entries id (columns_in h.machine rel) t c b x);
     }

@@ -134,7 +134,7 @@ joined_sound adds sounds g m t k alone b = by (feed_of g.feeds t) (feed_of g.fee
           seats = b.seats;
           feeds = b.feeds;
           clients =
-            λ j c e live. client_at-one_changed (λ i z. z.dropped ≡ false → IsSoundClient g.machine g.feeds (seer z)) m (moved x.number y.number) g.clients
+              λ j c e live. client_at-one_changed (λ i z. z.dropped ≡ false → IsSoundClient g.machine g.feeds (seer z)) m (moved x.number y.number) g.clients
               (λ z h l. moved_sound g.machine g.feeds x y z (found_number g.feeds t x tx) (found_number g.feeds k y ky) role rel views (b.clients m z h l)) (λ i z ne h l. b.clients i z h l) j c e live;
         })
 
@@ -153,7 +153,7 @@ new_alone g m id n role rel b j c ne e live =
     let x = o.old in
     let before : client_at g.clients j ≡ Some x =
     sym (client_at-at_other_client m j (following (g.machine.frame.last + 1)) (tells g m told).clients ne ∙ client_at-at_other_client m j
-      (told_one g.entries told) g.clients ne) ∙ o.there in
+    (told_one g.entries told) g.clients ne) ∙ o.there in
     let stays : x.dropped ≡ false = sym (dropped-telling h.entries (told_of h (subscribe rel) (step h.machine k) x) x) ∙ (ap (λ (y : Client). y.dropped) o.same ∙ live) in
     let a = b.clients j x before stays in
     let nots : AllByRecursion (λ (s : Sub). (t == s.feed) ≡ false) x.subs =

@@ -86,7 +86,7 @@ fed_by : (s : State) (k : Command) (feeds : List Feed) (o : Option Refusal) → 
     → ((r : Refusal) → o ≡ Some r → AllByRecursion (IsFed feeds) s.frame.subscriptions) → AllByRecursion (IsFed (feeds_left (outcome s k o).lines feeds)) (outcome s k o).state.frame.subscriptions
 fed_by s k feeds (Some r) u a b = AllByRecursion-map {P = IsFed feeds} {Q = IsFed (feeds_left (outcome s k (Some r)).lines feeds)}
     (λ e x. record { feed = x.feed; found = feed_of-filter (λ j. false) e.number x.feed feeds x.found refl; session = x.session }) s.frame.subscriptions
-      (b r refl)
+    (b r refl)
 fed_by s k feeds None u a b = fed_settled s k.session k.act feeds u (a refl)
 
 fed_step : (s : State) (k : Command) (feeds : List Feed) → AreNumbersUnique s.frame → (refusal s k.session k.act ≡ None → AllByRecursion (IsFed feeds) (after_subscriptions s.frame k.session k.act))
@@ -237,7 +237,7 @@ fed_looked s t feeds u a =
     let now = among s t in let new = (looked_at s now).state in let es = s.frame.subscriptions in let ls = flat_map (line_for s new (ending now)) es in
     AllByRecursion-filter_not (IsFed (feeds_left ls feeds)) (λ e. is_some (ending now e)) es
     (AllByRecursion-zip {P = λ e. subscription_of es e.number ≡ Some e} {Q = IsFed feeds} {R = λ e. is_some (ending now e) ≡ false → IsFed
-      (feeds_left ls feeds) e}
+    (feeds_left ls feeds) e}
     (λ e h b stays. fed_left s new (ending now) feeds es e u h b stays) es (subscription_of-each es u) a)
 
 pub IsShared-stepped : Sounds → (g : Gate) (es : List Entry) (fs : List Fact) (o : Outcome) (ts : Client → List Told) → stepped fs g.machine ≡ Some o → IsSoundState g.machine → IsShared g

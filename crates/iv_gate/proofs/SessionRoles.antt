@@ -128,7 +128,7 @@ module _ (sounds : Sounds) where
             b,
             others,
             AllByRecursion-zip {P = λ (x : Seat). (s.session == x.session) ≡ true → x.role ≡ s.role} {Q = λ (x : Seat). IsAmong
-              (s ∷ ss) x ≡ false → is_needed g x ≡ true}
+                (s ∷ ss) x ≡ false → is_needed g x ≡ true}
                 {R = λ (x : Seat). IsAmong ss x ≡ false → is_needed g x ≡ true} (λ x one w. stays n x one w) g.seats alone a,
           )
       by false n =
@@ -216,7 +216,7 @@ role_lasts : (g : Gate) (e : Event) → g.dead ≡ false → ((m : ℕ) → is_g
 role_lasts g e live n role h =
     let x = IsThere-list_any (λ c. bytes_eq c.role role) g.clients h in let k = (AreTouched-next g e live).stays x.number x.client x.there (n x.number) in
     of_role (next g e).clients x.number k.now role k.there
-      (ap (λ y. y.role) k.card ∙ ((role-card_behind x.number x.client e).0 ∙ same-bytes_eq x.client.role role x.so))
+    (ap (λ y. y.role) k.card ∙ ((role-card_behind x.number x.client e).0 ∙ same-bytes_eq x.client.role role x.so))
 
 all_behind : (R : Name → Type 0) (g : Gate) (xs : List Seat) → IsBehind R g xs → AllByRecursion (λ (s : Seat). R s.role) g.seats → AllByRecursion (λ (s : Seat). R s.role) xs
 all_behind R g _ (stayed stays) a = AllByRecursion-filter (λ (s : Seat). R s.role) stays g.seats a

@@ -100,7 +100,7 @@ kept_rested g s a b k = by (is_needed g s) refl
     by : (t : Bool) → (has_role s.role g.clients || list_any (λ (f : Feed). s.session == f.session) g.feeds) ≡ t → IsKept (cond t g (ran (record g { seats = without_seat s.session g.seats }) (in_session s.session finish)))
     by true h = k
     by false h =
-      record { shared = IsShared-finish g s a (or-both_false (has_role s.role g.clients) _ h).0 b.state.numbers k.shared; few = AreFew-filter _ g.feeds k.few }
+        record { shared = IsShared-finish g s a (or-both_false (has_role s.role g.clients) _ h).0 b.state.numbers k.shared; few = AreFew-filter _ g.feeds k.few }
 
 alone_left : (g : Gate) (x s : Seat) → IsAlone x g.seats → IsAlone x (rested g s).seats
 alone_left g x s a = by (is_needed g s)
@@ -138,7 +138,7 @@ kept_joins : Adds → Sounds → (g : Gate) (m : ℕ) (id : Option Data) (f : Fe
 kept_joins adds sounds g m id f acts same there s b = record {
   shared = kept_joined_by (subscribes g m id f.session f.role f.rel) m f.number (reply_to g (in_session f.session (subscribe f.rel)))
       (IsSoundGate-subscribes adds sounds g m id f.session f.role f.rel acts same s)
-        (IsShared-subscribes g m id f.session f.role f.rel s.state.numbers b.shared);
+      (IsShared-subscribes g m id f.session f.role f.rel s.state.numbers b.shared);
   few = AreFew-joins g m id f s b.few there;
 }
 

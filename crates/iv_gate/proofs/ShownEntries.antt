@@ -192,12 +192,12 @@ went_shows g m j c d ne h k =
     (λ x. record { entries = x.entries; clients = follow_start g.entries left })
     (record { entries = refl; clients = λ n a t. was n a t (m == n) refl }) in
     subst (λ z. IsShowing z false c d) (sym b.entries)
-      (followed_by g.entries (went g m).clients j c d (b.clients j c (client_at-set_other m j None g.clients ne ∙ h)) k)
+    (followed_by g.entries (went g m).clients j c d (b.clients j c (client_at-set_other m j None g.clients ne ∙ h)) k)
   where
     was : (n : ℕ) (a : Client) → client_at (set g.clients m None) n ≡ Some a → (t : Bool) → (m == n) ≡ t → Follows g.entries g.clients n a
     was n a t true e = absurd (not_None-Some a (sym t ∙ (ap (λ i. client_at (set g.clients i None) n) (eqb-true m n e) ∙ client_at-set_None n g.clients)))
     was n a t false e =
-      record { now = a; there = sym (client_at-set_other m n None g.clients (eqb-false m n e)) ∙ t; so = told_same g.entries a a refl refl refl }
+        record { now = a; there = sym (client_at-set_other m n None g.clients (eqb-false m n e)) ∙ t; so = told_same g.entries a a refl refl refl }
 
 -- a message
 
@@ -256,7 +256,7 @@ heard_shows g m text j b c d t say h k = by (m == j) refl
         let p = reaches j (saying text c) (ap (λ i. client_at (at_client i (saying text) g.clients) j) same ∙ (client_at-at_client j (saying text) g.clients ∙ ap (option_map (saying text)) h)) in
         let there : client_at (at_client m (answered b) did.clients) j ≡ Some (answered b p.now) =
         ap (λ i. client_at (at_client i (answered b) did.clients) j) same ∙
-          (client_at-at_client j (answered b) did.clients ∙ ap (option_map (answered b)) p.there) in
+        (client_at-at_client j (answered b) did.clients ∙ ap (option_map (answered b)) p.there) in
         let it : answered c p.now ≡ d = ap (λ z. answered z p.now) (sym one) ∙ same-Some (answered b p.now) d (sym there ∙ k) in
         let is : true ≡ is_some (heard_by j c (message m text)) =
         sym ((λ i. is_some (cond (e i && ap may_say (sym one) i) (Some text) None)) ∙ ap (λ z. is_some (cond (true && z) (Some text) None)) say) in
@@ -267,7 +267,7 @@ heard_shows g m text j b c d t say h k = by (m == j) refl
         let p = reaches j c (client_at-at_other_client m j (saying text) g.clients ne ∙ h) in
         let is : false ≡ is_some (heard_by j c (message m text)) = sym (ap (λ z. is_some (cond (z && may_say c) (Some text) None)) e) in
         subst (λ z. IsShowing did.entries z c d) is
-          (followed_by did.entries did.clients j c d p (sym (client_at-at_other_client m j (answered b) did.clients ne) ∙ k))
+        (followed_by did.entries did.clients j c d p (sym (client_at-at_other_client m j (answered b) did.clients ne) ∙ k))
 
 said_shows : (g : Gate) (m : ℕ) (text : List ℕ) (j : ℕ) (c d : Client) → client_at g.clients j ≡ Some c → client_at (said g m text).clients j ≡ Some d
     → IsShowing (said g m text).entries (is_some (heard_by j c (message m text))) c d
@@ -365,7 +365,7 @@ next_shows g e j c d h k s = by g.dead refl
   where
     by : (b : Bool) → g.dead ≡ b → IsShowing (next g e).entries (is_some (heard_by j c e)) c d
     by true q =
-      same_client (next g e).entries (is_some (heard_by j c e)) g.clients j c d h (ap (λ (x : Gate). client_at x.clients j) (sym (next-dead g e q)) ∙ k)
+        same_client (next g e).entries (is_some (heard_by j c e)) g.clients j c d h (ap (λ (x : Gate). client_at x.clients j) (sym (next-dead g e q)) ∙ k)
     by false q =
         subst (λ (x : Gate). IsShowing x.entries (is_some (heard_by j c e)) c d) (sym (is_alive g e q))
         (happens_shows g e j c d h (ap (λ (x : Gate). client_at x.clients j) (sym (is_alive g e q)) ∙ k) s)

@@ -140,7 +140,7 @@ seer-telling es [] c = ap (λ z. record (seer c) { told = z }) (sym (append-nil 
 seer-telling es (t ∷ ts) c =
     seer-telling es ts (told_one es t c)
     ∙ (ap (λ (v : Seer). record v { told = v.told ++ ts }) (seer-told_one es t c) ∙ ap (λ z. record (seer c) { told = z })
-      (append-associative (told c) (t ∷ []) ts))
+    (append-associative (told c) (t ∷ []) ts))
 
 -- ---- what keeps views
 
@@ -172,7 +172,7 @@ IsAskedIn-told messages ts us own rel a = record {
   there = a.there;
   asks = a.asks;
   reply =
-    ap (λ z. slice_get z (a.place + 1)) (replies-append ts us) ∙ slice_get-append (replies ts) (replies us) (a.place + 1) (opened a.id own a.columns) a.reply;
+      ap (λ z. slice_get z (a.place + 1)) (replies-append ts us) ∙ slice_get-append (replies ts) (replies us) (a.place + 1) (opened a.id own a.columns) a.reply;
 }
 
 pub IsAskedIn-said : (messages : List (List ℕ)) (text : List ℕ) (ts : List Told) (own : ℕ) (rel : Name) → IsAskedIn messages ts own rel → IsAskedIn (messages ++ text ∷ []) ts own rel
@@ -394,7 +394,7 @@ client_moves s o feeds v more moves weighs ends b = record {
     -- each that it followed adds up to what is shown now
     all_to : AllByRecursion (λ (x : Sub). (q : List Cell) → sum_for x.own q (v.told ++ (own_lines feeds o.lines v.subs ++ more)) ≡ pos (copies q (shown o.state x.feed))) v.subs
     all_to =
-      AllByRecursion-zip {P = IsFollowing s feeds v} {Q = λ x. (q : List Cell) → sum_for x.own q (own_lines feeds o.lines v.subs) ≡ held x.feed q o.lines}
+        AllByRecursion-zip {P = IsFollowing s feeds v} {Q = λ x. (q : List Cell) → sum_for x.own q (own_lines feeds o.lines v.subs) ≡ held x.feed q o.lines}
         {R = λ x. (q : List Cell) → sum_for x.own q (v.told ++ (own_lines feeds o.lines v.subs ++ more)) ≡ pos (copies q (shown o.state x.feed))}
         (λ x a c q. adds_to x a c q) v.subs b.follows (sum_for-own_lines feeds ls v.given v.subs b.own)
 

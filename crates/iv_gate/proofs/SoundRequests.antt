@@ -103,7 +103,7 @@ IsSoundGate-seated adds sounds g role n h b =
       state = b.state;
       seats = AllByRecursion-pushed (λ (x : Seat). ActsAs (step g.machine k).state x.session x.role) g.seats s (AllByRecursion-map (λ x y. ActsAs-step sounds g.machine k x.session x.role refl y) g.seats b.seats) (ActsAs-begun_for sounds g role n h);
       feeds =
-        AllByRecursion-map {P = IsFeed g.machine} {Q = λ (f : Feed). ends_in (step g.machine k).lines f.number ≡ false → IsFeed (step g.machine k).state f}
+          AllByRecursion-map {P = IsFeed g.machine} {Q = λ (f : Feed). ends_in (step g.machine k).lines f.number ≡ false → IsFeed (step g.machine k).state f}
           (λ f y e. IsFeed-step sounds g.machine k f b.state.numbers refl (Spares-closes_none g.machine k f.number refl) e y) g.feeds b.feeds;
       spared = λ j f e. Spares-closes_none g.machine k j refl;
       clients = b.clients;

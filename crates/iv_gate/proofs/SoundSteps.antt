@@ -119,7 +119,7 @@ spared_sound adds sounds g k a feeds spared b = IsSoundGate-IsReady adds sounds 
 pub IsSoundGate-ran : Adds → Sounds → (g : Gate) (k : Command) → closes_none k.act ≡ true → IsSoundGate g → IsSoundGate (ran g k)
 IsSoundGate-ran adds sounds g k h b =
     spared_sound adds sounds g k (kept_too k.act h) (AllByRecursion-always (λ (f : Feed). Spares-closes_none g.machine k f.number h) g.feeds)
-      (λ j f e. Spares-closes_none g.machine k j h) b
+    (λ j f e. Spares-closes_none g.machine k j h) b
 
 -- ---- one client
 
@@ -176,7 +176,7 @@ IsSoundGate-at_client g m f k b = record {
   seats = b.seats;
   feeds = b.feeds;
   clients = λ j c h live. client_at-one_changed (λ i x. x.dropped ≡ false → IsSoundClient g.machine g.feeds (seer x)) m f g.clients k
-    (λ i x ne e. b.clients i x e) j c h live;
+      (λ i x ne e. b.clients i x e) j c h live;
 }
 
 pub every_sound : (g : Gate) (f : Client → Client) → ((m : ℕ) (c : Client) → client_at g.clients m ≡ Some c → (f c).dropped ≡ false → IsSoundClient g.machine g.feeds (seer (f c)))
@@ -193,7 +193,7 @@ every_sound g f k b = record {
 pub IsSoundGate-tells : (g : Gate) (m : ℕ) (t : Told) → IsQuiet t → IsSoundGate g → IsSoundGate (tells g m t)
 IsSoundGate-tells g m t w b = IsSoundGate-at_client g m (told_one g.entries t)
     (λ c h live. subst (IsSoundClient g.machine g.feeds) (sym (seer-told_one g.entries t c))
-      (client_told g.machine g.feeds (seer c) t w (b.clients m c h live))) b
+    (client_told g.machine g.feeds (seer c) t w (b.clients m c h live))) b
 
 quiet_settled : IsQuiet settled
 quiet_settled = record { weighs = λ own q. refl; goes_on = λ own. refl }
@@ -229,7 +229,7 @@ IsSoundGate-informs g es b = every_sound g (λ c. telling g.entries (shape_for c
     (λ m c h live. let ts = shape_for c.role es in
     subst (IsSoundClient g.machine g.feeds) (sym (seer-telling g.entries ts c))
     (IsSoundClient-told g.machine g.feeds ts (seer c) (all_made IsQuiet quiet_made c.role es)
-      (b.clients m c h (sym (dropped-telling g.entries ts c) ∙ live)))) b
+    (b.clients m c h (sym (dropped-telling g.entries ts c) ∙ live)))) b
 
 pub IsSoundGate-ticking : (g : Gate) → IsSoundGate g → IsSoundGate (ticking g)
 IsSoundGate-ticking g b = every_sound g (beating g.entries)

@@ -287,7 +287,7 @@ name_opened g m token t h = by (token_of g.tokens (sha256 token)) h
   where
     test : (r : Token) (b : Bool) → (is_name r.role && (is_free m g.clients && has_session g r.role)) ≡ b → cond b (Some r) None ≡ Some t → is_name t.role ≡ true
     test r true x e =
-      ap (λ (z : Token). is_name z.role) (sym (same-Some r t e)) ∙ (and-both_true (is_name r.role) (is_free m g.clients && has_session g r.role) x).0
+        ap (λ (z : Token). is_name z.role) (sym (same-Some r t e)) ∙ (and-both_true (is_name r.role) (is_free m g.clients && has_session g r.role) x).0
     test r false x e = absurd (not_None-Some t (sym e))
 
     by : (o : Option Token) → option_and_then (λ (r : Token). cond (is_name r.role && (is_free m g.clients && has_session g r.role)) (Some r) None) o ≡ Some t → is_name t.role ≡ true

@@ -67,7 +67,7 @@ grown g m c d text t e =
     let done = done_for (asked g m text) m c text (said_by text) in
     let p = to_then m (λ i x y. Grown x y) (Kit-Grown m) (asked g m text).clients done.clients (settles done).clients
     (to_done m (λ i x y. Grown x y) (Kit-Grown m) (asked g m text) c text (said_by text)) (to_settles m (λ i x y. Grown x y) (Kit-Grown m) done) m
-      (saying text c)
+    (saying text c)
     (client_at-asked g m c text t) in
     let x : Grown (saying text c) d = subst (Grown (saying text c)) (same-Some p.now d (sym p.there ∙ e)) p.so in
     record { more = x.more; handed = x.handed; sendable = x.sendable; unsynced = x.unsynced }

@@ -163,7 +163,7 @@ empty_for (n ∷ ns) role h = by (λ k. empty_for ns role k) (bytes_eq n.role ro
 pub nobody_hears : (ns : List Newly) (places : Places) → list_all (λ n. length n.text == 0) ns ≡ true → places ≡ at_all (hearing_newly ns) places
 nobody_hears ns places h =
     at_all-identity places ∙ at_all-same (λ k. k) (hearing_newly ns)
-      (λ k. ap (λ b. cond b k (holding (text_for ns k.role) k)) (sym (empty_for ns k.role h))) places
+    (λ k. ap (λ b. cond b k (holding (text_for ns k.role) k)) (sym (empty_for ns k.role h))) places
 
 -- ---- what is new
 

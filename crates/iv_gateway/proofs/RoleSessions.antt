@@ -54,7 +54,7 @@ pub is_needed-has_role : (g : Gate) (s : Seat) (places : Places) (a : Bool) → 
     → a ≡ is_needed g s
 is_needed-has_role g s places a b e h =
     h ∙ ap (λ z. z || list_any (λ (f : Feed). s.session == f.session) g.feeds)
-      (sym h ∙ (e ∙ (ap (has_role_in s.role) b ∙ has_role_in-kept_slots s.role g.clients)))
+    (sym h ∙ (e ∙ (ap (has_role_in s.role) b ∙ has_role_in-kept_slots s.role g.clients)))
 
 pub is_needed-no_role : (g : Gate) (s : Seat) (places : Places) (feeds : List Feed) (a r : Bool) → places ≡ kept_slots g.clients → feeds ≡ g.feeds
     → a ≡ has_role_in s.role places → a ≡ false
@@ -62,7 +62,7 @@ pub is_needed-no_role : (g : Gate) (s : Seat) (places : Places) (feeds : List Fe
 is_needed-no_role g s places feeds a r b d e h k =
     k ∙ (ap (list_any (λ (f : Feed). s.session == f.session)) d
     ∙ ap (λ z. z || list_any (λ (f : Feed). s.session == f.session) g.feeds)
-      (sym h ∙ (e ∙ (ap (has_role_in s.role) b ∙ has_role_in-kept_slots s.role g.clients))))
+    (sym h ∙ (e ∙ (ap (has_role_in s.role) b ∙ has_role_in-kept_slots s.role g.clients))))
 
 -- behind the code stands a gateway that the rest of the sessions leads to where all lead
 pub record IsResting (g : Gate) (ss rest : List Seat) (x : Gateway) : Type 0 where

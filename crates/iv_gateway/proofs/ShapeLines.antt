@@ -95,7 +95,7 @@ pub stands_informed : (all es : List Entry) (slots : Slots) (places : Places) �
     → at_all (told_shape es) places ≡ kept_slots (at_all (λ c. telling all (shape_for c.role es) c) slots)
 stands_informed all es slots places b =
     ap (at_all (told_shape es)) b ∙ at_all-kept_slots (λ c. telling all (shape_for c.role es) c) (told_shape es)
-      (λ c. kept-telling all (shape_for c.role es) c) slots
+    (λ c. kept-telling all (shape_for c.role es) c) slots
 
 pub kept_slots-informs : (g : Gate) (es : List Entry) (places now : Places) → places ≡ kept_slots g.clients → now ≡ at_all (told_shape es) places
     → now ≡ kept_slots (informs g es).clients

@@ -78,7 +78,7 @@ IsHall-holding most xs ys owing owing' telling telling' reading n is text h ther
     (AreSet-by n is (is_so_at is_owed zs) owing owing' (there ∙ (owed (client_at xs n) ∙ sym (is_so_at-at_client_here is_owed f n xs))) o)
     (client_at-at_client_apart n f xs) (omega (arith, l, h.within, h.owed_size)))
     (AreThose-AreSet_one is_told n xs zs telling telling' h.told (over zs ys telling telling' e t) (client_at-at_client_apart n f xs)
-      (omega (arith, l, h.within, h.told_size)))
+    (omega (arith, l, h.within, h.told_size)))
   where
     owed : (o : Option Kept) → is_some o ≡ if_some (option_map (holding text) o) false is_owed
     owed None = refl
@@ -101,7 +101,7 @@ IsHall-answering most xs ys owing telling telling' reading n brought h t e =
     IsHall-at_client most xs ys owing owing telling telling' reading n f h e refl t.size (λ k. record { given = refl; subs = refl })
     (AreThose-same is_owed owing.list xs zs (is_so_at-at_client_same is_owed f n xs (λ k. refl)) h.owed)
     (AreThose-AreSet_one is_told n xs zs telling telling' h.told (over zs ys telling telling' e t) (client_at-at_client_apart n f xs)
-      (omega (arith, l, h.within, h.told_size)))
+    (omega (arith, l, h.within, h.told_size)))
 
 pub IsHall-emptied : (most : ℕ) (xs ys : Places) (owing telling telling' : Numbers) (reading : List Readers) (n : ℕ) → IsHall most xs owing telling reading
     → ys ≡ at_client n emptied xs → AreSet (λ m. m ≡ n) (is_told_at ys) telling telling'
@@ -111,7 +111,7 @@ IsHall-emptied most xs ys owing telling telling' reading n h e t =
     IsHall-at_client most xs ys owing owing telling telling' reading n emptied h e refl t.size FollowsAlike-emptied
     (AreThose-same is_owed owing.list xs zs (is_so_at-at_client_same is_owed emptied n xs owed-emptied) h.owed)
     (AreThose-AreSet_one is_told n xs zs telling telling' h.told (over zs ys telling telling' e t) (client_at-at_client_apart n emptied xs)
-      (omega (arith, l, h.within, h.told_size)))
+    (omega (arith, l, h.within, h.told_size)))
 
 -- who IsHall-keeping_new one feed more, or another in its place, is among the readers of that one
 pub IsHall-keeping_new : (most : ℕ) (xs ys : Places) (owing telling : Numbers) (reading reading' : List Readers) (n feed : ℕ)
@@ -120,9 +120,9 @@ pub IsHall-keeping_new : (most : ℕ) (xs ys : Places) (owing telling : Numbers)
     → IsHall most ys owing telling reading'
 IsHall-keeping_new most xs ys owing telling reading reading' n feed h e j =
     IsHall-at_client_following most xs ys owing telling reading reading' n (keeping_new feed) h e (λ k. refl) (λ k. refl)
-      (λ k a. AreNumbered-push_own k.given feed k.subs a)
+    (λ k a. AreNumbered-push_own k.given feed k.subs a)
     (λ i. AreThose-but_one (is_following i) n (readers_of reading i) (readers_of reading' i) xs (at_client n (keeping_new feed) xs) (h.readers i)
-      (client_at-at_client_apart n
+    (client_at-at_client_apart n
     (keeping_new feed) xs)
     (λ m ne c. r.kept i m (λ p. ne p.1) c) (λ m ne c. r.others i m (λ p. ne p.1) c) (λ t. here i t (cases_eq i feed)) (λ c. out i c (cases_eq i feed)))
   where
@@ -145,7 +145,7 @@ IsHall-keeping_new most xs ys owing telling reading reading' n feed h e j =
     out i c (inl x) = subst (λ z. is_so_at (is_following z) (at_client n (keeping_new feed) xs) n ≡ true) (sym x) (r.only (subst (λ z. Contains
         (readers_of reading' z) n) x c))
     out i c (inr ne) =
-      is_so_at-at_client_on (is_following i) (keeping_new feed) n xs (λ k t. list_any-push_on i feed (k.given + 1) k.subs t) ((h.readers i).only n
+        is_so_at-at_client_on (is_following i) (keeping_new feed) n xs (λ k t. list_any-push_on i feed (k.given + 1) k.subs t) ((h.readers i).only n
         (r.others i n (λ p. ne p.0) c))
 
 pub IsHall-keeping_moved : (most : ℕ) (xs ys : Places) (owing telling : Numbers) (reading reading' left : List Readers) (n from to : ℕ)
@@ -153,9 +153,9 @@ pub IsHall-keeping_moved : (most : ℕ) (xs ys : Places) (owing telling : Number
     → HasKept n (Some from) ys reading' left → IsHall most ys owing telling left
 IsHall-keeping_moved most xs ys owing telling reading reading' left n from to h e j kept =
     IsHall-at_client_following most xs ys owing telling reading left n (keeping_moved from to) h e (λ k. refl) (λ k. refl)
-      (λ k a. AreNumbered-moved_sub from to k.given k.subs a)
+    (λ k a. AreNumbered-moved_sub from to k.given k.subs a)
     (λ i. AreThose-but_one (is_following i) n (readers_of reading i) (readers_of left i) xs (at_client n (keeping_moved from to) xs) (h.readers i)
-      (client_at-at_client_apart n
+    (client_at-at_client_apart n
     (keeping_moved from to) xs)
     (λ m ne c. q.kept i m (λ p. ne p.0) (r.kept i m (λ p. ne p.1) c)) (λ m ne c. r.others i m (λ p. ne p.1) (q.only i m c))
     (λ t. q.kept i n (λ p. false≢true (sym p.1 ∙ t)) (here i t (cases_eq i to))) (λ c. out i c (cases_eq i to) (cases_eq i from)))
@@ -199,7 +199,7 @@ IsHall-keeping_closed most xs ys owing telling reading left n own feed h is e ke
     IsHall-at_client_following most xs ys owing telling reading left n (keeping_closed own) h e (λ k. refl) (λ k. refl) (λ k a. AreNumbered-filter (λ s. not
     (own == s.own)) k.given k.subs a)
     (λ i. AreThose-but_one (is_following i) n (readers_of reading i) (readers_of left i) xs (at_client n (keeping_closed own) xs) (h.readers i)
-      (client_at-at_client_apart n
+    (client_at-at_client_apart n
     (keeping_closed own) xs)
     (λ m ne c. q.kept i m (λ p. ne p.0) c) (λ m ne c. q.only i m c) (here i) (λ c. out i c (cases_Bool (is_so_at (is_following i) (at_client n
     (keeping_closed own) xs) n))))
@@ -210,7 +210,7 @@ IsHall-keeping_closed most xs ys owing telling reading left n own feed h is e ke
     here : (i : ℕ) → is_so_at (is_following i) (at_client n (keeping_closed own) xs) n ≡ true → Contains (readers_of left i) n
     here i t = q.kept i n (λ p. false≢true (sym p.1 ∙ t))
         ((h.readers i).all n (is_so_at-at_client_back (is_following i) (keeping_closed own) n xs
-          (λ k x. list_any-filter_feeds i (λ s. not (own == s.own)) k.subs x) n t))
+        (λ k x. list_any-filter_feeds i (λ s. not (own == s.own)) k.subs x) n t))
 
     out : (i : ℕ) → Contains (readers_of left i) n → (is_so_at (is_following i) (at_client n (keeping_closed own) xs) n ≡ true) ⊎ (is_so_at (is_following i)
         (at_client n (keeping_closed own) xs) n ≡ false)
@@ -230,7 +230,7 @@ IsHall-coming most xs ys owing owing' telling telling' reading reading' n role u
     let who = Some (coming role user digest text) in let zs = set xs n who in let b = length-set_slot n who xs in
     IsHall-set most xs ys owing owing' telling telling' reading reading' n who h e o l t.size
     (AreThose-AreSet_one is_told n xs zs telling telling' h.told (over zs ys telling telling' e t) (client_at-set_apart n who xs)
-      (omega (arith, b, h.within, h.told_size)))
+    (omega (arith, b, h.within, h.told_size)))
     refl (λ feed. refl) (λ k there. let is : coming role user digest text ≡ k = cc in subst (λ (z : Kept). AreNumbered z.given z.subs) is tt)
 
 pub IsHall-set_None : (most : ℕ) (xs ys : Places) (owing owing' telling telling' : Numbers) (reading reading' : List Readers) (n : ℕ)
@@ -270,7 +270,7 @@ IsHall-holding_owed most xs ys owing owing' telling telling' reading ns text h s
     IsHall-at_all most xs ys owing owing' telling telling' reading f h e (ap (λ (x : Numbers). x.size) o) t.size (FollowsAlike-holding_owed text)
     (AreThose-none is_owed owing'.list zs (ap (λ (x : Numbers). x.list) o) (λ m. is_so_at-at_all is_owed f xs m ∙ none (client_at xs m)))
     (AreThose-AreSet_some is_owed is_told f ns xs telling telling' (subst (λ z. AreThose is_owed z xs) (sym same_list) h.owed)
-      (holding_owed-not_owed text) h.told
+    (holding_owed-not_owed text) h.told
     (over zs ys telling telling' e t) (omega (arith, h.within, h.told_size)))
   where
     none : (o : Option Kept) → if_some (option_map (holding_owed text) o) false is_owed ≡ false
@@ -325,7 +325,7 @@ IsHall-hearing_for most xs ys owing owing' telling telling' reading ns feed rel 
     (told_for feed rel l) k.subs) k)
     (record { all = λ m x. all m (client_at xs m) refl (sym (is_so_at-at_all is_owed (hearing_for feed rel l) xs m) ∙ x); only = λ m c. only m (o.only m c) })
     (AreThose-AreSet_some (is_following feed) is_told (hearing_for feed rel l) ns xs telling telling' listed (hearing_for-not_following feed rel l) h.told
-      (over (at_all
+    (over (at_all
     (hearing_for feed rel l) xs) ys telling telling' e t)
     (omega (arith, h.within, h.told_size)))
   where
@@ -338,7 +338,7 @@ IsHall-hearing_for most xs ys owing owing' telling telling' reading ns feed rel 
     owed m k there is (inl x) = let b = lt-client_at xs m k there in o.put m (omega (arith, b, h.within, h.owed_size))
         (listed.all m (is_so_at-client_at (is_following feed) xs m k there x))
     owed m k there is (inr x) =
-      o.kept m (h.owed.all m (is_so_at-client_at is_owed xs m k there (ap is_owed (sym (hearing_for-not_following feed rel l k x)) ∙ is)))
+        o.kept m (h.owed.all m (is_so_at-client_at is_owed xs m k there (ap is_owed (sym (hearing_for-not_following feed rel l k x)) ∙ is)))
 
     all : (m : ℕ) (who : Option Kept) → client_at xs m ≡ who → if_some (option_map (hearing_for feed rel l) who) false is_owed ≡ true → Contains owing'.list m
     all m None there x = absurd (false≢true x)
@@ -350,5 +350,5 @@ IsHall-hearing_for most xs ys owing owing' telling telling' reading ns feed rel 
 
     only : (m : ℕ) → Contains owing.list m ⊎ Contains ns m → is_so_at is_owed (at_all (hearing_for feed rel l) xs) m ≡ true
     only m (inl c) =
-      is_so_at-at_all_on is_owed (hearing_for feed rel l) xs (λ k x. owed-holding_all (flat_map (told_for feed rel l) k.subs) k x) m (h.owed.only m c)
+        is_so_at-at_all_on is_owed (hearing_for feed rel l) xs (λ k x. owed-holding_all (flat_map (told_for feed rel l) k.subs) k x) m (h.owed.only m c)
     only m (inr c) = is_so_at-at_all is_owed (hearing_for feed rel l) xs m ∙ heard (client_at xs m) (listed.only m c)

@@ -91,7 +91,7 @@ pub walked-keeping_on : (xs : Places) (most : ℕ) (owing telling : Numbers) (re
     → walked (keeping_on (l ∷ [])) ns xs ≡ at_all (keeping_on (l ∷ [])) xs
 walked-keeping_on xs most owing telling reading ns k l h e is d =
     walked-AreThose (is_following k) (keeping_on (l ∷ [])) ns xs d (subst (λ z. AreThose (is_following k) z xs) (sym is) (h.readers k))
-      (λ c. stays_still k l c e)
+    (λ c. stays_still k l c e)
 
 pub IsHall-keeping_on : (most : ℕ) (xs ys : Places) (owing telling : Numbers) (reading left : List Readers) (k : ℕ) (l : Line)
     → IsHall most xs owing telling reading

@@ -414,7 +414,7 @@ HasAll-filter rs left feed e gone = subst (λ z. HasAll rs z) (sym gone) (record
 
     only : (k m : ℕ) → Contains (readers_of (filter (λ r. not (feed == r.feed)) rs) k) m → (k ≡ feed) ⊎ (k ≡ feed → ⊥) → Contains (readers_of rs k) m
     only k m c (inl x) =
-      absurd (not_Contains-none m (subst (λ ns. Contains ns m) (ap (readers_of (filter (λ r. not (feed == r.feed)) rs)) x ∙ readers_of-filter_own rs feed) c))
+        absurd (not_Contains-none m (subst (λ ns. Contains ns m) (ap (readers_of (filter (λ r. not (feed == r.feed)) rs)) x ∙ readers_of-filter_own rs feed) c))
     only k m c (inr x) = subst (λ ns. Contains ns m) (readers_of-filter_other rs feed k x) c
 
 -- ---- whether somebody follows

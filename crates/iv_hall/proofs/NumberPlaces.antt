@@ -87,7 +87,7 @@ HasLost-IsExchanged order places now after count n w lc ln below x = record {
   gone = λ c. let p = front_place now after count n x.whole (omega (arith, lc, x.size)) c in omega (arith, p.1, x.here);
   kept = λ m ne c. let p = front_place order places (count + 1) m w (omega (arith, lc)) c in
       Contains-IsOrder now after count m x.whole (omega (arith, lc, x.size)) (omega (arith, p.0, x.size))
-        (stays m p.0 p.1 ne (cases_eq m (get_or order count 0)));
+      (stays m p.0 p.1 ne (cases_eq m (get_or order count 0)));
   only = λ m c. let p = front_place now after count m x.whole (omega (arith, lc, x.size)) c in
       let l : m < length order = omega (arith, p.0, x.size) in
       Contains-IsOrder order places (count + 1) m w (omega (arith, lc)) l (was m l p.1 (cases_eq m n) (cases_eq m (get_or order count 0)));

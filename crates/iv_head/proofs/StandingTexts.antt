@@ -68,7 +68,7 @@ followed_in-log_text f w =
     (ap (λ z. option_and_then log_parts (cut_quote false z)) (append_assoc (escape f.name) (34 ∷ []) later)
     ∙ (ap (option_and_then log_parts) (cut_quote-escape f.name later)
     ∙ (ap (option_and_then (log_behind (escape f.name)))
-      (cut_at-HasNo 34 f.epoch step (HasNo-list_all is_epoch_digit 34 refl f.epoch (digits_of f.epoch e.0)) refl)
+    (cut_at-HasNo 34 f.epoch step (HasNo-list_all is_epoch_digit 34 refl f.epoch (digits_of f.epoch e.0)) refl)
     ∙ (ap (option_and_then (log_with (escape f.name) f.epoch)) (cut_at-HasNo 125 (decimal f.position) [] (HasNo-decimal_brace f.position) refl)
     ∙ log_there f u.0 e.0 e.1))))
     ∙ passing-true (λ (g : Followed). bytes_eq (log_text g) (log_text f)) f (bytes_same (log_text f))

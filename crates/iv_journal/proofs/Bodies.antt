@@ -21,7 +21,7 @@ HasNone-body_of d l h =
     HasNone-append is_end (mark l.is_last) (encode_lower (digest_of d l) ++ (codes "\"," ++ l.text)) (no_mark l.is_last)
     (HasNone-append is_end (encode_lower (digest_of d l)) (codes "\"," ++ l.text) (HasNone-encode_with (d ++ (mark l.is_last ++ l.text)))
     (HasNone-append is_end (codes "\",") l.text refl
-      (false-not (list_any is_end l.text) (and-both_true (is_plain l.text) (nat_le (length l.text) most_text) h).0)))
+    (false-not (list_any is_end l.text) (and-both_true (is_plain l.text) (nat_le (length l.text) most_text) h).0)))
 
 pub HasNoNewline-body_of : (d : List ℕ) (l : Line) → is_text l.text ≡ true → HasNoNewline (body_of d l)
 HasNoNewline-body_of d l h = HasNoNewline-HasNone (body_of d l) (HasNone-body_of d l h)

@@ -126,7 +126,7 @@ same-split_at_newline [] (y ∷ ys) r s h k e = absurd (false≢true (sym (neith
 same-split_at_newline (x ∷ xs) [] r s h k e = absurd (false≢true (sym (neither (x == 10) (list_any (λ b. b == 10) xs) h).0 ∙ ap (λ z. first z == 10) e))
 same-split_at_newline (x ∷ xs) (y ∷ ys) r s h k e =
     let p = same-split_at_newline xs ys r s (neither (x == 10) (list_any (λ b. b == 10) xs) h).1 (neither (y == 10) (list_any (λ b. b == 10) ys) k).1
-      (ap (drop 1) e) in
+    (ap (drop 1) e) in
     (λ i. first (e i) ∷ p.0 i, p.1)
 
 pub drop-length : (xs ys : List ℕ) → drop (length xs) (xs ++ ys) ≡ ys

@@ -82,7 +82,7 @@ front_told d body =
     same_tests (has_front body (line_in body).is_last (digest_of d (line_in body))) (bytes_eq body (body_of d (line_in body)))
     (λ h. ap (λ z. bytes_eq z (body_of d (line_in body))) (front_is d (line_in body) body refl h) ∙ bytes_eq-itself (body_of d (line_in body)))
     (λ h. ap (λ z. has_front z (line_in body).is_last (digest_of d (line_in body))) (same-bytes_eq body (body_of d (line_in body)) h) ∙ has_own d
-      (line_in body))
+    (line_in body))
 
 -- ---- what the code finds
 

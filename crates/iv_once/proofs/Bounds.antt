@@ -102,7 +102,7 @@ restored_bounded l times d n new s true = λ holder.
     let e = parted_blames holder n (kept d) d.gone in
     let m = blames_both holder d.waiting (kept d ++ d.gone) in
     let h : blames holder (d.waiting ++ (kept d ++ d.gone)) ≡ blames holder (history d) =
-      ap (blames holder) (sym (append-associative d.waiting (kept d) d.gone)) in
+    ap (blames holder) (sym (append-associative d.waiting (kept d) d.gone)) in
     forgiven_bounded l times (spent_by d.spent holder) (blames holder (history d)) (blames holder (drop n (kept d) ++ (take n (kept d) ++ d.gone))) (s holder) (omega (arith, e, m, h))
 
 -- what one event forgives
@@ -201,7 +201,7 @@ pub HasToWait-after : (l : Limits) (epoch : List ℕ) (es : List Event) (a : Ask
 HasToWait-after l epoch es a sound = λ v.
     let d = after l (start epoch) es in
     let r : is_over (names l d) a.holder ≡ true =
-      subst (HasReason l d a) v (HasReason-AreKept l d a (AreKept-IsSound l d (IsSound-after l (start epoch) es sound))) in
+    subst (HasReason l d a) v (HasReason-AreKept l d a (AreKept-IsSound l d (IsSound-after l (start epoch) es sound))) in
     waits_by l d a.holder (after_spent l (start epoch) es (λ holder. omega arith)) (nat_le l.refusals (spent_by d.spent a.holder)) (nat_le l.holders (known l d).holders) (not (is_some ((known l d).owns a.holder))) refl refl r
 
 -- ---- holders

@@ -47,7 +47,7 @@ read_by l k holder epoch c (e ∷ es) h m other = by (read_by l k holder epoch c
     by ih same =
         let before = followed l (begun k holder epoch c) (map named es) in
         let mine : before.owns holder ≡ Some (read epoch c es) =
-          ih holder ∙ ap (λ b. cond b (Some (read epoch c es)) (k.owns holder)) (bytes_eq-itself holder) in
+        ih holder ∙ ap (λ b. cond b (Some (read epoch c es)) (k.owns holder)) (bytes_eq-itself holder) in
         (λ i. cond (bytes_eq (same i) other) (Some (more l e (own_of before (same i)))) (before.owns other))
         ∙ ((λ i. cond (bytes_eq holder other) (Some (more l e (unwrap_or (mine i) (record { epoch = before.epoch; count = 0; recent = [] })))) (before.owns other))
         ∙ (chosen (bytes_eq holder other) (before.owns other) (k.owns other) (Some (read epoch c es)) (read epoch c es) (ih other) (more l e (read epoch c es))

@@ -47,7 +47,7 @@ renewed_sound l d holder epoch before b f s = record {
 never : (l : Limits) (d : Run) (a : Ask) → IsSound l d → HasReason l d a carry → times a.name a.at (own a.holder (history d)) ≡ 0
 never l d a s r =
     let here : times a.name a.at (own a.holder (journal d)) ≡ 0 =
-      times-find_named l.names l.names a.name a.at (own a.holder (journal d)) r.0 (s.ins a.holder) r.3 in
+    times-find_named l.names l.names a.name a.at (own a.holder (journal d)) r.0 (s.ins a.holder) r.3 in
     let there : times a.name a.at (own a.holder d.gone) ≡ 0 = times-elsewhere a.name a.at (own a.holder d.gone) (λ e k h. IsApart-AreApart l d.gone d.first (d.waiting ++ d.lines) s.apart a.holder e k (h ∙ r.1)) in
     times-append a.holder a.name a.at (journal d) d.gone ∙ (λ i. here i + there i)
 
@@ -88,7 +88,7 @@ named_sound l d a answer refused r seen s =
       ins = λ holder. named_ins l.names a refused answer (journal d) (r.2, r.3, r.0, s.ins a.holder) s.ins holder (bytes_eq a.holder holder) refl;
       once = λ holder name at. named_once a refused answer (history d) (never l d a s r) s.once holder name at (bytes_eq a.holder holder) refl;
       apart =
-        (IsApart-named l d.gone (followed l d.first (d.waiting ++ d.lines)) e (IsApart-AreApart l d.gone d.first (d.waiting ++ d.lines) s.apart), s.apart);
+          (IsApart-named l d.gone (followed l d.first (d.waiting ++ d.lines)) e (IsApart-AreApart l d.gone d.first (d.waiting ++ d.lines) s.apart), s.apart);
       seen = λ holder x k. named_seen a refused answer (history d) d.seen seen s.seen holder x (bytes_eq a.holder holder) k;
       acts = ap (λ z. asked a ∷ z) s.acts;
       held = (named_has a refused answer (history d), AllByRecursion-HasAnswer_back (named e ∷ []) (history d) d.held s.held);

@@ -87,7 +87,7 @@ module _ (e : Store) (h : IsSoundStore e) (ss : List Session) (p : Subscription 
 
     each_left : AllByRecursion IsLeft (filter p e.subscriptions)
     each_left =
-      left (λ s. subscription_of e.subscriptions s.number ≡ Some s) IsLeft (λ s k f. (k, f)) (subscription_of-each e.subscriptions h.stored.numbers.unique)
+        left (λ s. subscription_of e.subscriptions s.number ≡ Some s) IsLeft (λ s k f. (k, f)) (subscription_of-each e.subscriptions h.stored.numbers.unique)
 
     still : (s : Subscription) → IsLeft s → subscription_of (filter p e.subscriptions) s.number ≡ Some s → shown (at c T) s.number ≡ shown (at e T) s.number
     still s x f = ap (λ o. if_some o [] (view_shown (at c T))) f ∙ still_shown e c s (unmoved s x.0) T stands ∙ sym (ap (λ o. if_some o [] (view_shown (at e T))) x.1)

@@ -31,6 +31,6 @@ module _ (e : Store) where
   pub left_there : AllByRecursion (IsOpen e) e.subscriptions → AllByRecursion (λ s. is_some (place_of e s) ≡ true) e.subscriptions
       → AllByRecursion (λ s. is_some (place_of (without_unread e) s) ≡ true) e.subscriptions
   left_there shows there =
-    AllByRecursion-zip Reads (λ s. is_some (place_of e s) ≡ true) (λ s. is_some (place_of (without_unread e) s) ≡ true) e.subscriptions one_there
+      AllByRecursion-zip Reads (λ s. is_some (place_of e s) ≡ true) (λ s. is_some (place_of (without_unread e) s) ≡ true) e.subscriptions one_there
       (list_any-session_acts_as (frame_of e) e.subscriptions
-        (AllByRecursion-map (IsOpen e) (λ s. is_open (frame_of e) s.session ≡ true) e.subscriptions (λ s o. o.session) shows)) there
+      (AllByRecursion-map (IsOpen e) (λ s. is_open (frame_of e) s.session ≡ true) e.subscriptions (λ s o. o.session) shows)) there

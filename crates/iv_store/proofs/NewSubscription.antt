@@ -206,7 +206,7 @@ module _ (e : Store) (n k : ℕ) (name : Name) (h : IsSoundStore e) (x : IsOpena
     there = all_inserted (λ y. is_some (place_of new y) ≡ true) s e.subscriptions new_place
         (AllByRecursion-map (λ y. is_some (place_of e y) ≡ true) (λ y. is_some (place_of new y) ≡ true) e.subscriptions old_place h.there);
     read =
-      AllByRecursion-IsSameReader (frame_of new) (e.circuits ++ added) new.circuits readers (all_joined (λ c. is_read (frame_of new) c ≡ true) e.circuits added
+        AllByRecursion-IsSameReader (frame_of new) (e.circuits ++ added) new.circuits readers (all_joined (λ c. is_read (frame_of new) c ≡ true) e.circuits added
         (AllByRecursion-map (λ c. is_read (frame_of e) c ≡ true) (λ c. is_read (frame_of new) c ≡ true) e.circuits old_read h.read)
         (AllByRecursion-map (IsNewFor e (actor (frame_of e) n) k) (λ c. is_read (frame_of new) c ≡ true) added new_read are));
   }

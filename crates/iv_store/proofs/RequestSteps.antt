@@ -85,7 +85,7 @@ module _ (e d : Store) (T U : Lists) (h : IsStored e) (ends : Subscription → O
   pub change_lines : AllByRecursion (λ s. ends s ≡ None) e.subscriptions → flat_map (line_for (at e T) (at c U) ends) e.subscriptions ≡ flat_map (change_line e c T U) e.subscriptions
   change_lines k = flat_map-each_same (line_for (at e T) (at c U) ends) (change_line e c T U) e.subscriptions
       (AllByRecursion-zip (IsShown e) (λ s. ends s ≡ None) (λ s. line_for (at e T) (at c U) ends s ≡ change_line e c T U s) e.subscriptions one_line
-        (AllByRecursion-IsShown e h) k)
+      (AllByRecursion-IsShown e h) k)
 
 -- ---- a request that changes no row, and opens and ends no subscription
 

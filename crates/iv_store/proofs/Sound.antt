@@ -109,7 +109,7 @@ module _ (e d : Store) (es : List Subscription) (u : AllByRecursion (IsUnmoved e
 
   pub all_within : ((T : Lists) → Stands T d.tables → Stands T e.tables) → AllByRecursion (IsWithin e) es → AllByRecursion (IsWithin d) es
   all_within before a =
-    AllByRecursion-zip (IsUnmoved e d) (IsWithin e) (IsWithin d) es (λ s v w T k. still_within e d s v T (before T k) ∙ w T (before T k)) u a
+      AllByRecursion-zip (IsUnmoved e d) (IsWithin e) (IsWithin d) es (λ s v w T k. still_within e d s v T (before T k) ∙ w T (before T k)) u a
 
   pub all_there : d.circuits ≡ e.circuits → AllByRecursion (λ s. is_some (place_of e s) ≡ true) es → AllByRecursion (λ s. is_some (place_of d s) ≡ true) es
   all_there same a = AllByRecursion-zip (IsUnmoved e d) (λ s. is_some (place_of e s) ≡ true) (λ s. is_some (place_of d s) ≡ true) es

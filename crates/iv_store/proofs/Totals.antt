@@ -78,4 +78,4 @@ module _ (e : Store) (circuits : AllByRecursion (IsRoleCircuit e) e.circuits) wh
   -- and so does that of the circuit that stands there
   pub circuit_counts : (T : Lists) → Stands T e.tables → (s : Subscription) (i : ℕ) (k : RoleCircuit) → place_of e s ≡ Some i → k ≡ get_or e.circuits i k → Counts (total_of k.circuit.node) (shown_rows e T s)
   circuit_counts T stands s i k h is =
-    subst (λ (z : Weighed). Counts z (shown_rows e T s)) (total_at-get_or e i k (lt-place_of e s i h) is) (total_counts T stands s i h)
+      subst (λ (z : Weighed). Counts z (shown_rows e T s)) (total_at-get_or e i k (lt-place_of e s i h) is) (total_counts T stands s i h)

@@ -78,7 +78,7 @@ returns-clause-carried c =
     let none : into_iter_items c.loop-fact.fact-iterator ≡ [] = nil-of_length_zero (into_iter_items c.loop-fact.fact-iterator) (let empty = c.in-None.ensures.steps.0 in let ok = c.loop-fact.fact-iterator.rest.ok in omega (arith, empty, ok)) in (
       c.loop-fact.invariant.4,
       λ s b. AreCarriedTo-GoesOn s c.args.facts.items c.loop-fact.place (into_iter_items c.loop-fact.fact-iterator) c.loop-fact.store none
-        (c.loop-fact.invariant.5 s b),
+          (c.loop-fact.invariant.5 s b),
     )
 
 pub returns-clause-sums : goal.returns-clause-sums

@@ -9,6 +9,6 @@ loop-name-init c = sym (append-nil c.args.text.now.items)
 pub loop-name-preserved : goal.loop-name-preserved
 loop-name-preserved c =
     text_granted-take_next (λ (n : Bor Name). n.now) c.args.names.now c.loop-name.name-index _ c.args.text.now.items c.loop-name.text.items
-      c.push_granted.new.text.items
+    c.push_granted.new.text.items
     c.loop-name-test.true
     c.loop-name.invariant c.in_ok-push_granted.ensures

@@ -7,7 +7,7 @@ use Rattle.iv_gateway.proofs.shaping.inform_all.Goals as goal
 pub loop-client-preserved : goal.loop-client-preserved
 loop-client-preserved c =
     first_all-next (holding_for is_admin c.args.text.now) c.loop-client.client c.args.clients.now c.loop-client.clients c.inform.new.clients
-      c.loop-client.invariant
+    c.loop-client.invariant
     c.in_ok-inform.ensures
 
 pub returns : goal.returns

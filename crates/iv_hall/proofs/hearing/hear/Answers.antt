@@ -15,7 +15,7 @@ hear_at-requires-clause-place c =
 pub loop-at-preserved : goal.loop-at-preserved
 loop-at-preserved c = record {
   told =
-    holding_all-take_next (told_for c.args.feed c.args.rel.now (line_of c.args.line.now)) c.loop-at.at c.args.client.now c.loop-at.client c.hear_at.new.client
+      holding_all-take_next (told_for c.args.feed c.args.rel.now (line_of c.args.line.now)) c.loop-at.at c.args.client.now c.loop-at.client c.hear_at.new.client
       (subst (λ n. c.loop-at.at < n) (ap length c.subs-at-end.ensures) c.loop-at-test.true) c.loop-at.invariant.told c.in_ok-hear_at.ensures.told;
   saying = c.in_ok-hear_at.ensures.saying;
   counted = CountsOn-trans (length c.args.client.now.unsynced) (length c.loop-at.client.unsynced) (length c.hear_at.new.client.unsynced) c.args.said.now.waiting

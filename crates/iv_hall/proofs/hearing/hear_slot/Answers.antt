@@ -5,5 +5,5 @@ use Rattle.iv_hall.proofs.hearing.hear_slot.Goals as goal
 pub returns-in_ok-hear-in-Some-clause-counted : goal.returns-in_ok-hear-in-Some-clause-counted
 returns-in_ok-hear-in-Some-clause-counted c =
     CountsOn-bytes_of c.args.slot.now (Some c.hear.new.client) c.in-Some.client c.hear.new.client c.args.said.now.waiting c.hear.new.said.waiting c.in-Some.is
-      refl
+    refl
     c.in_ok-hear-in-Some.ensures.counted

@@ -20,7 +20,7 @@ returns-in-Ok-Complete-clause-head c =
     let is : IsRequestOf c.window-front.result.now c.parse_request.new.headers c.in-Ok-Complete.head = search rules in
     let all : length c.parse_request.new.headers ≡ most_fields = search rules in
     if_some_of _ (HasHead-IsRequestOf c.args.bytes.now c.window-front.result.now c.parse_request.new.headers c.in-Ok-Complete.head c.window-front.ensures all
-      is)
+    is)
 
 pub returns-in-Ok-Partial-clause-field : goal.returns-in-Ok-Partial-clause-field
 returns-in-Ok-Partial-clause-field c =

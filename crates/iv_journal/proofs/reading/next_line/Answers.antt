@@ -17,6 +17,6 @@ returns-then-not-is_text-clause-none c = λ _.
 pub returns-clause-bytes : goal.returns-clause-bytes
 returns-clause-bytes c =
     body_of-has_front c.args.before.now c.args.rest.now c.in_ok-body.body.now c.behind-text.result.now c.digest_of-digest.result c.is_last-is_last.result
-      c.has_front.result
+    c.has_front.result
     c.behind-text.ensures c.digest_of-digest.ensures c.has_front.ensures c.if-not-has_front.false
     c.in_ok-body.ensures.some.1

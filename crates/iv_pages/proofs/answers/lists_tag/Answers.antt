@@ -8,7 +8,7 @@ pub returns-then-is_tag : goal.returns-then-is_tag
 returns-then-is_tag c =
     let cut : cut_at 44 c.loop-part.rest.now ≡ Some (c.in-Some.part.now, c.in-Some.later.now) = search rules in
     lists_tag-found c.args.tag.now c.loop-part.rest.now c.in-Some.part.now c.in-Some.later.now _ cut
-      (sym c.is_tag.ensures ∙ c.if-is_tag.true) c.loop-part.invariant
+    (sym c.is_tag.ensures ∙ c.if-is_tag.true) c.loop-part.invariant
 
 pub loop-part-smaller : goal.loop-part-smaller
 loop-part-smaller c =
@@ -19,7 +19,7 @@ pub loop-part-preserved : goal.loop-part-preserved
 loop-part-preserved c =
     let cut : cut_at 44 c.loop-part.rest.now ≡ Some (c.in-Some.part.now, c.in-Some.later.now) = search rules in
     lists_tag-next c.args.tag.now c.loop-part.rest.now c.in-Some.part.now c.in-Some.later.now _ cut
-      (sym c.is_tag.ensures ∙ c.if-is_tag.false) c.loop-part.invariant
+    (sym c.is_tag.ensures ∙ c.if-is_tag.false) c.loop-part.invariant
 
 pub returns : goal.returns
 returns c =

@@ -11,13 +11,13 @@ returns-in-Ok-Complete-clause-asks c =
     let is : IsRequestOf c.window-front.result.now c.parse_request.new.headers c.in-Ok-Complete.head = search rules in
     let all : length c.parse_request.new.headers ≡ most_fields = search rules in
     Asks-IsRequestOf c.args.bytes.now c.window-front.result.now c.parse_request.new.headers c.in-Ok-Complete.head _ c.window-front.ensures all is
-      c.want_in.ensures
+    c.want_in.ensures
 
 pub returns-in-Ok-Complete-clause-head : goal.returns-in-Ok-Complete-clause-head
 returns-in-Ok-Complete-clause-head c =
     let finds : FindsRequest c.window-front.result.now most_fields c.parse_request.new.headers (Ok (Complete c.in-Ok-Complete.head)) = search rules in
     asked_of-Complete c.args.bytes.now c.window-front.result.now c.parse_request.new.headers c.in-Ok-Complete.head _ c.window-front.ensures finds
-      c.want_in.ensures
+    c.want_in.ensures
 
 pub returns-then-bytes-le-MOST_HEAD-clause-asks : goal.returns-then-bytes-le-MOST_HEAD-clause-asks
 returns-then-bytes-le-MOST_HEAD-clause-asks c =

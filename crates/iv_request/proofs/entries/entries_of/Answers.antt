@@ -8,4 +8,4 @@ loop-item-preserved c =
     let found = rw c.in-Some.is at c.in_ok-entry_of.ensures in
     rw c.in_ok-push-in-Some.ensures.items
     (each-drop_next entry_of c.args.items.now l.entries.items l.item-index c.item-item.result c.in-Some.entry c.loop-item-test.true c.item-item.is l.invariant
-      found)
+    found)

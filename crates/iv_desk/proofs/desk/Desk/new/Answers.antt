@@ -6,4 +6,4 @@ use Rattle.iv_desk.proofs.desk.Desk.new.Goals as goal
 pub returns : goal.returns
 returns c = λ g is a.
     IsDesk-IsBehind (front_at_start g c.args.most) _
-      (IsBehind-front_at_start g c.args.most c.args.gateway c.in_ok-places.places.items is a c.in_ok-places.ensures) refl
+    (IsBehind-front_at_start g c.args.most c.args.gateway c.in_ok-places.places.items is a c.in_ok-places.ensures) refl

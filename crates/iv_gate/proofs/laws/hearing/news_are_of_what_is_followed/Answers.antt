@@ -27,4 +27,4 @@ returns-clause-changes c =
     let adds = c.lines_add_up.ensures in let start = c.steps_keep_sound.ensures.start in let exact = c.differences_are_exact.ensures in
     λ cap g e r. let b = IsSoundGate-Runs adds start laws cap g r in
     TellsDifference-TellsApart g e (TellsApart-IsSoundGate adds laws exact.is exact.only g e b (IsSoundGate-next adds laws g e (AreEven-Runs cap g r) b))
-      (EndsForCause-IsSoundGate laws g e b)
+    (EndsForCause-IsSoundGate laws g e b)

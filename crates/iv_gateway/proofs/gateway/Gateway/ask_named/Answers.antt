@@ -18,7 +18,7 @@ pub returns-in_ok-tell_answer-in-Again : goal.returns-in_ok-tell_answer-in-Again
 returns-in_ok-tell_answer-in-Again c = λ g b.
     IsAlive-by_verdict g c.args.asked.now.client (asked_id c.args.asked.now) (request_of c.args.asked.now (act_of c.args.act)) c.args.ask (again c.in-Again.answer.items) _
     (verdict_of-IsAlive g c.args.ask _ _ c.args.self.now c.in-Again.is c.in_ok-verdict.ensures b)
-      (let holder : c.as_str.result.now ≡ c.args.ask.holder = search rules in
+    (let holder : c.as_str.result.now ≡ c.args.ask.holder = search rules in
     subst (λ z. IsAlive z c.tell_answer.new.self)
     (λ i. tells g c.args.asked.now.client (answered (asked_id c.args.asked.now) true (place_text (place_of g (holder i))) (c.deref.ensures.value i)))
     (c.in_ok-tell_answer-in-Again.ensures g b))

@@ -22,6 +22,6 @@ returns c = λ g b. record {
       ∙ (ap (λ z. at_all (holding_beat z) c.args.self.now.clients) (c.deref.ensures.value
       ∙ (c.in_ok-push_alive.ensures ∙ ap (λ z. z ++ told_text alive) c.new-text.ensures.items))
       ∙ (ap (at_all (holding_beat (told_text alive))) b.clients ∙ at_all-kept_slots (beating g.entries) (holding_beat (told_text alive))
-        (kept-beating g.entries)
+      (kept-beating g.entries)
       g.clients));
 }

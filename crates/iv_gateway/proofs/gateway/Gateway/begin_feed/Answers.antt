@@ -12,7 +12,7 @@ returns-in_ok-insert-in-Subscribed c = λ g r b e.
     subst (λ z. IsAlive (follows_new g c.args.client (option_map id_data c.args.id.now) z c.in-Subscribed.number) c.follow.new.self) c.as_str.ensures.value
     (c.in_ok-follow-in-Subscribed.ensures g b) in
     IsAlive-feed_begun g c.args.client (option_map id_data c.args.id.now) c.args.session (string_bytes c.args.role)
-      (string_bytes c.args.rel) c.in-Subscribed.number r
+    (string_bytes c.args.rel) c.in-Subscribed.number r
     _
     (ap opening_of e ∙ (sym c.opening_in.ensures ∙ c.in-Subscribed.is))
     (record { tokens = a.tokens; machine = a.machine; seats = a.seats; clients = a.clients; names = a.names; log = a.log; position = a.position; settled = a.settled; forgiven = a.forgiven; pending = a.pending; shape = a.shape; feeds = search rules })

@@ -37,7 +37,7 @@ returns c = λ g k b grants.
           ∙ (ap (at_all (keeping_on ls)) (c.in_ok-hear_grants.ensures
           ∙ (ap gives (c.in_ok-hear.ensures ∙ ap (λ fs. at_all (hearing_lines fs ls) places) (c.deref.ensures.value ∙ b.gate.feeds))
           ∙ at_all-hearing_granted ls (step g.machine k).lines frame (step g.machine k).state.frame k.act c.args.grants.now
-            (at_all (hearing_lines g.feeds ls) places)
+          (at_all (hearing_lines g.feeds ls) places)
           b.lines b.gate.machine.frame grants))
           ∙ (ap (λ z. at_all (keeping_on z) (at_all (λ (x : Kept). holding_all (more x.role) x) (at_all (hearing_lines g.feeds z) places))) b.lines
           ∙ kept_slots-granted g.entries g.feeds (step g.machine k).lines more g.clients places b.gate.clients));

@@ -23,7 +23,7 @@ returns-then-is_empty c = λ g es b t.
       pending = b.pending;
       shape = b.shape;
       clients = kept_slots-informs g es places places b.clients
-        (at_all-told_shape_empty c.told_texts_are_lines.ensures es places (ap (λ z. length z == 0) (sym t) ∙ empty));
+          (at_all-told_shape_empty c.told_texts_are_lines.ensures es places (ap (λ z. length z == 0) (sym t) ∙ empty));
     }
 
 pub returns : goal.returns
@@ -44,5 +44,5 @@ returns c = λ g es b t.
       shape = b.shape;
       clients = kept_slots-informs g es places c.inform_all.new.clients b.clients
           (c.in_ok-inform_all.ensures ∙ (ap (λ z. at_all (holding_for is_admin z) places) t ∙ at_all-told_shape es places
-            (ap (λ z. length z == 0) (sym t) ∙ some)));
+          (ap (λ z. length z == 0) (sym t) ∙ some)));
     }

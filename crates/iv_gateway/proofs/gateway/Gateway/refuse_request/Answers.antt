@@ -8,4 +8,4 @@ use Rattle.iv_gateway.proofs.gateway.Gateway.refuse_request.Goals as goal
 pub returns : goal.returns
 returns c = λ g act b s.
     c.in_ok-answer_request.ensures g act b s
-      (shape_text-entries_of (request_of c.args.asked.now act) c.args.name (refused (refusal_of c.args.refusal)) false s refl)
+    (shape_text-entries_of (request_of c.args.asked.now act) c.args.name (refused (refusal_of c.args.refusal)) false s refl)

@@ -19,7 +19,7 @@ returns-clause-gate c = λ g b.
     let run : IsRun g (in_session c.args.session (subscribe (string_bytes c.args.rel))) (map line_of c.in_ok-lines.lines.items) c.run.new.self =
     subst (λ z. IsRun g (in_session c.args.session (subscribe z)) (map line_of c.in_ok-lines.lines.items) c.run.new.self) same (c.in_ok-lines.ensures g b) in
     let begun =
-      IsRun-feed_begun g c.args.client id c.args.session role rel (reply_to g k) (map line_of c.in_ok-lines.lines.items) c.begin_feed.new.self run.lines
+    IsRun-feed_begun g c.args.client id c.args.session role rel (reply_to g k) (map line_of c.in_ok-lines.lines.items) c.begin_feed.new.self run.lines
     (c.in_ok-begin_feed.ensures (record g { machine = (step g.machine k).state }) (reply_to g k) run.gate
     (sym (ap (λ ls. reply_in (map line_of ls)) c.deref-2.ensures.value ∙ ap reply_in run.lines))) in
     c.in_ok-hear_plain.ensures (feed_begun g c.args.client id c.args.session role rel (reply_to g k)) k

@@ -12,5 +12,5 @@ returns-clause-listed c = λ g m x b lives there due.
 pub returns-clause-only : goal.returns-clause-only
 returns-clause-only c = λ g m b lives i.
     sym (if_some-is_told (client_at g.clients m)) ∙
-      (ap (λ o. if_some o false is_told) (sym (ap (λ z. client_at z m) (b.alive lives).clients ∙ client_at-kept_slots g.clients m))
+    (ap (λ o. if_some o false is_told) (sym (ap (λ z. client_at z m) (b.alive lives).clients ∙ client_at-kept_slots g.clients m))
     ∙ c.told.ensures.only m i)

@@ -8,7 +8,7 @@ use Rattle.iv_hall.proofs.hall.Hall.ask.Goals as goal
 pub invariant_of-self : goal.invariant_of-self
 invariant_of-self c = (
   IsHall-asking c.self.inside.most c.self.inside.slots.items _ c.self.inside.owed c.self.inside.told c.self.inside.readers.items c.args.client
-    c.self.invariant.0
+      c.self.invariant.0
       c.in-Ok.ensures,
   AreCounted-at_client c.args.client c.self.inside.waiting asking c.self.inside.slots.items _ (λ k. refl) c.in-Ok.ensures c.self.invariant.1,
 )

@@ -10,11 +10,11 @@ use Rattle.iv_hall.proofs.hall.Hall.beat.Goals as goal
 pub invariant_of-self : goal.invariant_of-self
 invariant_of-self c = (
   IsHall-holding_beat c.self.inside.most c.self.inside.slots.items _ c.self.inside.owed c.self.inside.told c.list_all.new.told c.self.inside.readers.items
-    c.args.text.now
+      c.args.text.now
       c.self.invariant.0 (subst (λ z. AreSet (λ m. m < c.self.inside.most) (is_told_at z) c.self.inside.told c.list_all.new.told) c.deref.ensures.value
       c.list_all.ensures) c.in-Ok.ensures,
   AreCounted-holding_beat c.self.inside.waiting c.raised-self-inside.result
-    (length c.args.text.now) c.len.result c.args.text.now c.self.inside.slots.items _ c.in-Ok.ensures
+      (length c.args.text.now) c.len.result c.args.text.now c.self.inside.slots.items _ c.in-Ok.ensures
       refl (c.len.ensures ∙ c.self.inside.slots.ok.0) c.raised-self-inside.ensures c.self.invariant.1,
 )
 

@@ -12,7 +12,7 @@ use Rattle.iv_hall.proofs.hall.Hall.enter.Goals as goal
 pub invariant_of-self : goal.invariant_of-self
 invariant_of-self c = (
   IsHall-coming c.self.inside.most c.self.inside.slots.items _ c.self.inside.owed c.remove.new.self c.self.inside.told c.list_one.new.told
-    c.self.inside.readers.items
+      c.self.inside.readers.items
       _ c.args.client (string_bytes c.args.role) (string_bytes c.args.user) c.args.digest.items c.args.text.items c.self.invariant.0
       (HasLeft-is_so_at c.args.client c.self.inside.slots.items c.subs_at.result.now c.self.inside.readers.items c.quit_all.new.readers.items
       (c.subs_at.ensures ∙ ap (λ z. if_some (client_at z c.args.client) [] (λ (k : Kept). k.subs)) c.deref.ensures.value) c.quit_all.ensures) c.remove.ensures

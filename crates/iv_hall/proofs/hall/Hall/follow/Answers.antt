@@ -8,10 +8,10 @@ use Rattle.iv_hall.proofs.hall.Hall.follow.Goals as goal
 pub invariant_of-self : goal.invariant_of-self
 invariant_of-self c = (
   IsHall-keeping_new c.self.inside.most c.self.inside.slots.items _ c.self.inside.owed c.self.inside.told c.self.inside.readers.items _ c.args.client
-    c.args.feed
+      c.args.feed
       c.self.invariant.0 c.in-Ok.ensures.clients c.in-Ok.ensures.readers,
   AreCounted-at_client c.args.client c.self.inside.waiting (keeping_new c.args.feed) c.self.inside.slots.items _
-    (λ k. refl) c.in-Ok.ensures.clients c.self.invariant.1,
+      (λ k. refl) c.in-Ok.ensures.clients c.self.invariant.1,
 )
 
 pub invariant_of-self-in-Err : goal.invariant_of-self-in-Err

@@ -11,13 +11,13 @@ use Rattle.iv_hall.proofs.hall.Hall.hold.Goals as goal
 pub invariant_of-self : goal.invariant_of-self
 invariant_of-self c = (
   IsHall-holding c.self.inside.most c.self.inside.slots.items _ c.self.inside.owed c.set.new.self c.self.inside.told c.list_one.new.told
-    c.self.inside.readers.items
+      c.self.inside.readers.items
       c.args.client c.is_there.result c.args.text.now c.self.invariant.0
       (c.is_there.ensures ∙ ap (λ z. is_some (client_at z c.args.client)) c.deref.ensures.value) c.set.ensures
       (subst (λ z. AreSet (λ m. m ≡ c.args.client) (is_told_at z) c.self.inside.told c.list_one.new.told) c.deref-in-Ok.ensures.value c.list_one.ensures)
       c.in-Ok.ensures,
   AreCounted-holding c.args.client c.self.inside.waiting c.raised-self-inside.result
-    (length c.args.text.now) c.args.text.now c.self.inside.slots.items _ c.in-Ok.ensures
+      (length c.args.text.now) c.args.text.now c.self.inside.slots.items _ c.in-Ok.ensures
       refl c.raised-self-inside.ensures c.self.invariant.1,
 )
 

@@ -10,7 +10,7 @@ use Rattle.iv_hall.proofs.hall.Hall.leave.Goals as goal
 pub invariant_of-self : goal.invariant_of-self
 invariant_of-self c = (
   IsHall-set_None c.self.inside.most c.self.inside.slots.items _ c.self.inside.owed c.remove.new.self c.self.inside.told c.remove-2.new.self
-    c.self.inside.readers.items
+      c.self.inside.readers.items
       _ c.args.client c.self.invariant.0
       (HasLeft-is_so_at c.args.client c.self.inside.slots.items c.subs_at.result.now c.self.inside.readers.items c.quit_all.new.readers.items
       (c.subs_at.ensures ∙ ap (λ z. if_some (client_at z c.args.client) [] (λ

@@ -9,7 +9,7 @@ use Rattle.iv_hall.proofs.hall.Hall.redirect.Goals as goal
 pub invariant_of-self : goal.invariant_of-self
 invariant_of-self c = (
   IsHall-keeping_moved c.self.inside.most c.self.inside.slots.items _ c.self.inside.owed c.self.inside.told c.self.inside.readers.items
-    c.list_reader.new.readers.items _
+      c.list_reader.new.readers.items _
       c.args.client c.args.from c.args.to c.self.invariant.0 c.redirect_at.ensures
       (subst (λ z. IsReader c.args.client c.args.to z c.self.inside.readers.items c.list_reader.new.readers.items) c.deref.ensures.value c.in-Ok.ensures)
       (subst (λ z. HasKept c.args.client (Some c.args.from) z c.list_reader.new.readers.items c.quit_unfollowed.new.readers.items) c.deref-in-Ok.ensures.value

@@ -11,7 +11,7 @@ invariant_of-self c = (
       (c.in-Ok.ensures ∙ walked-releasing c.self.inside.slots.items c.self.inside.most c.self.inside.owed c.self.inside.told c.self.inside.readers.items
       c.list.result.now c.self.invariant.0 c.list.ensures.list c.list.ensures.once),
   AreCounted-releasing 0 c.self.inside.slots.items _
-    (c.in-Ok.ensures ∙ walked-releasing c.self.inside.slots.items c.self.inside.most c.self.inside.owed c.self.inside.told
+      (c.in-Ok.ensures ∙ walked-releasing c.self.inside.slots.items c.self.inside.most c.self.inside.owed c.self.inside.told
       c.self.inside.readers.items c.list.result.now c.self.invariant.0 c.list.ensures.list c.list.ensures.once),
 )
 

@@ -11,7 +11,7 @@ use Rattle.iv_hall.proofs.hall.Hall.settle.Goals as goal
 pub invariant_of-self : goal.invariant_of-self
 invariant_of-self c = (
   IsHall-holding_owed c.self.inside.most c.self.inside.slots.items _ c.self.inside.owed c.clear.new.self c.self.inside.told c.list_some.new.told
-    c.self.inside.readers.items
+      c.self.inside.readers.items
       c.list-owed.result.now c.args.text.now c.self.invariant.0 c.list-owed.ensures.list
       (subst (λ z. AreSet (Contains c.list-owed.result.now) (is_told_at z) c.self.inside.told c.list_some.new.told) c.deref.ensures.value c.list_some.ensures)
       (c.in-Ok.ensures ∙ walked-holding_owed c.self.inside.slots.items c.self.inside.most c.self.inside.owed c.self.inside.told c.self.inside.readers.items

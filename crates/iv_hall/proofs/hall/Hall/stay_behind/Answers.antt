@@ -14,7 +14,7 @@ invariant_of-self c = (
       (line_of c.args.line.now) c.self.invariant.0 (IsEnding-feed_ended (line_of c.args.line.now) c.in-Some.feed (sym c.in-Some.is ∙ c.feed_ended.ensures))
       (c.stay_listed.ensures ∙ (ap (λ ls. walked (keeping_on (map line_of ls)) c.readers_of-numbers.result.now c.self.inside.slots.items)
       c.from_ref.ensures.value ∙ walked-keeping_on c.self.inside.slots.items c.self.inside.most c.self.inside.owed c.self.inside.told
-        c.self.inside.readers.items
+      c.self.inside.readers.items
       c.readers_of-numbers.result.now c.in-Some.feed (line_of c.args.line.now) c.self.invariant.0
       (IsEnding-feed_ended (line_of c.args.line.now) c.in-Some.feed (sym c.in-Some.is ∙ c.feed_ended.ensures))
       (c.readers_of-numbers.ensures.numbers ∙ ap (λ z. readers_of z c.in-Some.feed) c.deref.ensures.value) c.readers_of-numbers.ensures.once))
@@ -22,7 +22,7 @@ invariant_of-self c = (
   AreCounted-at_all c.self.inside.waiting (keeping_on (line_of c.args.line.now ∷ [])) c.self.inside.slots.items _ (λ k. refl)
       (c.stay_listed.ensures ∙ (ap (λ ls. walked (keeping_on (map line_of ls)) c.readers_of-numbers.result.now c.self.inside.slots.items)
       c.from_ref.ensures.value ∙ walked-keeping_on c.self.inside.slots.items c.self.inside.most c.self.inside.owed c.self.inside.told
-        c.self.inside.readers.items
+      c.self.inside.readers.items
       c.readers_of-numbers.result.now c.in-Some.feed (line_of c.args.line.now) c.self.invariant.0
       (IsEnding-feed_ended (line_of c.args.line.now) c.in-Some.feed (sym c.in-Some.is ∙ c.feed_ended.ensures))
       (c.readers_of-numbers.ensures.numbers ∙ ap (λ z. readers_of z c.in-Some.feed) c.deref.ensures.value) c.readers_of-numbers.ensures.once))

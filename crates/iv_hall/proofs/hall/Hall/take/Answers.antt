@@ -11,7 +11,7 @@ use Rattle.iv_hall.proofs.hall.Hall.take.Goals as goal
 pub invariant_of-self : goal.invariant_of-self
 invariant_of-self c = (
   IsHall-emptied c.self.inside.most c.self.inside.slots.items _ c.self.inside.owed c.self.inside.told _ c.self.inside.readers.items c.args.client
-    c.self.invariant.0
+      c.self.invariant.0
       c.take_at-text.ensures.slots (subst (λ z. AreSet (λ m. m ≡ c.args.client) (is_told_at z) c.self.inside.told c.list_one.new.told) c.deref.ensures.value
       c.list_one.ensures),
   AreCounted-emptied c.args.client c.self.inside.waiting c.self.inside.slots.items _ c.take_at-text.ensures.slots c.self.invariant.1,

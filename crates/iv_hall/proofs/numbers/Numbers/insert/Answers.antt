@@ -19,7 +19,7 @@ returns-then-at-self c =
           length c.exchange.new.order.items;
     })) c.self.view_is
     (HasGained-IsExchanged c.self.inside.order.items c.self.inside.places.items _ _ c.self.inside.count c.args.number w (omega (arith, at, below)) ln
-      (omega (arith, at))
+    (omega (arith, at))
     c.exchange.ensures)
 
 pub returns-else-at-self : goal.returns-else-at-self

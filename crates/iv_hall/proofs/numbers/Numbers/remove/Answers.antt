@@ -19,7 +19,7 @@ returns-then-at-self c =
     (subst (λ k. HasLost c.args.number (record { list = take k c.self.inside.order.items; size = length c.self.inside.order.items })
     (record { list = take (c.self.inside.count - 1) c.exchange.new.order.items; size = length c.exchange.new.order.items })) one
     (HasLost-IsExchanged c.self.inside.order.items c.self.inside.places.items _ _ (c.self.inside.count - 1) c.args.number w (omega (arith, within)) ln
-      (omega (arith, at))
+    (omega (arith, at))
     c.exchange.ensures))
 
 pub returns-else-at-self : goal.returns-else-at-self
@@ -32,7 +32,7 @@ returns-else-at-self c =
     record {
       size = refl;
       gone = λ h. not_Contains-IsOrder c.self.inside.order.items c.self.inside.places.items c.self.inside.count c.args.number w c.self.invariant.0
-        (λ l. omega (arith, at))
+          (λ l. omega (arith, at))
           (subst (λ z. Contains z.list c.args.number) (sym c.self.view_is) h);
       kept = λ m ne h. h;
       only = λ m h. h;
