@@ -1,4 +1,4 @@
-//! `Fault`: why the program serves no more, and its exit status.
+//! `Fault`: why the program serves no more.
 use iv_gateway::GatewayFault;
 use std::alloc::{AllocError, AllocFailed};
 

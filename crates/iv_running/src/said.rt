@@ -10,14 +10,14 @@ pub const SYSTEM: u8 = 2;
 /// The status if memory is refused.
 const MEMORY: u8 = 3;
 
-/// Says that memory is refused.
+/// Says that memory is refused. The status to exit with.
 pub fn out_of_memory(rt: &HostRuntime) -> u8 {
     let _ = eprintln!(rt; "gateway: out of memory");
     MEMORY
 }
 
 /// Says why a journal cannot be used.
-pub fn no_journal(rt: &HostRuntime, path: &str, fault: &OpenFault) -> u8 {
+pub(crate) fn no_journal(rt: &HostRuntime, path: &str, fault: &OpenFault) -> u8 {
     let _ = match fault {
         OpenFault::Taken => eprintln!(rt;
             "gateway: another process writes {path}: end it, or name another journal"
@@ -30,7 +30,7 @@ pub fn no_journal(rt: &HostRuntime, path: &str, fault: &OpenFault) -> u8 {
     UNUSABLE
 }
 
-/// Says why the gateway does no more.
+/// Says why the gateway does no more. The status to exit with.
 pub fn failed(rt: &HostRuntime, journal: &FileJournal, fault: Fault) -> u8 {
     match fault {
         Fault::Memory => out_of_memory(rt),
@@ -61,7 +61,7 @@ pub fn failed(rt: &HostRuntime, journal: &FileJournal, fault: Fault) -> u8 {
 }
 
 /// Says that the system gives no random bytes.
-pub fn no_random_bytes(rt: &HostRuntime) -> u8 {
+pub(crate) fn no_random_bytes(rt: &HostRuntime) -> u8 {
     let _ = eprintln!(rt; "gateway: no random bytes");
     SYSTEM
 }
@@ -90,14 +90,14 @@ fn line_of(bytes: &[u8], place: usize) -> usize {
 }
 
 /// Says how much of a journal is cut off.
-pub fn say_cut(rt: &HostRuntime, path: &str, count: usize) {
+pub(crate) fn say_cut(rt: &HostRuntime, path: &str, count: usize) {
     let _ = eprintln!(rt;
         "gateway: cut {count} bytes off {path}, of an entry that was never acknowledged"
     );
 }
 
 /// Says at which byte a journal is damaged.
-pub fn damaged_at(rt: &HostRuntime, path: &str, bytes: &[u8], place: usize) -> u8 {
+pub(crate) fn damaged_at(rt: &HostRuntime, path: &str, bytes: &[u8], place: usize) -> u8 {
     let line = line_of(bytes, place).saturating_add(1);
     let _ = eprintln!(rt;
         "gateway: damaged: {path}: line {line}, at byte {place}, is no entry that is accepted"
@@ -106,6 +106,6 @@ pub fn damaged_at(rt: &HostRuntime, path: &str, bytes: &[u8], place: usize) -> u
 }
 
 /// Says in which line, counted from 0, a journal is damaged.
-pub fn damaged_in(rt: &HostRuntime, path: &str, bytes: &[u8], line: usize) -> u8 {
+pub(crate) fn damaged_in(rt: &HostRuntime, path: &str, bytes: &[u8], line: usize) -> u8 {
     damaged_at(rt, path, bytes, place_of(bytes, line))
 }

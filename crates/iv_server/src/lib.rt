@@ -2,6 +2,7 @@
 #![tactic(auto)]
 
 mod answering;
+mod by_token;
 mod reading;
 mod sending;
 mod server;

@@ -295,7 +295,7 @@ impl Server {
         socket.until = None;
         raise(&mut self.counts.came, 1);
         self.say_came(rt, desk, at, address, role);
-        if self.has_room(desk, at, role) {
+        if self.has_room(desk, at, role)? {
             return Ok(());
         }
         if self.log.may_say(rt, now) {
@@ -304,35 +304,18 @@ impl Server {
         close(desk, at, 1013, b"Too many connections.")
     }
 
-    /// How many have come in.
-    fn came(&self) -> usize {
-        let mut count: usize = 0;
-        for slot in self.sockets.iter() {
-            if let Some(socket) = slot {
-                if socket.came {
-                    count = count.saturating_add(1);
-                }
-            }
-        }
-        count
-    }
-
-    /// Whether one more client may stay.
-    fn has_room(&self, desk: &Desk, at: u32, role: &str) -> bool {
-        let most = self.sockets.len();
-        if role != ADMIN && most > 4 * KEPT && self.came().saturating_add(KEPT) > most {
-            return false;
-        }
+    /// One more client is there. Whether it may stay.
+    fn has_room(&mut self, desk: &Desk, at: u32, role: &str) -> Result<bool, Fault> {
+        self.inside = self.inside.saturating_add(1);
         let Some(digest) = desk.digest_of(at) else {
-            return true;
+            return Ok(true);
         };
-        let mut count: usize = 0;
-        for other in 0..self.most {
-            if desk.digest_of(other) == Some(digest) {
-                count = count.saturating_add(1);
-            }
+        let count = self.by_token.come(digest)?;
+        let most = self.sockets.len();
+        if role != ADMIN && most > 4 * KEPT && self.inside.saturating_add(KEPT) > most {
+            return Ok(false);
         }
-        count <= MOST_BY_TOKEN
+        Ok(count <= MOST_BY_TOKEN)
     }
 
     /// Whether a number is to be read in the next round, too. One with more to read makes that round come at once; one that is over is

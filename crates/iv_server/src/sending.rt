@@ -52,10 +52,20 @@ impl Server {
                 raise(&mut self.counts.refused, 1);
             }
         }
-        leave(desk, at)?;
+        self.leave_desk(desk, at)?;
         self.list(at)?;
         self.again = true;
         Ok(())
+    }
+
+    /// The client of a number goes, if one is there, and the desk has the connection no more.
+    fn leave_desk(&mut self, desk: &mut Desk, at: u32) -> Result<(), Fault>
+        ensures { Leads desk.old desk.new }
+    {
+        if let Some(digest) = desk.digest_of(at) {
+            self.by_token.go(digest)?;
+        }
+        leave(desk, at)
     }
 
     /// Sends what is left of an answer, as far as the system takes it.
@@ -237,13 +247,25 @@ impl Server {
     }
 
     /// Its client goes, if the desk has the connection of the number.
-    fn leave_at(&self, desk: &mut Desk, at: u32) -> Result<(), Fault>
+    fn leave_at(&mut self, desk: &mut Desk, at: u32) -> Result<(), Fault>
         ensures { Leads desk.old desk.new }
     {
         if self.kind(at) != Kind::Desk {
             return Ok(());
         }
-        leave(desk, at)
+        self.leave_desk(desk, at)
+    }
+
+    /// The number has no connection any more.
+    fn clear(&mut self, at: u32) {
+        if let Some(slot) = self.sockets.get_mut(at as usize) {
+            if let Some(socket) = slot {
+                if socket.came {
+                    self.inside = self.inside.saturating_sub(1);
+                }
+            }
+            *slot = None;
+        }
     }
 
     /// Lets go the connection of a number, which is free then.
@@ -264,9 +286,7 @@ impl Server {
         if kind != Kind::Ending {
             self.say_gone(rt, at, why);
         }
-        if let Some(slot) = self.sockets.get_mut(at as usize) {
-            *slot = None;
-        }
+        self.clear(at);
         self.free.push(at)?;
         Ok(())
     }

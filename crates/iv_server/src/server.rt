@@ -1,6 +1,7 @@
 //! `Server`: the sockets by their numbers, which are the desk's and the poll's, and what a round does with them.
 ghost use Rattle.iv_running.specs.Running.{Leads};
 
+use crate::by_token::ByToken;
 use crate::socket::{Socket, Stage};
 use iv_admission::Admission;
 use iv_audit::Share;
@@ -53,6 +54,10 @@ pub struct Server {
     pub(crate) gone: Vec<(u32, Why)>,
     /// Who made the entries that wait for the journal.
     pub(crate) shares: Vec<Share>,
+    /// How many that have come in are there.
+    pub(crate) inside: usize,
+    /// How many clients are there by each token.
+    pub(crate) by_token: ByToken,
     /// Somebody may wait to be accepted.
     pub(crate) accepting: bool,
     /// The next round is to come at once.
@@ -185,6 +190,8 @@ impl Server {
             asked: Vec::new(alloc),
             gone: Vec::new(alloc),
             shares: Vec::new(alloc),
+            inside: 0,
+            by_token: ByToken::new(alloc),
             accepting: false,
             again: false,
             swept: 0,
