@@ -1,8 +1,8 @@
 //! What is answered to requests that ask for no WebSocket.
 use crate::fault::Fault;
 use crate::hall::{Hall, Kind};
+use iv_arrivals::Tally;
 use iv_desk::Desk;
-use iv_gateway::Tally;
 use iv_host::{FileJournal, Now, answer, figures_now, page_in, raise, state_now};
 use iv_pages::{Ask, FIGURES_KIND};
 

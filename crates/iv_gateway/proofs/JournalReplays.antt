@@ -33,12 +33,11 @@ use Rattle.iv_gate.specs.Restoring.{IsDamagedAt, LeadOn, Restores, are_rising}
 use Rattle.iv_gate.proofs.JournalDamage.{AllByRecursion-append_back, all_carried-append, facts_of-append, facts_of, journal_of-one, journal_of-push, led, lines_of, names_in-append, AllByRecursion-push, record_in-lines_of}
 use Rattle.iv_gate.proofs.GrantsByCommands.{is_well_message-message_of}
 use Rattle.iv_gateway.specs.Replays.{AreNamesReplayed, IsNew, IsPassed, IsRecordReplayed, IsReplayed, IsReplaying, behind, is_later, part, with_name, with_request}
-use Rattle.iv_gateway.specs.Shaping.{shape_in}
+use Rattle.iv_arrivals.specs.Entering.{shape_in}
 use Rattle.iv_gateway.specs.Views.{IsAlive}
 use Rattle.iv_gateway.specs.declared.gateway.Gateway.{Gateway}
-use Rattle.iv_gateway.proofs.AddedEntries.{AreKept, names_by-push, position_of-push}
+use Rattle.iv_gateway.proofs.AddedEntries.{AreKept, names_by-push, position_of-push, shape_text-append}
 use Rattle.iv_gateway.proofs.RefusedCommands.{is_accepted-outcome}
-use Rattle.iv_gateway.proofs.ShapeLines.{shape_text-append}
 
 -- one act: what the first line says is what the machine says
 pub IsPassed-step : (g : Gate) (act : Act) (is : Bool) (x : Gateway) → is ≡ is_accepted (reply_in (step g.machine (in_session 1 act)).lines)

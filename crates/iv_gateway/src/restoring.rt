@@ -14,12 +14,12 @@ ghost use Rattle.iv_gateway.specs.Replays.{AreNamesReplayed, HasReplayed, IsName
 ghost use Rattle.iv_gateway.specs.Views.{IsAlive, IsGate};
 
 use crate::gateway::Gateway;
-use crate::seats::is_accepted;
-use crate::shaping::push_shape;
+use iv_arrivals::push_shape;
 use iv_clients::laws::records_are_read_back;
 use iv_clients::{Entry, Request, read_record};
 use iv_command::{Act, Command};
 use iv_journal::Line;
+use iv_notices::is_accepted;
 use iv_once::Named;
 use iv_request::laws::requests_are_well;
 use std::alloc::AllocError;
