@@ -19,7 +19,11 @@ is_answer e = nat_le (length e.answer) most_said && is_some (option_and_then as_
 abbrev pub step_of : Log → ℕ → Entry → Option Step
 step_of log from e = option_map (λ to. record { log = log; from = from; to = to; requests = e.requests; names = e.names }) e.position
 
+-- nothing is behind the record, and clients can be told its answers
+abbrev pub is_whole : Entry × List Line → Bool
+is_whole p = (length p.1 == 0) && list_all is_answer p.0.names
+
 -- the lines are one record of a step, of texts that a journal holds and answers that clients can be told
 abbrev pub step_in : Log → ℕ → List Line → Option Step
 step_in log from ls = if list_all (λ l. is_text l.text) ls
-    then option_and_then (λ (p : Entry × List Line). if (length p.1 == 0) && list_all is_answer p.0.names then step_of log from p.0 else None) (record_in ls) else None
+    then option_and_then (λ p. if is_whole p then step_of log from p.0 else None) (record_in ls) else None

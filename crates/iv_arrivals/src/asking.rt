@@ -90,7 +90,8 @@ impl<'a> Model for Asked<'a> {
 
 /// What a client asks by a name.
 pub fn ask_of(alloc: Global, asked: &Asked<'_>, user: &str, claim: Claim) -> Result<Ask, AllocError>
-    ensures { IfOk result (λ ask. ask ≡ record { holder = holder_of asked.now.role user.now; name = claim.name; at = claim.at; digest = sha256 asked.now.line }) }
+    ensures { IfOk result (λ ask. ask
+        ≡ record { holder = holder_of asked.now.role user.now; name = claim.name; at = claim.at; digest = sha256 asked.now.line }) }
 {
     let Claim { name, at } = claim;
     Ok(Ask {

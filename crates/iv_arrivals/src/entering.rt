@@ -20,7 +20,8 @@ use std::alloc::{AllocError, Global};
 /// # Errors
 /// `AllocError` if a growth of memory was refused; so it is of each of these functions.
 pub fn place_text(alloc: Global, names: &Names, holder: &str) -> Result<String, AllocError>
-    ensures { let o = own_of (names_of names.now).known holder.now in IfOk result (λ at. string_bytes at ≡ place_text (record { epoch = o.epoch; count = o.count })) }
+    ensures { let o = own_of (names_of names.now).known holder.now in
+        IfOk result (λ at. string_bytes at ≡ place_text (record { epoch = o.epoch; count = o.count })) }
 {
     let mut at = String::from_str(alloc, names.epoch(holder))?;
     at.push_str(".")?;

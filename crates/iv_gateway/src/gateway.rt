@@ -93,7 +93,8 @@ impl Gateway {
         most: u32,
         head: Head,
     ) -> Result<Gateway, AllocError>
-        ensures { IfOk result (λ x. (cap : ℕ) (h : spec_gate.Head) → IsBehind (start cap) engine → IsHead h head → IsGate (gate_at_start cap tokens.items most h []) x) }
+        ensures { IfOk result (λ x. (cap : ℕ) (h : spec_gate.Head) → IsBehind (start cap) engine → IsHead h head
+            → IsGate (gate_at_start cap tokens.items most h []) x) }
     {
         let clients = Hall::new(alloc, most)?;
         Ok(Gateway {

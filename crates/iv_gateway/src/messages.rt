@@ -129,7 +129,8 @@ impl Gateway {
 
     /// Has a client told that what it asks has no name.
     fn refuse_name(&mut self, client: u32, id: &Option<Id>) -> Result<(), AllocError>
-        ensures { OnOk result ((g : Gate) → IsAlive g self.old → IsAlive (tells g client (unasked (option_map id_data id.now) (unknown (codes "once")))) self.new) }
+        ensures { OnOk result ((g : Gate) → IsAlive g self.old
+            → IsAlive (tells g client (unasked (option_map id_data id.now) (unknown (codes "once")))) self.new) }
     {
         let why = Why::Unknown(String::from_str(self.alloc, "once")?);
         self.refuse_object(client, id, &why)?;

@@ -90,7 +90,8 @@ impl Gateway {
         reply: &Reply,
         made: &[u8],
     ) -> Result<(), AllocError>
-        ensures { OnOk result ((g : Gate) (act : ActSpec) → IsAlive g self.old → is_shared act ≡ true → made.now ≡ made_of asked.now act None (reply_of reply.now)
+        ensures { OnOk result ((g : Gate) (act : ActSpec) → IsAlive g self.old → is_shared act ≡ true
+            → made.now ≡ made_of asked.now act None (reply_of reply.now)
             → IsAlive (replies_to g asked.now.client (asked_id asked.now) (request_of asked.now act) None (reply_of reply.now)) self.new) }
     {
         self.enter_request(asked, None, is_done(reply), made)?;
@@ -106,7 +107,8 @@ impl Gateway {
         reply: &Reply,
         made: &[u8],
     ) -> Result<(), AllocError>
-        ensures { OnOk result ((g : Gate) (act : ActSpec) → IsAlive g self.old → is_shared act ≡ true → made.now ≡ made_of asked.now act (Some ask) (reply_of reply.now)
+        ensures { OnOk result ((g : Gate) (act : ActSpec) → IsAlive g self.old → is_shared act ≡ true
+            → made.now ≡ made_of asked.now act (Some ask) (reply_of reply.now)
             → IsAlive (replies_to g asked.now.client (asked_id asked.now) (request_of asked.now act) (Some ask) (reply_of reply.now)) self.new) }
     {
         let is_accepted = is_done(reply);
@@ -131,7 +133,8 @@ impl Gateway {
         reply: &Reply,
         made: &[u8],
     ) -> Result<(), AllocError>
-        ensures { OnOk result ((g : Gate) (act : ActSpec) → IsAlive g self.old → is_shared act ≡ true → made.now ≡ made_of asked.now act name (reply_of reply.now)
+        ensures { OnOk result ((g : Gate) (act : ActSpec) → IsAlive g self.old → is_shared act ≡ true
+            → made.now ≡ made_of asked.now act name (reply_of reply.now)
             → IsAlive (replies_to g asked.now.client (asked_id asked.now) (request_of asked.now act) name (reply_of reply.now)) self.new) }
     {
         match name {
@@ -154,7 +157,8 @@ impl Gateway {
         lines: &[Line],
         made: &[u8],
     ) -> Result<(), AllocError>
-        ensures { OnOk result ((g : Gate) (act : ActSpec) → IsAlive g self.old → is_shared act ≡ true → made.now ≡ made_of asked.now act name (reply_in (map line_of lines.now))
+        ensures { OnOk result ((g : Gate) (act : ActSpec) → IsAlive g self.old → is_shared act ≡ true
+            → made.now ≡ made_of asked.now act name (reply_in (map line_of lines.now))
             → IsAlive (replies_to g asked.now.client (asked_id asked.now) (request_of asked.now act) name (reply_in (map line_of lines.now))) self.new) }
     {
         match first_reply(lines) {
