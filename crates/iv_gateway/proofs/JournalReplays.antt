@@ -7,7 +7,6 @@ use Rattle.std.proofs.lemmas.Bool.{false≢true}
 use Rattle.std.proofs.lemmas.Bool.Decides.{nat_tests}
 use Rattle.std.proofs.lemmas.List.{drop-drop, drop_all, map-append}
 use Rattle.std.proofs.lemmas.List.Concat.{flat_map-append}
-use Rattle.json.specs.declared.scratch.Scratch.{Scratch}
 use Rattle.iv_rows.specs.Options.{if_some}
 use Rattle.iv_machine.specs.Act.{Act, Refusal, begin, finish}
 use Rattle.iv_machine.specs.Machine.{step}
@@ -439,9 +438,10 @@ IsReplayed-AreNamesReplayed g es e x y z is true well w h p n = record {
 -- ---- a record
 
 -- what JSON is read with makes no difference
-pub IsReplaying-scratch : (g : Gate) (es : List Entry) (x : Gateway) (s : Scratch) → IsReplaying g es x → IsReplaying g es (record x { scratch = s })
-IsReplaying-scratch g es x s w =
-    let b = w.gate in record {
+pub IsReplaying-scratch : (g : Gate) (es : List Entry) (x y : Gateway) → record x { scratch = y.scratch } ≡ y → IsReplaying g es x → IsReplaying g es y
+IsReplaying-scratch g es x y e w =
+    let b = w.gate in
+    subst (IsReplaying g es) e (record {
       began = w.began;
       state = w.state;
       leads = w.leads;
@@ -459,7 +459,7 @@ IsReplaying-scratch g es x s w =
         pending = b.pending;
         shape = b.shape;
       };
-    }
+    })
 
 reads_this : ReadsBack → (g h : Gate) (es : List Entry) (lines more : List Line) (e : Entry) → lines ≡ journal_of (e ∷ []) ++ more → LeadOn g (es ++ e ∷ []) h
     → record_in lines ≡ Some (e, more)
