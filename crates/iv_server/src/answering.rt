@@ -1,7 +1,7 @@
 //! What is answered to requests that ask for no WebSocket.
 use crate::server::{Kind, Server};
+use iv_arrivals::Tally;
 use iv_desk::Desk;
-use iv_gateway::Tally;
 use iv_host::{FileJournal, Now, answer, figures_now, page_in, raise, state_now};
 use iv_pages::{Ask, FIGURES_KIND};
 use iv_running::Fault;
