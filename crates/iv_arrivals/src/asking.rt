@@ -14,7 +14,7 @@ use iv_clients::{Claim, Client, holder_of};
 use iv_command::{Line, Reply};
 use iv_message::{Id, push_replied};
 use iv_once::Ask;
-use sha2::Sha256;
+use sha2::{Digest, Sha256};
 use std::alloc::{AllocError, Global};
 use std::marker::Model;
 

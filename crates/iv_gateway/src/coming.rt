@@ -13,7 +13,7 @@ use iv_clients::{Token, holder_of, token_of};
 use iv_hall::Hall;
 use iv_notices::greeting;
 use iv_rows::name_ok;
-use sha2::Sha256;
+use sha2::{Digest, Sha256};
 use std::alloc::{AllocError, Global};
 
 /// The role that a token opens, and who holds it.
