@@ -9,13 +9,14 @@ ghost use Rattle.iv_request.specs.Documents.{value_data};
 ghost use Rattle.iv_request.specs.Request.{passing};
 ghost use Rattle.iv_rows.specs.Options.{if_some};
 ghost use Rattle.iv_message.specs.Seen.{id_data};
-ghost use Rattle.iv_clients.specs.Names.{between, count_in, is_between, is_count, is_epoch, place_text};
-ghost use Rattle.iv_clients.specs.Parsed.{cut_quote, string_in};
+ghost use Rattle.iv_records.specs.Cuts.{between, cut_quote};
+ghost use Rattle.iv_records.specs.Names.{count_in, is_between, is_count, is_epoch, place_text};
+ghost use Rattle.iv_records.specs.Parsed.{string_in};
 ghost use Rattle.iv_head.specs.Begun as spec;
 ghost use Rattle.iv_head.specs.Begun.{begun_in, epoch_in, followed_in, lines_of, log_in, log_text, member_in, place_in, said_log, said_standing, standing_in, standing_text, standings_in};
 
 use itoa::Buffer;
-use iv_clients::{OwnedLine, behind, cut_at};
+use iv_records::{OwnedLine, behind, cut_at};
 use iv_journal::Line;
 use iv_message::{Id, quoted, read_id};
 use iv_once::Place;

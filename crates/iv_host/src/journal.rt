@@ -9,7 +9,7 @@ use crate::files::{check_file, read_file};
 use crate::tokens::second_now;
 use hex::encode_to_slice;
 use iv_audit::{Audit, Share, WriteFault};
-use iv_clients::OwnedLine;
+use iv_records::OwnedLine;
 use iv_disk::{Disk, KeepFault, Keeper};
 use iv_gateway::{Journal, JournalFault};
 use iv_journal::Line;

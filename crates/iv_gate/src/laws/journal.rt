@@ -8,7 +8,7 @@ ghost use Rattle.iv_gate.specs.Restoring.{IsDecided};
 ghost use Rattle.iv_gate.specs.Runs.{Runs};
 ghost use Rattle.iv_journal.specs.Journal.{Line};
 
-use iv_clients::laws::{names_are_texts, records_are_read_back};
+use iv_records::laws::{names_are_texts, records_are_read_back};
 use iv_machine::laws::{
     ends_are_told, lines_add_up, requests_open_what_they_name, steps_keep_sound, what_stands_lasts,
 };

@@ -1,6 +1,6 @@
 use Rattle.std.proofs.Common.{◌≡◌, drop, false, take, option_map}
-use Rattle.iv_clients.specs.Parsed.{cut_quote}
-use Rattle.iv_clients.proofs.CutPlaces.{before}
+use Rattle.iv_records.specs.Cuts.{cut_quote}
+use Rattle.iv_records.proofs.CutPlaces.{before}
 use Rattle.iv_head.proofs.begun.cut_quote.Given as goal
 
 abbrev pub invariant-loop-at : goal.invariant-loop-at

@@ -1,4 +1,4 @@
-use Rattle.iv_clients.proofs.PartsAsText.{passing-is_epoch}
+use Rattle.iv_records.proofs.PartsAsText.{passing-is_epoch}
 use Rattle.iv_head.proofs.begun.epoch_text.Goals as goal
 
 pub returns-in_default : goal.returns-in_default
