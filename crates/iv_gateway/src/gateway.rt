@@ -18,10 +18,10 @@ ghost use Rattle.iv_gateway.specs.Waiting.{WaitsWithin};
 
 use crate::tally::Tally;
 use iv_clients::{Feed, Seat, Token};
-use iv_records::OwnedLine;
 use iv_engine::Engine;
 use iv_hall::Hall;
 use iv_once::Names;
+use iv_records::OwnedLine;
 use json::Scratch;
 use std::alloc::{AllocError, Global};
 use std::marker::Model;

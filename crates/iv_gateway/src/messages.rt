@@ -17,10 +17,10 @@ ghost use Rattle.iv_gateway.specs.Views.{IsAlive, IsGate};
 use crate::gateway::{Gateway, GatewayFault};
 use crate::sharing::Asked;
 use iv_clients::Client;
-use iv_records::{Claim, Said, is_shared, read_said};
 use iv_command::Act;
 use iv_gate::laws::events_leave_their_marks;
 use iv_message::{Id, Message, Why, push_unasked};
+use iv_records::{Claim, Said, is_shared, read_said};
 use std::alloc::{AllocError, Global};
 use std::marker::Model;
 

@@ -16,11 +16,11 @@ ghost use Rattle.iv_gateway.specs.Views.{IsAlive, IsGate};
 use crate::gateway::Gateway;
 use crate::seats::is_accepted;
 use crate::shaping::push_shape;
-use iv_records::laws::records_are_read_back;
-use iv_records::{Entry, Request, read_record};
 use iv_command::{Act, Command};
 use iv_journal::Line;
 use iv_once::Named;
+use iv_records::laws::records_are_read_back;
+use iv_records::{Entry, Request, read_record};
 use iv_request::laws::requests_are_well;
 use std::alloc::AllocError;
 

@@ -12,11 +12,11 @@ ghost use Rattle.iv_gateway.specs.Views.{IsAlive};
 
 use crate::gateway::Gateway;
 use iv_clients::Client;
-use iv_records::is_shape;
 use iv_command::Act;
 use iv_hall::Hall;
 use iv_message::laws::told_texts_are_lines;
 use iv_message::{push_made, push_placed, push_settled, push_welcome};
+use iv_records::is_shape;
 use std::alloc::{AllocError, Global};
 
 /// The most bytes of the shape's text, beyond which nothing more makes the shape.

@@ -9,7 +9,7 @@ use Rattle.iv_request.specs.Request.{passing}
 use Rattle.iv_journal.specs.Journal.{Line}
 use Rattle.iv_once.specs.Names.{Known, Place, begun}
 use Rattle.iv_records.specs.Journal.{Entry, IsEntry, journal_of}
-use Rattle.iv_records.specs.Cuts.{between, cut_quote, behind, cut_at}
+use Rattle.iv_records.specs.Cuts.{behind, between, cut_at, cut_quote}
 use Rattle.iv_records.specs.Names.{count_in, is_count, is_epoch, place_text}
 use Rattle.iv_records.specs.Parsed.{string_in}
 

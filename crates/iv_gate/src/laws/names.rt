@@ -8,8 +8,8 @@ ghost use Rattle.iv_gate.specs.Laws.{NamesAreOnce};
 ghost use Rattle.iv_gate.specs.Replies.{refused_by};
 ghost use Rattle.iv_gate.specs.Runs.{Runs};
 
-use iv_records::laws::{names_are_texts, records_are_read_back};
 use iv_message::laws::told_texts_are_lines;
+use iv_records::laws::{names_are_texts, records_are_read_back};
 
 /// In whatever runs, over restarts, at most one entry of a holder's bears a name with its place, in the whole journal.
 pub fn names_are_once()
