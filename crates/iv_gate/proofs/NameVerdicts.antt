@@ -40,7 +40,7 @@ own_other e k holder t =
 -- j entries of the holder came after one with the name, whose place was not ahead then: while that is kept, it is among the last ones
 pub record IsUsed (name : List ℕ) (at : Place) (j : ℕ) (o : Own) : Type 0 where
   pub count : at.count + (1 + j) ≤ o.count
-  pub Among-find_named : j < 64 → is_some (find_named name (take (suc j) o.recent)) ≡ true
+  pub found : j < 64 → is_some (find_named name (take (suc j) o.recent)) ≡ true
 
 found_here : (name : List ℕ) (e : Named) (es : List Named) → bytes_eq e.ask.name name ≡ true → is_some (find_named name (e ∷ es)) ≡ true
 found_here name e es t = ap (λ b. is_some (cond b (Some e) (find_named name es))) t
