@@ -2,8 +2,8 @@
 use Rattle.std.proofs.Common.{◌≡◌, ℕ, zero, suc, ◌+◌, ◌<◌, ◌≤◌, Bool, true, false, cond, not, List, [], ◌∷◌, take, length, Option, Some, None, is_some, refl, ap, ◌∙◌, sym, subst, arith, ◌||◌, inl, inr}
 use Rattle.std.specs.Prelude.{◌&&◌, ◌++◌, bytes_eq, count_by, filter, nat_le, nat_lt, unwrap_or, option_map, Contains, drop, ◌⊎◌}
 use Rattle.std.proofs.lemmas.Bool.Decides.{nat_tests}
-use Rattle.iv_clients.specs.Journal.{names_in}
-use Rattle.iv_clients.specs.Names.{limits, place_text}
+use Rattle.iv_records.specs.Journal.{names_in}
+use Rattle.iv_records.specs.Names.{limits, place_text}
 use Rattle.iv_once.specs.Names.{Ask, Known, Limits, Named, Names, Own, Place, carry, by_count, by_found, find_named, is_over, is_place, learned, named, own_of, spent_by, spent_more, verdict, with_entry, Verdict}
 use Rattle.iv_once.specs.Names as verdicts
 use Rattle.iv_once.specs.Laws.{times, Among}
@@ -40,7 +40,7 @@ own_other e k holder t =
 -- j entries of the holder came after one with the name, whose place was not ahead then: while that is kept, it is among the last ones
 pub record IsUsed (name : List ℕ) (at : Place) (j : ℕ) (o : Own) : Type 0 where
   pub count : at.count + (1 + j) ≤ o.count
-  pub Among-find_named : j < 64 → is_some (find_named name (take (suc j) o.recent)) ≡ true
+  pub found : j < 64 → is_some (find_named name (take (suc j) o.recent)) ≡ true
 
 found_here : (name : List ℕ) (e : Named) (es : List Named) → bytes_eq e.ask.name name ≡ true → is_some (find_named name (e ∷ es)) ≡ true
 found_here name e es t = ap (λ b. is_some (cond b (Some e) (find_named name es))) t

@@ -4,7 +4,7 @@ ghost use Rattle.std.specs.List.{list_all};
 ghost use Rattle.iv_command.specs.Views.{line_of};
 ghost use Rattle.iv_machine.specs.Machine.{Outcome};
 ghost use Rattle.iv_clients.specs.Clients.{own_lines};
-ghost use Rattle.iv_clients.specs.Journal.{Entry};
+ghost use Rattle.iv_records.specs.Journal.{Entry};
 ghost use Rattle.iv_clients.specs.Kept.{kept_slots};
 ghost use Rattle.iv_steps.specs.Steps.{is_well_fact};
 ghost use Rattle.iv_engine.specs.Stepped.{is_write};

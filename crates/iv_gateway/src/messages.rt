@@ -7,7 +7,7 @@ ghost use Rattle.iv_message.specs.Seen.{id_data, said_of, why_of};
 ghost use Rattle.iv_message.specs.Told.{unasked};
 ghost use Rattle.iv_clients.specs.Clients as spec;
 ghost use Rattle.iv_clients.specs.Clients.{client_at, saying};
-ghost use Rattle.iv_clients.specs.Journal.{claim_said, is_shared, line_said};
+ghost use Rattle.iv_records.specs.Journal.{claim_said, is_shared, line_said};
 ghost use Rattle.iv_clients.specs.Kept.{kept};
 ghost use Rattle.iv_gate.specs.Events.{failed, message, next};
 ghost use Rattle.iv_gate.specs.Gate.{Gate, acts, done_for, hears, is_heard, said, tells};

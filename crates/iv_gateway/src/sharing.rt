@@ -4,7 +4,7 @@ ghost use Rattle.iv_command.specs.Views.{act_of, line_of, refusal_of, reply_of};
 ghost use Rattle.iv_machine.specs.Act.{Act as ActSpec, Reply as ReplySpec, refused};
 ghost use Rattle.iv_machine.specs.Well.{is_well_act};
 ghost use Rattle.iv_message.specs.Told.{answered, denied, undecided};
-ghost use Rattle.iv_clients.specs.Journal.{is_shared};
+ghost use Rattle.iv_records.specs.Journal.{is_shared};
 ghost use Rattle.iv_clients.specs.Clients as spec;
 ghost use Rattle.iv_clients.specs.Names.{Claim, place_text};
 ghost use Rattle.iv_once.specs.Names as once;
