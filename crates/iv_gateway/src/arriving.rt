@@ -18,11 +18,12 @@ ghost use Rattle.iv_gateway.specs.Views.{IsAlive, IsGate};
 
 use crate::gateway::Gateway;
 use iv_arrivals::{Step, are_writes, facts_of, learn};
-use iv_clients::{Request, drop_ended, push_step};
+use iv_clients::drop_ended;
 use iv_command::{Line, Refusal};
 use iv_engine::{Fact, StepFault as EngineFault};
 use iv_message::laws::told_texts_are_lines;
 use iv_notices::{Readable, all_readable, hear_newly};
+use iv_records::{Request, push_step};
 use iv_request::laws::requests_are_well;
 use iv_steps::laws::refusals_are_found;
 use std::alloc::AllocError;

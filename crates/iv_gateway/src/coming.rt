@@ -9,9 +9,10 @@ ghost use Rattle.iv_gateway.specs.Views.{IsAlive};
 
 use crate::gateway::Gateway;
 use iv_arrivals::place_text;
-use iv_clients::{Token, holder_of, token_of};
+use iv_clients::{Token, token_of};
 use iv_hall::Hall;
 use iv_notices::greeting;
+use iv_records::holder_of;
 use iv_rows::name_ok;
 use sha2::{Digest, Sha256};
 use std::alloc::{AllocError, Global};

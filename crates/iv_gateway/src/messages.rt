@@ -16,10 +16,11 @@ ghost use Rattle.iv_gateway.specs.Views.{IsAlive, IsGate};
 
 use crate::gateway::{Gateway, GatewayFault};
 use iv_arrivals::{Asked, Speaker, speaker_at};
-use iv_clients::{Claim, Client, Said, is_shared, read_said};
+use iv_clients::Client;
 use iv_command::Act;
 use iv_gate::laws::events_leave_their_marks;
 use iv_message::{Id, Message, Why, push_unasked};
+use iv_records::{Claim, Said, is_shared, read_said};
 use std::alloc::AllocError;
 
 impl Gateway {
