@@ -5,8 +5,7 @@ ghost use Rattle.iv_rows.specs.Options.{if_some};
 ghost use Rattle.iv_command.specs.Views.{line_of, reply_of};
 ghost use Rattle.iv_machine.specs.Act.{no_session, refused};
 ghost use Rattle.iv_clients.specs.Clients.{client_at};
-ghost use Rattle.iv_records.specs.Names.{Claim, holder_of};
-ghost use Rattle.iv_once.specs.Names.{Ask};
+ghost use Rattle.iv_records.specs.Names.{holder_of};
 ghost use Rattle.iv_gate.specs.Gate.{answer_text, is_accepted, reply_in};
 ghost use Rattle.iv_arrivals.specs.Speaking.{speaker_in};
 

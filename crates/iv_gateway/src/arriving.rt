@@ -1,5 +1,5 @@
 //! `take_step`: a step of the log that is followed is taken whole, or the gateway is dead. Each client is told once what differs after it.
-ghost use Rattle.std.specs.Prelude.{◌≡◌, ◌++◌, ◌∷◌, [], IfErr, IfOk, None, OnErr, OnOk, false, map, true};
+ghost use Rattle.std.specs.Prelude.{◌≡◌, ◌++◌, ◌∷◌, [], IfErr, IfOk, OnErr, OnOk, false, map, true};
 ghost use Rattle.std.specs.List.{list_all};
 ghost use Rattle.iv_command.specs.Views.{line_of};
 ghost use Rattle.iv_machine.specs.Machine.{Outcome};

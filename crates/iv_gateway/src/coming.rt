@@ -1,8 +1,7 @@
 //! Who presents a token comes in.
-ghost use Rattle.std.specs.Prelude.{◌≡◌, ◌&&◌, if◌then◌else◌, Some, None, IfOk, OnOk, is_some, option_and_then, option_map, slice_set, string_bytes, true};
+ghost use Rattle.std.specs.Prelude.{◌≡◌, ◌&&◌, if◌then◌else◌, Some, None, IfOk, OnOk, is_some, option_and_then, option_map, slice_set, string_bytes};
 ghost use Rattle.iv_rows.specs.Names.{is_name};
 ghost use Rattle.iv_clients.specs.Clients.{fresh, is_free};
-ghost use Rattle.iv_records.specs.Names.{holder_of, place_text};
 ghost use Rattle.iv_clients.specs.Tokens.{Token as TokenSpec, token_of};
 ghost use Rattle.iv_gate.specs.Gate.{Gate, at_text, came, token_for};
 ghost use Rattle.iv_gateway.specs.Views.{IsAlive};
