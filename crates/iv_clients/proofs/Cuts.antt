@@ -28,7 +28,7 @@ Found-option_and_then f (Some x) y h = record { of = x; there = refl; is = h }
 
 pub record Passes {X : Type 0} (t : X → Bool) (x y : X) : Type 0 where
   pub same : x ≡ y
-  pub Passes-passing : t y ≡ true
+  pub passes : t y ≡ true
 
 pub Passes-passing : {X : Type 0} (t : X → Bool) (x y : X) → passing t x ≡ Some y → Passes t x y
 Passes-passing t x y h = by (t x) refl h
@@ -40,10 +40,10 @@ Passes-passing t x y h = by (t x) refl h
 pub passing-true : {X : Type 0} (t : X → Bool) (x : X) → t x ≡ true → passing t x ≡ Some x
 passing-true t x h = ap (λ b. cond b (Some x) None) h
 
--- what Passes-passing after something
+-- what passes after something
 pub record Passed {X : Type 0} (t : X → Bool) (o : Option X) (y : X) : Type 0 where
   pub there : o ≡ Some y
-  pub Passes-passing : t y ≡ true
+  pub passes : t y ≡ true
 
 pub Passed-option_and_then : {X : Type 0} (t : X → Bool) (o : Option X) (y : X) → option_and_then (passing t) o ≡ Some y → Passed t o y
 Passed-option_and_then t o y h =
