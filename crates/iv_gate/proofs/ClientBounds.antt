@@ -12,7 +12,7 @@ use Rattle.iv_message.specs.Told.{Told, settled}
 use Rattle.iv_clients.specs.Bounds.{most_piled, most_requests, most_subs, most_waiting}
 use Rattle.iv_clients.specs.Clients.{Client, Shown, Slots, Sub, answered, at_all, at_client, beating, by_others, checked, client_at, dropping, fresh, handing, is_slow, may_say, opens, released, saying, settling, staying, telling, text_shown, told_one, waiting}
 use Rattle.iv_clients.specs.Feeds.{ends_in, is_of_role}
-use Rattle.iv_clients.specs.Journal.{Entry, said_by, shape_for}
+use Rattle.iv_records.specs.Journal.{Entry, said_by, shape_for}
 use Rattle.iv_clients.specs.Tokens.{Token}
 use Rattle.iv_clients.proofs.Slots.{client_at-at_all, client_at-at_other_client, client_at-at_client, not_client_at-replicate, same-Some}
 use Rattle.iv_gate.specs.Events.{Event, presented, message, gone, known, ticked, synced, handed, failed, happens, next, arrived, forgave}

@@ -11,7 +11,7 @@ use Rattle.iv_message.specs.Message.{Message}
 use Rattle.iv_message.specs.Told.{Told, made, granted}
 use Rattle.iv_clients.specs.Clients.{Client, Slots, at_all, at_client, client_at, closing, following, moved, settling, staying, telling, told_one, own_lines}
 use Rattle.iv_clients.specs.Feeds.{Seat}
-use Rattle.iv_clients.specs.Journal.{Entry, Request, shape_for}
+use Rattle.iv_records.specs.Journal.{Entry, Request, shape_for}
 use Rattle.iv_once.specs.Names.{Ask}
 use Rattle.iv_clients.proofs.Slots.{client_at-at_all, client_at-at_other_client, client_at-at_client, same-Some}
 use Rattle.iv_gate.specs.Gate.{Gate, all_rested, all_swept, done_for, entered, entries_of, in_session, ran, replies_to, reply_to, reply_told, done_in, settles, informs, tells, told_of, with_session, went_on}

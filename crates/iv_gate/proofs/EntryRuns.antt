@@ -11,8 +11,8 @@ use Rattle.iv_machine.specs.State.{State, start}
 use Rattle.iv_once.specs.Names.{Ask}
 use Rattle.iv_steps.specs.Steps.{Fact, all_carried, carried, shared, stepped}
 use Rattle.iv_clients.specs.Clients.{Shown, at_client, saying}
-use Rattle.iv_clients.specs.Journal.{Entry, Request, is_shared}
-use Rattle.iv_clients.specs.Laws.{ReadsBack}
+use Rattle.iv_records.specs.Journal.{Entry, Request, is_shared}
+use Rattle.iv_records.specs.Laws.{ReadsBack}
 use Rattle.iv_clients.specs.Tokens.{Token}
 use Rattle.iv_journal.specs.Journal.{Line}
 use Rattle.iv_gate.specs.Arriving.{Step, entry_of, fact_of, fault_of, was_taken, landed, takes}

@@ -9,8 +9,8 @@ use Rattle.iv_machine.specs.declared.Cause.{Cause}
 use Rattle.iv_machine.specs.Machine.{Outcome, difference}
 use Rattle.iv_message.specs.Told.{Told, over}
 use Rattle.iv_clients.specs.Clients.{Client, Shown, all_shown, client_at, followed_by, fresh, handing, may_say, saying, told}
-use Rattle.iv_clients.specs.Journal.{IsRequest, Request, is_shared, said_by}
-use Rattle.iv_clients.specs.Names.{holder_of, place_text}
+use Rattle.iv_records.specs.Journal.{IsRequest, Request, is_shared, said_by}
+use Rattle.iv_records.specs.Names.{holder_of, place_text}
 use Rattle.iv_steps.specs.Laws.{RefusalsAreFound}
 use Rattle.iv_steps.specs.Steps.{stepped}
 use Rattle.iv_clients.proofs.Slots.{same-Some}

@@ -7,7 +7,7 @@ use Rattle.iv_rows.specs.Names.{is_name}
 use Rattle.iv_rows.specs.Options.{if_some}
 use Rattle.iv_clients.specs.Clients.{Client, Slots, at_all, at_client, beating, checked, client_at, dropping, fresh, handing, is_free, is_slow, may_say, opens, released, saying}
 use Rattle.iv_clients.specs.Feeds.{is_of_role}
-use Rattle.iv_clients.specs.Journal.{Entry}
+use Rattle.iv_records.specs.Journal.{Entry}
 use Rattle.iv_machine.specs.Machine.{Outcome}
 use Rattle.iv_steps.specs.Steps.{stepped}
 use Rattle.iv_clients.specs.Tokens.{Token, token_of}

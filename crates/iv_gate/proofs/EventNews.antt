@@ -10,7 +10,7 @@ use Rattle.iv_machine.specs.Sound.{IsSoundState}
 use Rattle.iv_message.specs.Told.{Told, alive, changed, settled, granted}
 use Rattle.iv_clients.specs.Clients.{Client, Shown, Slots, Sub, answered, at_all, at_client, beating, checked, client_at, dropping, fresh, handing, is_slow, may_say, opens, released, saying, settling, told, told_one, own_lines, staying, telling}
 use Rattle.iv_clients.specs.Feeds.{is_of_role}
-use Rattle.iv_clients.specs.Journal.{Entry, said_by, requests_in, shape_for}
+use Rattle.iv_records.specs.Journal.{Entry, said_by, requests_in, shape_for}
 use Rattle.iv_clients.specs.Tokens.{Token}
 use Rattle.iv_clients.proofs.Slots.{client_at-at_all, client_at-at_other_client, client_at-at_client, is_free-client_at, same-Some, client_at-set_other, not_None-Some}
 use Rattle.iv_gate.specs.Events.{Event, presented, message, gone, known, ticked, synced, handed, failed, happens, next, arrived, forgave}

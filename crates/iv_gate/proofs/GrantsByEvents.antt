@@ -17,7 +17,7 @@ use Rattle.iv_message.proofs.Meaning.{ReadsWell}
 use Rattle.iv_message.specs.Told.{Told, changed, over, granted}
 use Rattle.iv_clients.specs.Clients.{Client, Shown, Sub, at_client, client_at, may_say, own_line, own_lines, saying, told}
 use Rattle.iv_clients.specs.Feeds.{Feed, Seat, is_of_role, rel_read, seat_of, without_seat}
-use Rattle.iv_clients.specs.Journal.{Entry, said_by, requests_in}
+use Rattle.iv_records.specs.Journal.{Entry, said_by, requests_in}
 use Rattle.iv_clients.specs.Tokens.{Token}
 use Rattle.iv_clients.proofs.Slots.{same-Some, not_None-Some}
 use Rattle.iv_journal.specs.Journal as journals

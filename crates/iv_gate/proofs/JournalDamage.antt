@@ -10,10 +10,10 @@ use Rattle.iv_machine.specs.State.{State}
 use Rattle.iv_once.specs.Names.{Known, Named, learned, named}
 use Rattle.iv_journal.specs.Journal.{Line}
 use Rattle.iv_steps.specs.Steps.{Fact, all_carried, carried}
-use Rattle.iv_clients.specs.Journal.{Entry, IsEntry, journal_of, names_in, record_of, requests_in, texts_of}
-use Rattle.iv_clients.specs.Laws.{Begins, ReadsBack}
-use Rattle.iv_clients.specs.Names.{limits}
-use Rattle.iv_clients.specs.Parsed.{record_in}
+use Rattle.iv_records.specs.Journal.{Entry, IsEntry, journal_of, names_in, record_of, requests_in, texts_of}
+use Rattle.iv_records.specs.Laws.{Begins, ReadsBack}
+use Rattle.iv_records.specs.Names.{limits}
+use Rattle.iv_records.specs.Parsed.{record_in}
 use Rattle.iv_clients.proofs.Slots.{same-Some, not_None-Some}
 use Rattle.iv_gate.specs.Arriving.{Fault, fact_of, first_known, is_new, not_new, position}
 use Rattle.iv_gate.specs.Gate.{Gate, known_of}

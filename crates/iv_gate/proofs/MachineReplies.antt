@@ -22,7 +22,7 @@ use Rattle.iv_message.specs.Told.{Told, replied, denied, unasked, undecided, ans
 use Rattle.iv_clients.specs.Bounds.{most_feeds, most_seats, most_subs}
 use Rattle.iv_clients.specs.Clients.{Client, Slots, client_at}
 use Rattle.iv_clients.specs.Feeds.{Feed, Seat, feed_for, is_begun, next_seat, room_for, seat_of, without_feed, without_seat}
-use Rattle.iv_clients.specs.Journal.{said_by, Request, claim_said, names_in, Entry}
+use Rattle.iv_records.specs.Journal.{said_by, Request, claim_said, names_in, Entry}
 use Rattle.iv_clients.proofs.Slots.{not_None-Some}
 use Rattle.iv_gate.specs.Events.{Event}
 use Rattle.iv_gate.specs.Gate.{Gate, begun_for, in_session, is_accepted, reply_in, reply_to, seated, has_shape_room, Log, answer_text, answering, asked_by, entered, entries_of, may_have, names_of, place_at, place_of}
@@ -38,7 +38,7 @@ use Rattle.iv_gate.proofs.SeatsAndFeeds.{IsFed, numbers_in, has_role-client_at, 
 use Rattle.iv_gate.proofs.SoundCommands.{IsSoundGate, Sounds, feed_of-filter}
 use Rattle.iv_gate.proofs.NumberSums.{or-both_false}
 use Rattle.iv_once.specs.Names.{Ask, Verdict, verdict, Named}
-use Rattle.iv_clients.specs.Names.{Claim, place_text}
+use Rattle.iv_records.specs.Names.{Claim, place_text}
 use Rattle.iv_gate.proofs.NameVerdicts.{has_to_wait, is_again, is_ahead, is_another, is_carried, is_foreign, is_late, place_text-place_after, Reason, Reason-verdict}
 use Rattle.iv_gate.proofs.NamedReplies.{AreNew, HasToWait-ahead, HasToWait-is_over, IsAnswer-find_named, IsBarred-late, IsBarred-other_digest, IsBarred-other_epoch, MayBeDone-IsFree, NoneAnswers-other_digest, NoneAnswers-remembered_by, not_HasToWait}
 use Rattle.std.proofs.lemmas.Slice.Eq.{bytes_eq-Decides}

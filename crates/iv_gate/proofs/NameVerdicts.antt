@@ -2,8 +2,8 @@
 use Rattle.std.proofs.Common.{◌≡◌, ℕ, zero, suc, ◌+◌, ◌<◌, ◌≤◌, Bool, true, false, cond, not, List, [], ◌∷◌, take, length, Option, Some, None, is_some, refl, ap, ◌∙◌, sym, subst, arith, ◌||◌, inl, inr}
 use Rattle.std.specs.Prelude.{◌&&◌, ◌++◌, bytes_eq, count_by, filter, nat_le, nat_lt, unwrap_or, option_map, Contains, drop, ◌⊎◌}
 use Rattle.std.proofs.lemmas.Bool.Decides.{nat_tests}
-use Rattle.iv_clients.specs.Journal.{names_in}
-use Rattle.iv_clients.specs.Names.{limits, place_text}
+use Rattle.iv_records.specs.Journal.{names_in}
+use Rattle.iv_records.specs.Names.{limits, place_text}
 use Rattle.iv_once.specs.Names.{Ask, Known, Limits, Named, Names, Own, Place, carry, by_count, by_found, find_named, is_over, is_place, learned, named, own_of, spent_by, spent_more, verdict, with_entry, Verdict}
 use Rattle.iv_once.specs.Names as verdicts
 use Rattle.iv_once.specs.Laws.{times}

@@ -5,8 +5,8 @@ use Rattle.std.specs.List.{AllByRecursion}
 use Rattle.std.proofs.lemmas.Bool.{ltb-true, false≢true}
 use Rattle.std.proofs.lemmas.List.{reverse-append}
 use Rattle.std.proofs.lemmas.List.Elements.{All-contains, All-from_recursion, Contains-append_left, Contains-append_right, Contains-push}
-use Rattle.iv_clients.specs.Journal.{names_in}
-use Rattle.iv_clients.specs.Names.{limits}
+use Rattle.iv_records.specs.Journal.{names_in}
+use Rattle.iv_records.specs.Names.{limits}
 use Rattle.iv_once.specs.Laws.{Among}
 use Rattle.iv_once.specs.Names.{Ask, Known, Named, Own, find_named, is_over, is_place, learned, named, own_of, spent_by, with_entry}
 use Rattle.iv_once.proofs.HolderEntries.{Among-find_named}

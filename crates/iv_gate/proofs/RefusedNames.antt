@@ -9,8 +9,8 @@ use Rattle.iv_rows.specs.Options.{if_some}
 use Rattle.iv_machine.specs.Act.{Act, begin, finish, create_role, create_table, create_view, grant, revoke, grant_role, revoke_role, row_security, create_policy, drop_policy, subscribe, unsubscribe, write, Reply}
 use Rattle.iv_message.specs.Message.{Message, no_json, too_long, no_object, no_request, request}
 use Rattle.iv_clients.specs.Clients.{Client, Shown, client_at, may_say}
-use Rattle.iv_clients.specs.Journal.{Entry, Request, claim_said, names_in, said_by}
-use Rattle.iv_clients.specs.Names.{Claim, limits}
+use Rattle.iv_records.specs.Journal.{Entry, Request, claim_said, names_in, said_by}
+use Rattle.iv_records.specs.Names.{Claim, limits}
 use Rattle.iv_clients.specs.Tokens.{Token}
 use Rattle.iv_journal.specs.Journal.{Line}
 use Rattle.iv_once.specs.Names.{Ask, Named, Verdict, is_over, spent_by, verdict}

@@ -10,7 +10,7 @@ use Rattle.iv_message.specs.Told.{replied, unasked}
 use Rattle.iv_clients.specs.Bounds.{most_feeds, most_subs}
 use Rattle.iv_clients.specs.Clients.{Client, at_client, client_at, closing, followed_by, is_followed, may_say, moved, saying}
 use Rattle.iv_clients.specs.Feeds.{Feed, Seat, feed_for, feed_of, has_room, is_of_role, is_reading, load, room_for, seat_of, without_seat}
-use Rattle.iv_clients.specs.Journal.{said_by, Request, claim_said}
+use Rattle.iv_records.specs.Journal.{said_by, Request, claim_said}
 use Rattle.iv_clients.proofs.Slots.{not_None-Some}
 use Rattle.iv_gate.specs.Events.{Event, presented, message, gone, known, ticked, synced, handed, failed, happens, next, arrived, forgave}
 use Rattle.iv_gate.specs.Gate.{Gate, acts, all_rested, all_swept, begun_for, closes, done_for, feed_begun, hears, in_session, is_needed, joined, joined_by, joins, ran, reads, reads_first, reply_to, rested, token_for, said, seated, settles, shut, subscribes, swept, tells, went, with_session, shares, may_have}
@@ -23,7 +23,7 @@ use Rattle.iv_clients.specs.Tokens.{Token}
 use Rattle.iv_gate.specs.Arriving.{Step, fault_of, was_taken, landed, entry_of, fact_of, takes}
 use Rattle.iv_steps.specs.Steps.{stepped}
 use Rattle.iv_machine.specs.Machine.{Outcome}
-use Rattle.iv_clients.specs.Names.{Claim}
+use Rattle.iv_records.specs.Names.{Claim}
 use Rattle.iv_gate.proofs.RequestFates.{shares_so}
 use Rattle.iv_gate.proofs.StepRelations.{request_of}
 

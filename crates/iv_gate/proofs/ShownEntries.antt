@@ -11,7 +11,7 @@ use Rattle.iv_machine.specs.Act.{Command, Reply, refused}
 use Rattle.iv_machine.specs.Machine.{step, Outcome}
 use Rattle.iv_message.specs.Told.{Told, alive, settled}
 use Rattle.iv_clients.specs.Clients.{Client, Shown, Slots, all_shown, answered, at_all, at_client, beating, checked, client_at, closing, dropping, following, fresh, handing, is_slow, may_say, moved, opens, released, saying, settling, staying, telling, told_one}
-use Rattle.iv_clients.specs.Journal.{Entry, said_by, shape_for, Request}
+use Rattle.iv_records.specs.Journal.{Entry, said_by, shape_for, Request}
 use Rattle.iv_clients.specs.Tokens.{Token}
 use Rattle.iv_clients.proofs.Slots.{client_at-at_all, client_at-at_other_client, client_at-at_client, is_free-client_at, same-Some, client_at-set_None, client_at-set_other, not_None-Some}
 use Rattle.iv_gate.specs.Events.{Event, presented, message, gone, known, ticked, synced, handed, failed, happens, next, arrived, forgave}

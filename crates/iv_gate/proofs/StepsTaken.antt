@@ -12,7 +12,7 @@ use Rattle.iv_machine.specs.State.{Frame, State, Subscription, session_of, subsc
 use Rattle.iv_message.specs.Told.{Told, granted}
 use Rattle.iv_clients.specs.Clients.{Client, own_lines}
 use Rattle.iv_clients.specs.Feeds.{Feed, ends_in}
-use Rattle.iv_clients.specs.Journal.{Entry}
+use Rattle.iv_records.specs.Journal.{Entry}
 use Rattle.iv_steps.specs.Laws.{IsStep}
 use Rattle.iv_steps.specs.Steps.{Fact, all_carried, among, carried, is_shared, looked_at, passed, shared, stepped}
 use Rattle.iv_gate.specs.Arriving.{Step, entry_of, fact_of, fault_of, was_taken, landed, newly, takes}

@@ -13,8 +13,8 @@ use Rattle.iv_machine.specs.Act.{Command, Reply, refused}
 use Rattle.iv_machine.specs.Machine.{Outcome, step}
 use Rattle.iv_message.specs.Told.{Told, alive, settled}
 use Rattle.iv_clients.specs.Clients.{Client, Shown, Slots, answered, may_say, at_all, at_client, beating, checked, client_at, closing, dropping, following, fresh, handing, is_free, is_slow, moved, opens, released, saying, settling, staying, telling, told_one, greeting}
-use Rattle.iv_clients.specs.Journal.{Entry, IsEntry, Request, journal_of, names_in, said_by, shape_for}
-use Rattle.iv_clients.specs.Laws.{ReadsBack}
+use Rattle.iv_records.specs.Journal.{Entry, IsEntry, Request, journal_of, names_in, said_by, shape_for}
+use Rattle.iv_records.specs.Laws.{ReadsBack}
 use Rattle.iv_once.specs.Names.{Ask}
 use Rattle.iv_steps.specs.Steps.{stepped}
 use Rattle.iv_clients.specs.Tokens.{Token, token_of}

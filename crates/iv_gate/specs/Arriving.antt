@@ -7,8 +7,8 @@ use Rattle.iv_machine.specs.Machine.{Outcome}
 use Rattle.iv_machine.specs.State.{Frame}
 use Rattle.iv_message.specs.Told.{granted}
 use Rattle.iv_clients.specs.Clients.{own_lines}
-use Rattle.iv_clients.specs.Journal.{Entry, Request, position_of}
-use Rattle.iv_clients.specs.Names.{limits}
+use Rattle.iv_records.specs.Journal.{Entry, Request, position_of}
+use Rattle.iv_records.specs.Names.{limits}
 use Rattle.iv_once.specs.Names as once
 use Rattle.iv_once.specs.Names.{Ask, Known, Named, learned, named}
 use Rattle.iv_steps.specs.Steps.{Fact, first_refused, shared, stepped}

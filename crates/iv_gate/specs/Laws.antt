@@ -7,8 +7,8 @@ use Rattle.iv_machine.specs.State.{start}
 use Rattle.iv_message.specs.Told.{Told, alive, granted, made, settled}
 use Rattle.iv_clients.specs.Bounds.{most_piled, most_requests, most_subs}
 use Rattle.iv_clients.specs.Clients.{Client, Shown, all_shown, by_others, client_at, may_say, text_shown, told}
-use Rattle.iv_clients.specs.Journal.{Entry, is_shape, requests_in, shape_for}
-use Rattle.iv_clients.specs.Names.{limits}
+use Rattle.iv_records.specs.Journal.{Entry, is_shape, requests_in, shape_for}
+use Rattle.iv_records.specs.Names.{limits}
 use Rattle.iv_journal.specs.Journal.{Line}
 use Rattle.iv_once.specs.Laws.{times}
 use Rattle.iv_once.specs.Names.{Place}

@@ -13,8 +13,8 @@ use Rattle.iv_message.specs.Told.{Told, welcome, replied, opened, fault, unasked
 use Rattle.iv_clients.specs.Clients.{Client, client_at, followed_by, may_say, told}
 use Rattle.iv_clients.specs.Bounds.{most_feeds, most_seats, most_subs}
 use Rattle.iv_clients.specs.Feeds.{Feed, Seat, feed_for}
-use Rattle.iv_clients.specs.Journal.{Entry, Request, claim_said, line_said, names_in, said_by}
-use Rattle.iv_clients.specs.Names.{Claim, limits, place_text}
+use Rattle.iv_records.specs.Journal.{Entry, Request, claim_said, line_said, names_in, said_by}
+use Rattle.iv_records.specs.Names.{Claim, limits, place_text}
 use Rattle.iv_once.specs.Names.{Ask, Named}
 use Rattle.iv_gate.specs.Events.{Event, message, next}
 use Rattle.iv_gate.specs.Gate.{Gate, answer_text, asked_by, columns_in, entries_of, has_shape_room, in_session, known_of, may_have, place_at, reply_in}

@@ -4,7 +4,7 @@ use Rattle.std.specs.List.{AllByRecursion}
 use Rattle.iv_rows.specs.Options.{if_some}
 use Rattle.iv_machine.specs.State.{State, start}
 use Rattle.iv_clients.specs.Clients.{Shown}
-use Rattle.iv_clients.specs.Journal.{Entry, IsEntry, journal_of, names_in, requests_in}
+use Rattle.iv_records.specs.Journal.{Entry, IsEntry, journal_of, names_in, requests_in}
 use Rattle.iv_clients.specs.Tokens.{Token}
 use Rattle.iv_journal.specs.Journal.{Line}
 use Rattle.iv_steps.specs.Steps.{all_carried}

@@ -8,7 +8,7 @@ use Rattle.iv_access.specs.Rights.{Name}
 use Rattle.iv_clients.specs.Bounds.{most_seats}
 use Rattle.iv_clients.specs.Clients.{Client, client_at, fresh, handing, is_free, is_slow, opens, saying}
 use Rattle.iv_clients.specs.Feeds.{seat_of}
-use Rattle.iv_clients.specs.Names.{holder_of}
+use Rattle.iv_records.specs.Names.{holder_of}
 use Rattle.iv_clients.specs.Tokens.{Token, role_opened, token_of}
 use Rattle.iv_gate.specs.Events.{Event, presented, gone, known, synced, handed, next}
 use Rattle.iv_gate.specs.Gate.{Gate}

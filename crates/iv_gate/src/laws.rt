@@ -16,7 +16,7 @@ ghost use Rattle.iv_gate.specs.Touched.{AreTouched};
 pub mod examples;
 pub mod journal;
 
-use iv_clients::laws::{names_are_texts, records_are_read_back};
+use iv_records::laws::{names_are_texts, records_are_read_back};
 use iv_machine::laws::{
     ends_are_told, lines_add_up, requests_open_what_they_name, steps_keep_sound, what_stands_lasts,
 };

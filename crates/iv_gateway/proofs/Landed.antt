@@ -18,8 +18,8 @@ use Rattle.iv_once.specs.Views.{names_of as names_in_code}
 use Rattle.iv_steps.specs.Laws.{RefusalsAreFound}
 use Rattle.iv_steps.specs.Steps.{Fact, first_refused, is_shared, is_well_fact, shared, stepped}
 use Rattle.iv_command.specs.Views.{refusal_of}
-use Rattle.iv_clients.specs.Journal.{Entry, IsRequest, Request, is_shape, names_in, record_of, texts_of}
-use Rattle.iv_clients.specs.Names.{limits}
+use Rattle.iv_records.specs.Journal.{Entry, IsRequest, Request, is_shape, names_in, record_of, texts_of}
+use Rattle.iv_records.specs.Names.{limits}
 use Rattle.iv_gate.specs.Arriving.{Fault, Step, entry_of, fact_of, fault_of, first_known, gap, was_taken, is_log, is_new, landed, not_accepted, not_new, other_log, position, takes}
 use Rattle.iv_gate.specs.Gate.{Gate, entered, known_of, names_of, shape_text}
 use Rattle.iv_gateway.specs.Arriving.{IsFaultOf, IsLanded, IsNotLanded, IsRefusedBy, IsTakenBy, all_pushed}

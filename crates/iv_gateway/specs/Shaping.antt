@@ -1,7 +1,7 @@
 -- For contracts of the code: the text of the shape, and who is told it.
 use Rattle.std.specs.Prelude.{ℕ, ◌++◌, Bool, if◌then◌else◌, List, [], ◌∷◌, bytes_eq, codes, None}
 use Rattle.iv_access.specs.Rights.{Name}
-use Rattle.iv_clients.specs.Journal.{Request}
+use Rattle.iv_records.specs.Journal.{Request}
 use Rattle.iv_gate.specs.Gate.{shape_text}
 use Rattle.iv_message.specs.Told.{placed, settled, told_text, welcome}
 

@@ -6,9 +6,9 @@ use Rattle.iv_access.specs.Rights.{Name}
 use Rattle.iv_machine.specs.Act.{Act, Reply}
 use Rattle.iv_message.specs.Seen.{id_data}
 use Rattle.iv_message.specs.declared.message.Id.{Id}
-use Rattle.iv_clients.specs.Journal.{Request, name_text, record_of}
+use Rattle.iv_records.specs.Journal.{Request, name_text, record_of}
 use Rattle.iv_clients.specs.Kept.{Kept, may_ask}
-use Rattle.iv_clients.specs.Parsed.{text_of_request}
+use Rattle.iv_records.specs.Parsed.{text_of_request}
 use Rattle.iv_gate.specs.Gate.{entries_of, shape_text}
 use Rattle.iv_journal.specs.Journal.{Line}
 use Rattle.iv_once.specs.Names.{Ask, Named}

@@ -3,7 +3,7 @@ ghost use Rattle.std.specs.Prelude.{◌≡◌, ◌∷◌, ◌++◌, if◌then◌
 ghost use Rattle.iv_rows.specs.Options.{if_some};
 ghost use Rattle.iv_command.specs.Views.{act_of, line_of};
 ghost use Rattle.iv_clients.specs.Clients.{at_all, at_client, client_at};
-ghost use Rattle.iv_clients.specs.Journal.{Entry};
+ghost use Rattle.iv_records.specs.Journal.{Entry};
 ghost use Rattle.iv_clients.specs.Kept.{Kept};
 ghost use Rattle.iv_gate.specs.Gate.{Gate, has_shape_room, informs, shape_text};
 ghost use Rattle.iv_gateway.specs.Granting.{holding_for};
@@ -11,11 +11,12 @@ ghost use Rattle.iv_gateway.specs.Shaping.{greeting_text, is_admin, shape_in};
 ghost use Rattle.iv_gateway.specs.Views.{IsAlive};
 
 use crate::gateway::Gateway;
-use iv_clients::{Client, is_shape};
+use iv_clients::Client;
 use iv_command::Act;
 use iv_hall::Hall;
 use iv_message::laws::told_texts_are_lines;
 use iv_message::{push_made, push_placed, push_settled, push_welcome};
+use iv_records::is_shape;
 use std::alloc::{AllocError, Global};
 
 /// The most bytes of the shape's text, beyond which nothing more makes the shape.
