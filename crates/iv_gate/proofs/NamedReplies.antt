@@ -38,7 +38,7 @@ reverse-cons_append e a b = sym (ap (λ z. z ++ b) (reverse-append (e ∷ []) a)
 recent_known : (es : List Named) (k : Known) (holder : List ℕ) → take 64 (own_of k holder).recent ≡ (own_of k holder).recent
     → (own_of (known_by k es) holder).recent ≡ take 64 (reverse (names_with holder es) ++ (own_of k holder).recent)
 recent_known [] k holder h = sym h
-recent_known (e ∷ es) k holder h = by (bytes_eq e.ask.holder holder) refl
+recent_known (e ∷ es) k holder h = by (bytes_eq e.ask.holder holder) refl (recent_known es (learned limits (named e) k) holder)
   where
     o : Own
     o = own_of k holder
@@ -47,17 +47,19 @@ recent_known (e ∷ es) k holder h = by (bytes_eq e.ask.holder holder) refl
     more = learned limits (named e) k
 
     by : (d : Bool) → bytes_eq e.ask.holder holder ≡ d
+        → (take 64 (own_of (learned limits (named e) k) holder).recent ≡ (own_of (learned limits (named e) k) holder).recent
+        → (own_of (known_by (learned limits (named e) k) es) holder).recent ≡ take 64 (reverse (names_with holder es) ++ (own_of (learned limits (named e) k) holder).recent))
         → (own_of (known_by (learned limits (named e) k) es) holder).recent ≡ take 64 (reverse (cond d (e ∷ names_with holder es) (names_with holder es)) ++ (own_of k holder).recent)
-    by true q =
+    by true q rest =
         let same : (own_of more holder).recent ≡ take 64 (e ∷ o.recent) = ap (λ (x : Own). x.recent) (own_same e k holder q) in
         let short : take 64 (own_of more holder).recent ≡ (own_of more holder).recent = subst (λ z. take 64 z ≡ z) (sym same) (take-take_more 64 64 (e ∷ o.recent) (omega arith)) in
-        recent_known es more holder short
+        rest short
         ∙ (ap (λ z. take 64 (reverse (names_with holder es) ++ z)) same
         ∙ (take-append_take 64 64 (reverse (names_with holder es)) (e ∷ o.recent) (omega arith)
         ∙ ap (take 64) (reverse-cons_append e (names_with holder es) o.recent)))
-    by false q =
+    by false q rest =
         let same : (own_of more holder).recent ≡ o.recent = ap (λ (x : Own). x.recent) (own_other e k holder q) in
-        recent_known es more holder (subst (λ z. take 64 z ≡ z) (sym same) h) ∙ ap (λ z. take 64 (reverse (names_with holder es) ++ z)) same
+        rest (subst (λ z. take 64 z ≡ z) (sym same) h) ∙ ap (λ z. take 64 (reverse (names_with holder es) ++ z)) same
 
 pub recent-remembered_by : (g : Gate) (holder : List ℕ) → (own_of (known_of g) holder).recent ≡ remembered_by g holder
 recent-remembered_by g holder =
@@ -96,12 +98,12 @@ Contains-remembered_by g holder x h = contains_among x (remembered_by g holder) 
 
 Among-reverse : (x : Named) (xs : List Named) → Among x (reverse xs) → Among x xs
 Among-reverse x [] h = h
-Among-reverse x (e ∷ es) h = by (Among-append x (reverse es) (e ∷ []) (subst (Among x) (reverse-append (e ∷ []) es) h))
+Among-reverse x (e ∷ es) h = by (Among-append x (reverse es) (e ∷ []) (subst (Among x) (reverse-append (e ∷ []) es) h)) (Among-reverse x es)
   where
-    by : Among x (reverse es) ⊎ Among x (e ∷ []) → Among x (e ∷ es)
-    by (inl i) = inr (Among-reverse x es i)
-    by (inr (inl i)) = inl i
-    by (inr (inr i)) = absurd i
+    by : Among x (reverse es) ⊎ Among x (e ∷ []) → (Among x (reverse es) → Among x es) → Among x (e ∷ es)
+    by (inl i) rest = inr (rest i)
+    by (inr (inl i)) rest = inl i
+    by (inr (inr i)) rest = absurd i
 
 -- what is remembered is a name of the holder's
 Among-take_reverse : (n : ℕ) (x : Named) (xs : List Named) → Among x (take n (reverse xs)) → Among x xs
@@ -109,7 +111,7 @@ Among-take_reverse n x xs h = Among-reverse x xs (Among-take n x (reverse xs) h)
 
 -- ---- of names that were new each at its turn none is remembered twice
 
-AreApart : List Named → Type 0
+abbrev AreApart : List Named → Type 0
 AreApart [] = Unit {0}
 AreApart (e ∷ es) = (find_named e.ask.name es ≡ None) × AreApart es
 
@@ -207,7 +209,7 @@ used_on (e ∷ es) k holder x u = used_on es (learned limits (named e) k) holder
 
 was_used : (n : ℕ) (es : List Named) (k : Known) (holder : List ℕ) (x : Named) → first_known n es k ≡ None → Among x (names_with holder es) → WasUsed x (own_of (known_by k es) holder)
 was_used n [] k holder x h i = absurd i
-was_used n (e ∷ es) k holder x h i = by (bytes_eq e.ask.holder holder) refl i
+was_used n (e ∷ es) k holder x h i = by (bytes_eq e.ask.holder holder) refl i (was_used (n + 1) es (learned limits (named e) k) holder x t.1)
   where
     t : IsFresh k e × (first_known (n + 1) es (learned limits (named e) k) ≡ None)
     t = new_in_turn n e es k h
@@ -216,10 +218,11 @@ was_used n (e ∷ es) k holder x h i = by (bytes_eq e.ask.holder holder) refl i
     here q = subst (WasUsed e) (sym (own_same e k holder q))
         (0, used_first e (own_of k holder) (subst (λ z. e.ask.at.count ≤ (own_of k z).count) (same-bytes_eq e.ask.holder holder q) t.0.reached))
 
-    by : (d : Bool) → bytes_eq e.ask.holder holder ≡ d → Among x (cond d (e ∷ names_with holder es) (names_with holder es)) → WasUsed x (own_of (known_by (learned limits (named e) k) es) holder)
-    by true q (inl s) = used_on es (learned limits (named e) k) holder x (subst (λ z. WasUsed z (own_of (learned limits (named e) k) holder)) s (here q))
-    by true q (inr j) = was_used (n + 1) es (learned limits (named e) k) holder x t.1 j
-    by false q j = was_used (n + 1) es (learned limits (named e) k) holder x t.1 j
+    by : (d : Bool) → bytes_eq e.ask.holder holder ≡ d → Among x (cond d (e ∷ names_with holder es) (names_with holder es))
+        → (Among x (names_with holder es) → WasUsed x (own_of (known_by (learned limits (named e) k) es) holder)) → WasUsed x (own_of (known_by (learned limits (named e) k) es) holder)
+    by true q (inl s) rest = used_on es (learned limits (named e) k) holder x (subst (λ z. WasUsed z (own_of (learned limits (named e) k) holder)) s (here q))
+    by true q (inr j) rest = rest j
+    by false q j rest = rest j
 
 -- ---- as laws say it
 
@@ -256,7 +259,7 @@ module _ (g : Gate) (a : Ask) where
   pub HasToWait-ahead : nat_lt (own_of (known_of g) a.holder).count a.at.count ≡ true → HasToWait g a 104
   HasToWait-ahead t = replies.ahead (subst (λ n. n < a.at.count) (count_is g a.holder) (ltb-true (own_of (known_of g) a.holder).count a.at.count t))
 
-  spent : ℕ
+  abbrev spent : ℕ
   spent = spent_by (spent_in (names_in (drop g.forgiven g.entries))) a.holder
 
   spent_is : spent_by (spent_in (names_in (drop g.forgiven g.entries))) a.holder ≡ refused_by g a.holder

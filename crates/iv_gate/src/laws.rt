@@ -16,11 +16,11 @@ ghost use Rattle.iv_gate.specs.Touched.{AreTouched};
 pub mod examples;
 pub mod journal;
 
-use iv_records::laws::{names_are_texts, records_are_read_back};
 use iv_machine::laws::{
     ends_are_told, lines_add_up, requests_open_what_they_name, steps_keep_sound, what_stands_lasts,
 };
 use iv_message::laws::told_texts_are_lines;
+use iv_records::laws::{names_are_texts, records_are_read_back};
 use iv_steps::laws::{refusals_are_found, steps_are_told};
 
 pub mod hearing;
