@@ -29,7 +29,7 @@ use Rattle.iv_gate.proofs.EventMarks.{next-alive as is_alive, came_as, sign-came
 use Rattle.iv_gate.proofs.ClientFacts.{Later, to_done, to_settles, to_then}
 use Rattle.iv_gate.specs.Laws.{is_made}
 use Rattle.std.proofs.lemmas.List.Elements.{filter-append}
-use Rattle.iv_gate.specs.Arriving.{Step, entry_of, fact_of, fault_of, is_behind, landed, newly, takes}
+use Rattle.iv_gate.specs.Arriving.{Step, entry_of, fact_of, fault_of, was_taken, landed, newly, takes}
 use Rattle.iv_steps.specs.Steps.{stepped}
 
 -- ---- one step and the next
@@ -361,7 +361,7 @@ data TakesBy (g : Gate) (s : Step) (h : Gate) (c d : Client) : Type 0 where
   lands : IsToldStep g h s c d → TakesBy g s h c d
 
 takes_all : (g : Gate) (s : Step) (j : ℕ) (c d : Client) → client_at g.clients j ≡ Some c → client_at (takes g s).clients j ≡ Some d → TakesBy g s (takes g s) c d
-takes_all g s j c d t k = by (is_some (fault_of g s)) (is_behind g s) (stepped (map fact_of s.requests) g.machine) refl k
+takes_all g s j c d t k = by (is_some (fault_of g s)) (was_taken g s) (stepped (map fact_of s.requests) g.machine) refl k
   where
     by : (x y : Bool) (o : Option Outcome) → stepped (map fact_of s.requests) g.machine ≡ o → let h = cond x (record g { dead = true }) (cond y g (if_some o g (landed g (entry_of s)))) in
         client_at h.clients j ≡ Some d → TakesBy g s h c d

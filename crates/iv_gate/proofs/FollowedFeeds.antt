@@ -45,7 +45,7 @@ use Rattle.iv_gate.proofs.RequestFates.{shares_so}
 use Rattle.iv_gate.proofs.StepRelations.{request_of}
 use Rattle.iv_journal.specs.Journal.{Line}
 use Rattle.iv_steps.specs.Steps.{Fact, stepped}
-use Rattle.iv_gate.specs.Arriving.{Step, entry_of, fact_of, fault_of, is_behind, landed, takes}
+use Rattle.iv_gate.specs.Arriving.{Step, entry_of, fact_of, fault_of, was_taken, landed, takes}
 use Rattle.iv_gate.proofs.ClientFacts.{step_told}
 
 -- ---- clients that follow what they did
@@ -538,7 +538,7 @@ using_landed sounds g e fs o h b a =
     using_settles (informs behind (e ∷ [])) (using_informs behind (e ∷ []) (IsUsing-went_on none_but now o (step_told g o) (omega (arith, same)) (record { followed = a.followed; fit = a.fit })))
 
 using_takes : Sounds → (g : Gate) (x : Step) → IsSoundGate g → IsUsing none_but g → IsUsing none_but (takes g x)
-using_takes sounds g x b a = by (is_some (fault_of g x)) (is_behind g x) (stepped (map fact_of x.requests) g.machine) refl
+using_takes sounds g x b a = by (is_some (fault_of g x)) (was_taken g x) (stepped (map fact_of x.requests) g.machine) refl
   where
     by : (d p : Bool) (o : Option Outcome) → stepped (map fact_of x.requests) g.machine ≡ o → IsUsing none_but (cond d (record g { dead = true }) (cond p g (if_some o g (landed g (entry_of x)))))
     by true p o e = record { followed = a.followed; fit = a.fit }

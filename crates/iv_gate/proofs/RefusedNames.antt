@@ -112,16 +112,16 @@ module _ (g : Gate) (s : IsSpent (view g)) where
       by false = entries name w
 
   verdict_room : (q : Request) (a : Ask) (v : Verdict) → Reason (names_of g) a v → HasRoom (view g) (verdict_added g q a v)
-  verdict_room q a _ (is_carried w) = decided_room q (Some a) (λ b e. ap (λ (z : Ask). is_over (names_of g) z.holder) (same b e) ∙ w)
+  verdict_room q a _ (is_carried f w d) = decided_room q (Some a) (λ b e. ap (λ (z : Ask). is_over (names_of g) z.holder) (same b e) ∙ w)
     where
       same : (b : Ask) → Some a ≡ Some b → b ≡ a
       same b e = cc
   verdict_room q a _ (is_again x f t) = none_more (view g) s
   verdict_room q a _ (is_another x f t) = none_more (view g) s
-  verdict_room q a _ (is_late t) = none_more (view g) s
-  verdict_room q a _ (is_foreign t) = none_more (view g) s
-  verdict_room q a _ (is_ahead t) = none_more (view g) s
-  verdict_room q a _ (has_to_wait t) = none_more (view g) s
+  verdict_room q a _ (is_late f t) = none_more (view g) s
+  verdict_room q a _ (is_foreign f t) = none_more (view g) s
+  verdict_room q a _ (is_ahead f t) = none_more (view g) s
+  verdict_room q a _ (has_to_wait f t) = none_more (view g) s
 
   shared_room : (c : Client) (q : Request) (claim : Option Claim) → HasRoom (view g) (shared_added g c q claim)
   shared_room c q None = decided_room q None (λ a e. never a e)

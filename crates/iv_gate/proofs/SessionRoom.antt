@@ -41,7 +41,7 @@ use Rattle.iv_gate.proofs.RequestFates.{shares_so}
 use Rattle.iv_gate.proofs.StepRelations.{request_of}
 use Rattle.iv_steps.specs.Steps.{Fact, stepped}
 use Rattle.iv_machine.specs.Sound.{IsSoundState}
-use Rattle.iv_gate.specs.Arriving.{Step, entry_of, fact_of, fault_of, is_behind, landed, newly, takes}
+use Rattle.iv_gate.specs.Arriving.{Step, entry_of, fact_of, fault_of, was_taken, landed, newly, takes}
 use Rattle.iv_gate.proofs.StepsTaken.{IsBegun-all_carried}
 
 -- what holds of a gateway besides that its clients are in step
@@ -390,7 +390,7 @@ kept_landed sounds g e fs o h s b =
     kept_settles (informs behind (e ∷ [])) (kept_informs behind (e ∷ []) (record { shared = IsShared-stepped sounds g (e ∷ []) fs o (λ c. own_lines g.feeds o.lines c.subs ++ map granted (newly g.machine.frame o.state.frame c.role)) h s.state b.shared; few = AreFew-filter _ g.feeds b.few }))
 
 kept_takes : Sounds → (g : Gate) (x : Step) → IsSoundGate g → IsKept g → IsKept (takes g x)
-kept_takes sounds g x s b = by (is_some (fault_of g x)) (is_behind g x)
+kept_takes sounds g x s b = by (is_some (fault_of g x)) (was_taken g x)
   where
     lands : (o : Option Outcome) → stepped (map fact_of x.requests) g.machine ≡ o → IsKept (if_some o g (landed g (entry_of x)))
     lands None h = b

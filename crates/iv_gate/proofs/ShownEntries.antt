@@ -23,7 +23,7 @@ use Rattle.iv_gate.proofs.SoundSteps.{AllByRecursion-map}
 use Rattle.iv_gate.proofs.StepRelations.{Keeps, Steps, came_keeps, step_done, went_keeps, request_of}
 use Rattle.iv_gate.proofs.EventMarks.{next-alive as is_alive, client_at-is_gone, Opens-token_for, next-dead}
 use Rattle.iv_once.specs.Names.{Ask}
-use Rattle.iv_gate.specs.Arriving.{Step, entry_of, fact_of, fault_of, is_behind, landed, takes}
+use Rattle.iv_gate.specs.Arriving.{Step, entry_of, fact_of, fault_of, was_taken, landed, takes}
 use Rattle.iv_gate.proofs.ClientFacts.{client_at-landed, landed_client, step_told}
 use Rattle.iv_steps.specs.Steps.{stepped}
 
@@ -330,7 +330,7 @@ landed_shows g e o c =
     (told_settling es (telling es more z))
 
 takes_shows : (g : Gate) (s : Step) (j : ℕ) (c d : Client) → client_at g.clients j ≡ Some c → client_at (takes g s).clients j ≡ Some d → IsShowing (takes g s).entries false c d
-takes_shows g s j c d t k = by (is_some (fault_of g s)) (is_behind g s) (stepped (map fact_of s.requests) g.machine) k
+takes_shows g s j c d t k = by (is_some (fault_of g s)) (was_taken g s) (stepped (map fact_of s.requests) g.machine) k
   where
     by : (x y : Bool) (o : Option Outcome) → let h = cond x (record g { dead = true }) (cond y g (if_some o g (landed g (entry_of s)))) in client_at h.clients j ≡ Some d → IsShowing h.entries false c d
     by true y o i = same_client g.entries false g.clients j c d t i

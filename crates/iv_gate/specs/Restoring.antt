@@ -54,7 +54,7 @@ pub record IsDamagedAt (g : Gate) (lines : List Line) (place : ℕ) : Type 0 whe
   pub rest : List Line
   pub all : lines ≡ journal_of entries ++ rest
   pub leads : LeadOn g entries gate
-  pub behind : place ≡ length (journal_of entries)
+  pub after : place ≡ length (journal_of entries)
   pub some : place < length lines
   pub bad : (e : Entry) (more : List Line) (h : Gate) → rest ≡ journal_of (e ∷ []) ++ more → LeadOn g (entries ++ e ∷ []) h → ⊥
 

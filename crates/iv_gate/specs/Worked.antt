@@ -107,8 +107,8 @@ abbrev pub too_large : Step
 too_large = step 1 2 (by_admin (put (2 ^ 62)) ∷ by_admin (put (2 ^ 62)) ∷ [])
 
 -- what was taken already; what begins elsewhere; of another log; what ann may not do
-abbrev pub behind : Step
-behind = step 0 1 (by_admin (put 3) ∷ [])
+abbrev pub taken_before : Step
+taken_before = step 0 1 (by_admin (put 3) ∷ [])
 
 abbrev pub later : Step
 later = step 2 3 []

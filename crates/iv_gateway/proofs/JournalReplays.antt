@@ -561,7 +561,7 @@ IsDamagedAt-IsRecordReplayed g journal at x y w h r = record {
   rest = drop at journal;
   all = w.lines;
   leads = w.gate.leads;
-  behind = w.count;
+  after = w.count;
   some = h;
   bad = r;
 }
