@@ -315,7 +315,11 @@ impl Gateway {
                 self.leave(asked, 103)?;
                 Ok(())
             }
-            Verdict::Ahead | Verdict::Over => {
+            Verdict::Ahead => {
+                self.leave(asked, 104)?;
+                Ok(())
+            }
+            Verdict::Over => {
                 self.leave(asked, 104)?;
                 Ok(())
             }
