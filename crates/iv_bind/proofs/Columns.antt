@@ -37,7 +37,7 @@ only_one p [] x h = cc
 only_one p (y ∷ []) x h = let e : y ≡ x = cc in ap (λ z. z ∷ []) e
 only_one p (y ∷ z ∷ ys) x h = cc
 
--- a column that is slice_get-column_bound has its kind at its place
+-- a column that is bound has its kind at its place
 pub slice_get-column_bound : (scope : List Named) (c : ColumnTree) (x : ℕ × Kind) → column_bound scope c ≡ Ok x → slice_get (kinds_in scope) x.0 ≡ Some x.1
 unfolding column_bound
 slice_get-column_bound scope c x h =

@@ -1,4 +1,4 @@
--- What a client is told by an event: IsCalm-same_told of what is read, or what one command of the machine tells.
+-- What a client is told by an event: nothing of what is read, or what one command of the machine tells.
 use Rattle.std.proofs.Common.{◌≡◌, ℕ, ◌+◌, ◌≤◌, Bool, true, false, cond, ◌||◌, List, [], ◌∷◌, ◌++◌, length, drop, map, set, Option, Some, None, option_map, refl, ap, ◌∙◌, sym, subst, append-nil}
 use Rattle.std.specs.Prelude.{◌==◌, filter, flat_map, is_some}
 use Rattle.std.specs.List.{list_any}
@@ -350,7 +350,7 @@ landed_all g e o j c d t k =
     (calm_behind g (landed g e o) (landed g e o) o (grants c) (e ∷ []) c (shapes (first c)) (settling es (shapes (first c))) refl refl (settled_calm es (shapes (first c))) (subs-settling es (shapes (first c))).0
     (told_whole g (landed g e o) o (e ∷ []) refl refl es es grants [] c c refl tt refl (sym (append-nil (told c))) refl refl))
 
--- by an event that is no step, by a step, or where IsCalm-same_told happens
+-- by an event that is no step, by a step, or where nothing happens
 pub data HearsBy (g : Gate) (e : Event) (c d : Client) : Type 0 where
   heard : ((s : Step) → e ≡ arrived s → ⊥) → Hears g (next g e) c d → HearsBy g e c d
   untaken : (next g e).machine ≡ g.machine → (next g e).entries ≡ g.entries → c ≡ d → HearsBy g e c d

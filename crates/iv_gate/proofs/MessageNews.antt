@@ -1,4 +1,4 @@
--- What a client is told by a message: IsCalm-same_told of what is read, or what one command of the machine tells.
+-- What a client is told by a message: nothing of what is read, or what one command of the machine tells.
 use Rattle.std.proofs.Common.{◌≡◌, ℕ, ◌+◌, ◌≤◌, Bool, true, false, cond, not, ◌||◌, List, [], ◌∷◌, ◌++◌, length, map, ℤ, Option, Some, None, option_map, refl, ap, ◌∙◌, sym, subst, arith, append-nil}
 use Rattle.std.specs.Prelude.{◌==◌, filter, flat_map}
 use Rattle.std.specs.List.{AllByRecursion, list_any}
@@ -114,7 +114,7 @@ change_silent : (feeds : List Feed) (n t : ℕ) (rows : List (List Cell × ℤ))
 change_silent feeds n t rows [] a = refl
 change_silent feeds n t rows (x ∷ xs) a = (λ i. cond (a.0 i) (changed x.own rows ∷ []) [] ++ change_silent feeds n t rows xs a.1 i)
 
--- who follows others hears IsCalm-same_told of it
+-- who follows others hears nothing of it
 others_silent : (feeds : List Feed) (o : List (List Cell × ℤ)) (e : Subscription) (n : ℕ) (r : Reply) (xs : List Sub) → AllByRecursion (λ (s : Sub). (e.number == s.feed) ≡ false) xs
     → own_lines feeds (reply n r ∷ lines_told None e o) xs ≡ []
 others_silent feeds [] e n r xs a = ap (λ z. z ++ []) (flat_map-own_line feeds n r xs)

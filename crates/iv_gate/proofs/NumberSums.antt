@@ -90,7 +90,7 @@ this_line q feeds (ended n k why rows) s = by (k == s.feed) refl
 
 -- ---- the numbers of a client
 
--- they are distinct, and none is list_any-above_given the last one given
+-- they are distinct, and none is above the last one given
 abbrev pub AreOwn : ℕ → List Sub → Type 0
 AreOwn given [] = Unit {0}
 AreOwn given (x ∷ xs) = (x.own ≤ given) × (list_any (λ (y : Sub). x.own == y.own) xs ≡ false) × AreOwn given xs
@@ -143,7 +143,7 @@ sum_for-own_lines feeds (l ∷ ls) given xs h =
     {R = λ y. (q : List Cell) → sum_for y.own q (own_lines feeds (l ∷ ls) xs) ≡ held y.feed q (l ∷ ls)}
     (λ y a b q. sum_for-append y.own q (line_told feeds l xs) (own_lines feeds ls xs) ∙ (λ i. a q i +ℤ b q i)) xs (all_add feeds l given xs h) (sum_for-own_lines feeds ls given xs h)
 
--- of a number list_any-above_given all that were given nothing is told
+-- of a number above all that were given nothing is told
 pub list_any-above_given : (given own : ℕ) (xs : List Sub) → AreOwn given xs → given < own → list_any (λ (y : Sub). own == y.own) xs ≡ false
 list_any-above_given given own [] h k = refl
 list_any-above_given given own (x ∷ xs) h k = (λ i. differs given own x.own h.0 k i || list_any-above_given given own xs h.2 k i)

@@ -223,7 +223,7 @@ Spares s k j = list_any (λ i. j == i) (closed_in s k (refusal s k.session k.act
 abbrev pub Adds : Type 0
 Adds = (s : State) (cs : List Command) → AreNumbersUnique s.frame → AddsUp s cs
 
--- a command leads IsFrom-option_map a sound state to another, what stands lasts, no subscription ends untold, and what is named is opened; and steps are told
+-- a command leads from a sound state to another, what stands lasts, no subscription ends untold, and what is named is opened; and steps are told
 pub record Sounds : Type 0 where
   pub sound : (s : State) (c : Command) → IsSoundState s → IsSoundState (step s c).state
   pub lasts : (s : State) (c : Command) → Lasts c s.frame (step s c).state.frame

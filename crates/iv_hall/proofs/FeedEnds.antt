@@ -44,7 +44,7 @@ unfollowed k l (s ∷ ss) e h =
     ap (λ b. cond (not (b || false)) (s ∷ filter (λ (x : Sub). not (ends_in (l ∷ []) x.feed)) ss) (filter (λ (x : Sub). not (ends_in (l ∷ []) x.feed)) ss)) off
     ∙ ap (λ z. s ∷ z) (unfollowed k l ss e p.1)
 
--- who does not follow what a line ends IsHall-keeping_on as it is
+-- who does not follow what a line ends goes on as it is
 pub stays_still : (k : ℕ) (l : Line) (c : Kept) → IsEnding k l → is_following k c ≡ false → keeping_on (l ∷ []) c ≡ c
 stays_still k l c e h i = record c { subs = unfollowed k l c.subs e h i }
 

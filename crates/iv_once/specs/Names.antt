@@ -13,7 +13,7 @@ pub record Place : Type 0 where
   pub epoch : List ℕ
   pub count : ℕ
 
--- a request with a name: whose it is (role and user), its name, its place, and the SHA-256 of its bytes without `id`
+-- a request with a name: whose it is (role and user), its name, its place, and the SHA-256 of its bytes without its id and its name
 pub record Ask : Type 0 where
   pub holder : List ℕ
   pub name : List ℕ

@@ -33,7 +33,7 @@ pub struct Ask {
     pub name: String,
     /// When the client first sent it.
     pub at: Place,
-    /// The SHA-256 of its bytes without `id`.
+    /// The SHA-256 of its bytes without its id and its name.
     pub digest: [u8; 32],
 }
 

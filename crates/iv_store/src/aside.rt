@@ -16,9 +16,13 @@ use std::mem;
 /// Sessions and subscriptions, with the circuits that these read and the last number given.
 #[derive(Drop)]
 pub struct Aside {
+    /// The sessions that are open, and their roles.
     pub sessions: Sessions,
+    /// Their subscriptions, by session and number.
     pub subscriptions: Vec<Subscription>,
+    /// The circuits that subscriptions read.
     pub circuits: Circuits,
+    /// The number that was given last to a subscription.
     pub last: u64,
 }
 
