@@ -1,0 +1,4 @@
+pub mod Said
+pub mod Answers
+pub mod Talk
+pub mod Views
