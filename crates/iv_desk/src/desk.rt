@@ -16,9 +16,10 @@ use crate::place::{Hearing, Place};
 use crate::places::{
     close_at, dismiss_told, empty_places, hear_at, is_free, offer_told, pass_at, put_at, read_at,
 };
+use iv_arrivals::Tally;
 use iv_clients::{OwnedLine, Token};
 use iv_gate::laws::events_leave_their_marks;
-use iv_gateway::{Gateway, GatewayFault, Journal, RestoreFault, Tally};
+use iv_gateway::{Gateway, GatewayFault, Journal, RestoreFault};
 use iv_journal::Line;
 use std::alloc::{AllocError, Global};
 

@@ -29,10 +29,10 @@ use Rattle.iv_gate.specs.Gate.{asked_by, by_verdict, carries, decided_elsewhere,
 use Rattle.iv_gate.specs.Laws.{LeavesMarks}
 use Rattle.iv_gate.proofs.GrownTexts.{Grown, Kit-Grown}
 use Rattle.iv_gate.proofs.ClientFacts.{to_done, to_settles, to_then}
-use Rattle.iv_gateway.specs.Speaking.{Speaking, speaker_in, speaking}
+use Rattle.iv_arrivals.specs.Speaking.{Speaking, speaker_in, speaking}
 use Rattle.iv_gateway.specs.Views.{IsAlive, IsRun}
 use Rattle.iv_gateway.specs.declared.gateway.Gateway.{Gateway}
-use Rattle.iv_gateway.proofs.ClientChanges.{kept-answered, client_at-kept_slots}
+use Rattle.iv_notices.proofs.ClientChanges.{kept-answered, client_at-kept_slots}
 
 -- ---- one client
 

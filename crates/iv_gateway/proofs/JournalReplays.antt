@@ -33,12 +33,11 @@ use Rattle.iv_gate.specs.Restoring.{IsDamagedAt, LeadOn, Restores, are_rising}
 use Rattle.iv_gate.proofs.JournalDamage.{AllByRecursion-append_back, all_carried-append, facts_of-append, facts_of, journal_of-one, journal_of-push, led, lines_of, names_in-append, AllByRecursion-push, record_in-lines_of}
 use Rattle.iv_gate.proofs.GrantsByCommands.{is_well_message-message_of}
 use Rattle.iv_gateway.specs.Replays.{AreNamesReplayed, IsNew, IsPassed, IsRecordReplayed, IsReplayed, IsReplaying, behind, is_later, part, with_name, with_request}
-use Rattle.iv_gateway.specs.Shaping.{shape_in}
+use Rattle.iv_arrivals.specs.Entering.{shape_in}
 use Rattle.iv_gateway.specs.Views.{IsAlive}
 use Rattle.iv_gateway.specs.declared.gateway.Gateway.{Gateway}
-use Rattle.iv_gateway.proofs.AddedEntries.{AreKept, names_by-push, position_of-push}
+use Rattle.iv_gateway.proofs.AddedEntries.{AreKept, names_by-push, position_of-push, shape_text-append}
 use Rattle.iv_gateway.proofs.RefusedCommands.{is_accepted-outcome}
-use Rattle.iv_gateway.proofs.ShapeLines.{shape_text-append}
 
 -- one act: what the first line says is what the machine says
 pub IsPassed-step : (g : Gate) (act : Act) (is : Bool) (x : Gateway) → is ≡ is_accepted (reply_in (step g.machine (in_session 1 act)).lines)
@@ -437,6 +436,30 @@ IsReplayed-AreNamesReplayed g es e x y z is true well w h p n = record {
 }
 
 -- ---- a record
+
+-- what JSON is read with makes no difference
+pub IsReplaying-scratch : (g : Gate) (es : List Entry) (x y : Gateway) → record x { scratch = y.scratch } ≡ y → IsReplaying g es x → IsReplaying g es y
+IsReplaying-scratch g es x y e w =
+    let b = w.gate in
+    subst (IsReplaying g es) e (record {
+      began = w.began;
+      state = w.state;
+      leads = w.leads;
+      gate = record {
+        tokens = b.tokens;
+        machine = b.machine;
+        seats = b.seats;
+        feeds = b.feeds;
+        clients = b.clients;
+        names = b.names;
+        log = b.log;
+        position = b.position;
+        settled = b.settled;
+        forgiven = b.forgiven;
+        pending = b.pending;
+        shape = b.shape;
+      };
+    })
 
 reads_this : ReadsBack → (g h : Gate) (es : List Entry) (lines more : List Line) (e : Entry) → lines ≡ journal_of (e ∷ []) ++ more → LeadOn g (es ++ e ∷ []) h
     → record_in lines ≡ Some (e, more)

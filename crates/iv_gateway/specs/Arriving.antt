@@ -4,7 +4,6 @@ use Rattle.iv_command.specs.Views.{refusal_of}
 use Rattle.iv_machine.specs.Act.{Line}
 use Rattle.iv_machine.specs.Machine.{Outcome}
 use Rattle.iv_once.specs.Names as once
-use Rattle.iv_once.specs.Names.{Named, Names, pushed}
 use Rattle.iv_steps.specs.Steps.{Fact, first_refused, shared, stepped}
 use Rattle.iv_gate.specs.Arriving.{Step, entry_of, fact_of, fault_of, first_known, gap, is_behind, landed, not_accepted, not_new, other_log}
 use Rattle.iv_gate.specs.Gate.{Gate, entered, known_of, shape_text}
@@ -28,11 +27,6 @@ IsFaultOf g s fault.Memory = Unit {0}
 IsFaultOf g s fault.Dead = Unit {0}
 
 -- ---- within
-
--- with these names learned, one after another
-abbrev pub all_pushed : Names → List Named → Names
-all_pushed n [] = n
-all_pushed n (e ∷ es) = all_pushed (pushed n (once.named e)) es
 
 -- the journal is to have the step, whose names are new
 pub record IsEntered (g : Gate) (s : Step) (made : List ℕ) (x : Gateway) : Type 0 where

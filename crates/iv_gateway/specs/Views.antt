@@ -15,8 +15,8 @@ use Rattle.iv_gate.specs.Gate as gate
 use Rattle.iv_gate.specs.Gate.{Gate, begun_for, known_at, names_of, seated, shape_text}
 use Rattle.iv_gateway.specs.declared.gateway.Head.{Head}
 use Rattle.iv_gateway.specs.declared.gateway.Gateway.{Gateway}
-use Rattle.iv_gateway.specs.declared.seats.Opening.{Opening}
-use Rattle.iv_gateway.specs.declared.seats.Opening.TheVariants as opening
+use Rattle.iv_gateway.specs.declared.subscribing.Opening.{Opening}
+use Rattle.iv_gateway.specs.declared.subscribing.Opening.TheVariants as opening
 
 -- so many of the entries are on disk, and the lines of the others are pending
 pub record IsPending (kept : ℕ) (entries : List Entry) (pending : List journal.Line) : Type 0 where

@@ -14,12 +14,12 @@ ghost use Rattle.iv_gateway.specs.Replays.{AreNamesReplayed, HasReplayed, IsName
 ghost use Rattle.iv_gateway.specs.Views.{IsAlive, IsGate};
 
 use crate::gateway::Gateway;
-use crate::seats::is_accepted;
-use crate::shaping::push_shape;
+use iv_arrivals::push_shape;
 use iv_clients::laws::records_are_read_back;
 use iv_clients::{Entry, Request, read_record};
 use iv_command::{Act, Command};
 use iv_journal::Line;
+use iv_notices::is_accepted;
 use iv_once::Named;
 use iv_request::laws::requests_are_well;
 use std::alloc::AllocError;
@@ -48,7 +48,8 @@ impl Gateway {
     /// if something waits for the journal, or the gateway was dead. The gateway is dead then.
     pub fn restore(&mut self, journal: &[Line<'_>]) -> Result<(), RestoreFault>
         ensures restored { IfOk result (λ _. (g : Gate) → IsNew g → IsGate g self.old → IsRestored g journal.now self.new) }
-        ensures damaged { (place : ℕ) → result ≡ Err (RestoreFault.Damaged place) → (g : Gate) → IsNew g → IsGate g self.old → IsDamagedAt g journal.now place }
+        ensures damaged { (place : ℕ) → result ≡ Err (RestoreFault.Damaged place)
+            → (g : Gate) → IsNew g → IsGate g self.old → IsDamagedAt g journal.now place }
         ensures fails { OnErr result ((g : Gate) → IsGate g self.old → IsGate (next g failed) self.new) }
     {
         if self.dead || !self.pending.is_empty() {
@@ -70,7 +71,8 @@ impl Gateway {
     /// Runs the entries of a journal. What was refused is forgiven.
     fn replay(&mut self, journal: &[Line<'_>]) -> Result<(), RestoreFault>
         ensures replayed { IfOk result (λ _. (g : Gate) → IsNew g → IsAlive g self.old → HasReplayed g journal.now self.new) }
-        ensures damaged { (place : ℕ) → result ≡ Err (RestoreFault.Damaged place) → (g : Gate) → IsNew g → IsAlive g self.old → IsDamagedAt g journal.now place }
+        ensures damaged { (place : ℕ) → result ≡ Err (RestoreFault.Damaged place)
+            → (g : Gate) → IsNew g → IsAlive g self.old → IsDamagedAt g journal.now place }
     {
         let mut at = 0usize;
         'lines: while at < journal.len() {
