@@ -5,10 +5,9 @@ use Rattle.std.specs.List.{AllByRecursion, list_all}
 use Rattle.std.proofs.lemmas.Bool.{eqb-true, false≢true}
 use Rattle.std.proofs.lemmas.Bool.Decides.{nat_tests}
 use Rattle.serde_json.specs.Find.{as_object}
-use Rattle.iv_clients.specs.Bounds.{most_said}
-use Rattle.iv_clients.specs.Journal.{Entry, IsEntry, record_of, texts_of}
-use Rattle.iv_clients.specs.Laws.{ReadsBack}
-use Rattle.iv_clients.specs.Parsed.{record_in}
+use Rattle.iv_records.specs.Journal.{Entry, IsEntry, most_said, record_of, texts_of}
+use Rattle.iv_records.specs.Laws.{ReadsBack}
+use Rattle.iv_records.specs.Parsed.{record_in}
 use Rattle.iv_journal.specs.Journal.{Line, is_text}
 use Rattle.iv_once.specs.Names.{Named}
 use Rattle.iv_request.specs.Reading.{value_of}

@@ -4,8 +4,8 @@ use Rattle.std.specs.Prelude.{flat_map}
 use Rattle.iv_once.specs.Names as once
 use Rattle.iv_once.specs.Names.{Named, Names, learned, pushed}
 use Rattle.iv_steps.specs.Steps.{Fact}
-use Rattle.iv_clients.specs.Journal.{Request}
-use Rattle.iv_clients.specs.Names.{limits}
+use Rattle.iv_records.specs.Journal.{Request}
+use Rattle.iv_records.specs.Names.{limits}
 use Rattle.iv_gate.specs.Arriving.{fact_of, first_known, is_new, not_new}
 use Rattle.iv_arrivals.specs.Entering.{shape_in}
 

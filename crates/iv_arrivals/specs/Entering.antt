@@ -2,8 +2,8 @@
 use Rattle.std.specs.Prelude.{ℕ, Bool, true, false, List, [], ◌∷◌, Option, None}
 use Rattle.iv_rows.specs.Options.{if_some}
 use Rattle.iv_machine.specs.Act.{Act, Reply}
-use Rattle.iv_clients.specs.Journal.{Request, name_text, record_of}
-use Rattle.iv_clients.specs.Parsed.{text_of_request}
+use Rattle.iv_records.specs.Journal.{Request, name_text, record_of}
+use Rattle.iv_records.specs.Parsed.{text_of_request}
 use Rattle.iv_gate.specs.Gate.{entries_of, shape_text}
 use Rattle.iv_journal.specs.Journal.{Line}
 use Rattle.iv_once.specs.Names as once

@@ -2,9 +2,8 @@
 use Rattle.std.specs.Prelude.{ℕ, ◌==◌, ◌&&◌, Bool, if◌then◌else◌, List, length, nat_le, Option, None, is_some, option_and_then, option_map}
 use Rattle.std.specs.List.{list_all}
 use Rattle.serde_json.specs.Find.{as_object}
-use Rattle.iv_clients.specs.Bounds.{most_said}
-use Rattle.iv_clients.specs.Journal.{Entry}
-use Rattle.iv_clients.specs.Parsed.{record_in}
+use Rattle.iv_records.specs.Journal.{Entry, most_said}
+use Rattle.iv_records.specs.Parsed.{record_in}
 use Rattle.iv_journal.specs.Journal.{Line, is_text}
 use Rattle.iv_once.specs.Names.{Named}
 use Rattle.iv_request.specs.Reading.{value_of}

@@ -5,7 +5,7 @@ use Rattle.iv_access.specs.Rights.{Name}
 use Rattle.iv_machine.specs.Act.{Act}
 use Rattle.iv_message.specs.Seen.{id_data}
 use Rattle.iv_message.specs.declared.message.Id.{Id}
-use Rattle.iv_clients.specs.Journal.{Request}
+use Rattle.iv_records.specs.Journal.{Request}
 use Rattle.iv_clients.specs.Kept.{Kept, may_ask}
 
 -- its role, who holds its token, how many of its numbers are open, and the bytes that others have brought it

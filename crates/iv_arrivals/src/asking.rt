@@ -5,16 +5,16 @@ ghost use Rattle.iv_rows.specs.Options.{if_some};
 ghost use Rattle.iv_command.specs.Views.{line_of, reply_of};
 ghost use Rattle.iv_machine.specs.Act.{no_session, refused};
 ghost use Rattle.iv_clients.specs.Clients.{client_at};
-ghost use Rattle.iv_clients.specs.Names.{Claim, holder_of};
-ghost use Rattle.iv_once.specs.Names.{Ask};
+ghost use Rattle.iv_records.specs.Names.{holder_of};
 ghost use Rattle.iv_gate.specs.Gate.{answer_text, is_accepted, reply_in};
 ghost use Rattle.iv_arrivals.specs.Speaking.{speaker_in};
 
-use iv_clients::{Claim, Client, holder_of};
+use iv_clients::Client;
 use iv_command::{Line, Reply};
 use iv_message::{Id, push_replied};
 use iv_once::Ask;
-use sha2::Sha256;
+use iv_records::{Claim, holder_of};
+use sha2::{Digest, Sha256};
 use std::alloc::{AllocError, Global};
 use std::marker::Model;
 

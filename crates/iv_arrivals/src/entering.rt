@@ -2,17 +2,17 @@
 ghost use Rattle.std.specs.Prelude.{◌≡◌, ◌++◌, IfOk, OnOk, string_bytes};
 ghost use Rattle.iv_rows.specs.Options.{if_some};
 ghost use Rattle.iv_command.specs.Views.{act_of};
-ghost use Rattle.iv_clients.specs.Names.{place_text};
+ghost use Rattle.iv_records.specs.Names.{place_text};
 ghost use Rattle.iv_once.specs.Names.{named, own_of, pushed};
 ghost use Rattle.iv_once.specs.Views.{names_of};
 ghost use Rattle.iv_arrivals.specs.Entering.{lines_entered, shape_in};
 
 use crate::asking::Asked;
 use itoa::Buffer;
-use iv_clients::{OwnedLine, is_shape, push_accepted, push_named};
 use iv_command::Act;
 use iv_message::push_made;
 use iv_once::{Named, Names};
+use iv_records::{OwnedLine, is_shape, push_accepted, push_named};
 use std::alloc::{AllocError, Global};
 
 /// Where the names of a holder stand.

@@ -2,7 +2,7 @@
 ghost use Rattle.std.specs.Prelude.{◌≡◌, ◌++◌, IfOk, None, OnOk, flat_map, map, option_map};
 ghost use Rattle.std.specs.List.{list_all};
 ghost use Rattle.iv_command.specs.Views.{act_of};
-ghost use Rattle.iv_clients.specs.Names.{limits};
+ghost use Rattle.iv_records.specs.Names.{limits};
 ghost use Rattle.iv_once.specs.Names.{is_new};
 ghost use Rattle.iv_once.specs.Views.{names_of};
 ghost use Rattle.iv_engine.specs.Stepped.{is_write};
@@ -10,10 +10,10 @@ ghost use Rattle.iv_gate.specs.Arriving.{fact_of, first_known, not_new};
 ghost use Rattle.iv_arrivals.specs.Entering.{all_pushed, shape_in};
 
 use crate::entering::push_shape;
-use iv_clients::Request;
 use iv_command::Act;
 use iv_engine::Fact;
 use iv_once::{Named, Names};
+use iv_records::Request;
 use std::alloc::{AllocError, Global};
 
 /// Whether an act writes rows, and does nothing else.

@@ -7,7 +7,7 @@ use Rattle.iv_machine.specs.declared.Cause.{Cause}
 use Rattle.iv_message.specs.Told.{granted, over}
 use Rattle.iv_clients.specs.Clients.{Client, followed_by, is_followed}
 use Rattle.iv_clients.specs.Feeds.{rel_read}
-use Rattle.iv_clients.specs.Names.{limits}
+use Rattle.iv_records.specs.Names.{limits}
 use Rattle.iv_clients.specs.Tokens.{Token}
 use Rattle.iv_journal.specs.Journal.{Line}
 use Rattle.iv_once.specs.Names.{Ask}

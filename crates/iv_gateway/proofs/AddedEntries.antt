@@ -11,8 +11,8 @@ use Rattle.iv_machine.specs.Act.{Act, Reply}
 use Rattle.iv_once.specs.Names.{Ask, Known, Named, Names, blamed, learned, own_of, pushed, spent_by, spent_more}
 use Rattle.iv_once.specs.Views.{names_of as names_in_code}
 use Rattle.iv_message.specs.Told.{made, told_text}
-use Rattle.iv_clients.specs.Journal.{Entry, Request, is_shape, is_shared, journal_of, names_in, position_of, record_of, shape_of, texts_of}
-use Rattle.iv_clients.specs.Names.{limits, place_text}
+use Rattle.iv_records.specs.Journal.{Entry, Request, is_shape, is_shared, journal_of, names_in, position_of, record_of, shape_of, texts_of}
+use Rattle.iv_records.specs.Names.{limits, place_text}
 use Rattle.iv_gate.specs.Arriving.{position, settled_at}
 use Rattle.iv_gate.specs.Gate.{Gate, answer_text, answering, entered, entries_of, is_accepted, known_at, known_by, names_of, place_of, shape_text, spent_in}
 use Rattle.iv_gate.proofs.ShapeTexts.{shape_of-append}

@@ -22,10 +22,10 @@ use Rattle.iv_once.specs.Names.{Known, Named, Names, learned}
 use Rattle.iv_once.specs.Runs.{unspent}
 use Rattle.iv_once.specs.Views.{names_of as names_in_code}
 use Rattle.iv_steps.specs.Steps.{all_carried, carried, passed}
-use Rattle.iv_clients.specs.Journal.{Entry, IsEntry, IsRequest, Request, is_shape, is_shared, journal_of, names_in, position_of, requests_in}
-use Rattle.iv_clients.specs.Laws.{ReadsBack}
-use Rattle.iv_clients.specs.Names.{limits}
-use Rattle.iv_clients.specs.Parsed.{record_in}
+use Rattle.iv_records.specs.Journal.{Entry, IsEntry, IsRequest, Request, is_shape, is_shared, journal_of, names_in, position_of, requests_in}
+use Rattle.iv_records.specs.Laws.{ReadsBack}
+use Rattle.iv_records.specs.Names.{limits}
+use Rattle.iv_records.specs.Parsed.{record_in}
 use Rattle.iv_clients.proofs.Slots.{same-Some, not_None-Some}
 use Rattle.iv_gate.specs.Arriving.{fact_of, first_known, is_new, not_new, position}
 use Rattle.iv_gate.specs.Gate.{Gate, in_session, is_accepted, known_at, known_by, known_of, names_of, reply_in, shape_text, spent_in}
@@ -561,7 +561,7 @@ IsDamagedAt-IsRecordReplayed g journal at x y w h r = record {
   rest = drop at journal;
   all = w.lines;
   leads = w.gate.leads;
-  behind = w.count;
+  after = w.count;
   some = h;
   bad = r;
 }

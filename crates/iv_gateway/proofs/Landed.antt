@@ -18,8 +18,8 @@ use Rattle.iv_once.specs.Views.{names_of as names_in_code}
 use Rattle.iv_steps.specs.Laws.{RefusalsAreFound}
 use Rattle.iv_steps.specs.Steps.{Fact, first_refused, is_shared, is_well_fact, shared, stepped}
 use Rattle.iv_command.specs.Views.{refusal_of}
-use Rattle.iv_clients.specs.Journal.{Entry, IsRequest, Request, is_shape, names_in, record_of, texts_of}
-use Rattle.iv_gate.specs.Arriving.{Fault, Step, entry_of, fact_of, fault_of, first_known, gap, is_behind, is_log, landed, not_accepted, not_new, other_log, position, takes}
+use Rattle.iv_records.specs.Journal.{Entry, IsRequest, Request, is_shape, names_in, record_of, texts_of}
+use Rattle.iv_gate.specs.Arriving.{Fault, Step, entry_of, fact_of, fault_of, first_known, gap, was_taken, is_log, landed, not_accepted, not_new, other_log, position, takes}
 use Rattle.iv_gate.specs.Gate.{Gate, entered, known_of, names_of, shape_text}
 use Rattle.iv_gateway.specs.Arriving.{IsFaultOf, IsLanded, IsNotLanded, IsRefusedBy, IsTakenBy}
 use Rattle.iv_arrivals.specs.Entering.{all_pushed, shape_in}
@@ -131,7 +131,7 @@ fault_is : (g : Gate) (s : Step) (ours past next : Bool) (names : Option Fault) 
     → fault_of g s ≡ fault_by ours past next (position g) names first
 fault_is g s ours past next names first o p n k f = λ i. fault_by (o i) (p i) (n i) (position g) (k i) (f i)
 
-takes_as : (g : Gate) (s : Step) (f : Option Fault) (b : Bool) (o : Option Outcome) → fault_of g s ≡ f → is_behind g s ≡ b → stepped (map fact_of s.requests) g.machine ≡ o
+takes_as : (g : Gate) (s : Step) (f : Option Fault) (b : Bool) (o : Option Outcome) → fault_of g s ≡ f → was_taken g s ≡ b → stepped (map fact_of s.requests) g.machine ≡ o
     → takes g s ≡ cond (is_some f) (record g { dead = true }) (cond b g (if_some o g (landed g (entry_of s))))
 takes_as g s f b o e h k = λ i. cond (is_some (e i)) (record g { dead = true }) (cond (h i) g (if_some (k i) g (landed g (entry_of s))))
 
@@ -139,11 +139,11 @@ pub of_another : (g : Gate) (s : Step) → is_ours g s ≡ false → IsFaultOf g
 of_another g s o = fault_is g s false (nat_le s.to (position g)) (begins g s) (first_known 1 s.names (known_of g))
     (first_refused 1 (map fact_of s.requests) (shared g.machine)) o refl refl refl refl
 
-pub was_taken : (g : Gate) (s : Step) (x : Gateway) → is_ours g s ≡ true → nat_le s.to (position g) ≡ true → IsAlive g x → IsTakenBy g s false × IsAlive (takes g s) x
-was_taken g s x o p b =
+pub IsAlive-was_taken : (g : Gate) (s : Step) (x : Gateway) → is_ours g s ≡ true → nat_le s.to (position g) ≡ true → IsAlive g x → IsTakenBy g s false × IsAlive (takes g s) x
+IsAlive-was_taken g s x o p b =
     let none : fault_of g s ≡ None = fault_is g s true true (begins g s) (first_known 1 s.names (known_of g))
     (first_refused 1 (map fact_of s.requests) (shared g.machine)) o p refl refl refl in
-    let past : is_behind g s ≡ true = λ i. o i && p i in (
+    let past : was_taken g s ≡ true = λ i. o i && p i in (
       record { none = none; new = ap not (sym past) },
       subst (λ h. IsAlive h x) (sym (takes_as g s None true (stepped (map fact_of s.requests) g.machine) none past refl)) b,
     )
@@ -157,7 +157,7 @@ pub has_landed : (g : Gate) (s : Step) (x : Gateway) → is_ours g s ≡ true �
     → IsTakenBy g s true × IsAlive (takes g s) x
 has_landed g s x o p n w =
     let none : fault_of g s ≡ None = fault_is g s true false true None None o p n w.new w.accepted in
-    let past : is_behind g s ≡ false = λ i. o i && p i in (
+    let past : was_taken g s ≡ false = λ i. o i && p i in (
       record { none = none; new = ap not (sym past) },
       subst (λ h. IsAlive h x) (sym (takes_as g s None false (Some w.outcome) none past w.is)) w.gate,
     )
@@ -173,8 +173,8 @@ not_landed g s fault.Dead o p n h = tt
 
 -- what is taken kills nothing
 pub taken_lives : (g : Gate) (s : Step) → fault_of g s ≡ None → (takes g s).dead ≡ g.dead
-taken_lives g s e = ap (λ (h : Gate). h.dead) (takes_as g s None (is_behind g s) (stepped (map fact_of s.requests) g.machine) e refl refl)
-    ∙ by (is_behind g s) (stepped (map fact_of s.requests) g.machine)
+taken_lives g s e = ap (λ (h : Gate). h.dead) (takes_as g s None (was_taken g s) (stepped (map fact_of s.requests) g.machine) e refl refl)
+    ∙ by (was_taken g s) (stepped (map fact_of s.requests) g.machine)
   where
     by : (b : Bool) (o : Option Outcome) → (cond b g (if_some o g (landed g (entry_of s)))).dead ≡ g.dead
     by true o = refl

@@ -1,10 +1,10 @@
 //! `take_step`: a step of the log that is followed is taken whole, or the gateway is dead. Each client is told once what differs after it.
-ghost use Rattle.std.specs.Prelude.{◌≡◌, ◌++◌, ◌∷◌, [], IfErr, IfOk, None, OnErr, OnOk, false, map, true};
+ghost use Rattle.std.specs.Prelude.{◌≡◌, ◌++◌, ◌∷◌, [], IfErr, IfOk, OnErr, OnOk, false, map, true};
 ghost use Rattle.std.specs.List.{list_all};
 ghost use Rattle.iv_command.specs.Views.{line_of};
 ghost use Rattle.iv_machine.specs.Machine.{Outcome};
 ghost use Rattle.iv_clients.specs.Clients.{own_lines};
-ghost use Rattle.iv_clients.specs.Journal.{Entry};
+ghost use Rattle.iv_records.specs.Journal.{Entry};
 ghost use Rattle.iv_clients.specs.Kept.{kept_slots};
 ghost use Rattle.iv_steps.specs.Steps.{is_well_fact};
 ghost use Rattle.iv_engine.specs.Stepped.{is_write};
@@ -18,11 +18,12 @@ ghost use Rattle.iv_gateway.specs.Views.{IsAlive, IsGate};
 
 use crate::gateway::Gateway;
 use iv_arrivals::{Step, are_writes, facts_of, learn};
-use iv_clients::{Request, drop_ended, push_step};
+use iv_clients::drop_ended;
 use iv_command::{Line, Refusal};
 use iv_engine::{Fact, StepFault as EngineFault};
 use iv_message::laws::told_texts_are_lines;
 use iv_notices::{Readable, all_readable, hear_newly};
+use iv_records::{Request, push_step};
 use iv_request::laws::requests_are_well;
 use iv_steps::laws::refusals_are_found;
 use std::alloc::AllocError;

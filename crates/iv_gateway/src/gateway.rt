@@ -7,7 +7,7 @@ ghost use Rattle.iv_machine.specs.State.{start};
 ghost use Rattle.iv_store.specs.Engine.{IsBehind};
 ghost use Rattle.iv_clients.specs.Clients as spec;
 ghost use Rattle.iv_clients.specs.Clients.{client_at};
-ghost use Rattle.iv_clients.specs.Journal.{journal_of};
+ghost use Rattle.iv_records.specs.Journal.{journal_of};
 ghost use Rattle.iv_clients.specs.Kept.{is_due, is_told, kept};
 ghost use Rattle.iv_gate.specs.Arriving.{position, settled_at};
 ghost use Rattle.iv_gate.specs.Gate as spec_gate;
@@ -17,10 +17,11 @@ ghost use Rattle.iv_gateway.specs.Views.{IsGate, IsHead};
 ghost use Rattle.iv_gateway.specs.Waiting.{WaitsWithin};
 
 use iv_arrivals::{Log, Tally};
-use iv_clients::{Feed, OwnedLine, Seat, Token};
+use iv_clients::{Feed, Seat, Token};
 use iv_engine::Engine;
 use iv_hall::Hall;
 use iv_once::Names;
+use iv_records::{OwnedLine, OwnedLine};
 use json::Scratch;
 use std::alloc::{AllocError, Global};
 

@@ -7,7 +7,7 @@ ghost use Rattle.iv_message.specs.Seen.{id_data, said_of, why_of};
 ghost use Rattle.iv_message.specs.Told.{unasked};
 ghost use Rattle.iv_clients.specs.Clients as spec;
 ghost use Rattle.iv_clients.specs.Clients.{client_at, saying};
-ghost use Rattle.iv_clients.specs.Journal.{claim_said, is_shared, line_said};
+ghost use Rattle.iv_records.specs.Journal.{claim_said, is_shared, line_said};
 ghost use Rattle.iv_clients.specs.Kept.{kept};
 ghost use Rattle.iv_gate.specs.Events.{failed, message, next};
 ghost use Rattle.iv_gate.specs.Gate.{Gate, acts, done_for, hears, is_heard, said, tells};
@@ -16,10 +16,11 @@ ghost use Rattle.iv_gateway.specs.Views.{IsAlive, IsGate};
 
 use crate::gateway::{Gateway, GatewayFault};
 use iv_arrivals::{Asked, Speaker, speaker_at};
-use iv_clients::{Claim, Client, Said, is_shared, read_said};
+use iv_clients::Client;
 use iv_command::Act;
 use iv_gate::laws::events_leave_their_marks;
 use iv_message::{Id, Message, Why, push_unasked};
+use iv_records::{Claim, Said, is_shared, read_said};
 use std::alloc::AllocError;
 
 impl Gateway {

@@ -7,7 +7,7 @@ ghost use Rattle.iv_gateway.specs.Views.{IsGate};
 
 use crate::gateway::Gateway;
 use iv_clients::role_opened;
-use sha2::Sha256;
+use sha2::{Digest, Sha256};
 
 impl Gateway {
     /// Whether a token opens a role, even if nobody comes in by it now: no session or number is free, or the role is not there.

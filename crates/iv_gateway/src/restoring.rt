@@ -4,7 +4,7 @@ ghost use Rattle.std.specs.List.{AllByRecursion};
 ghost use Rattle.iv_command.specs.Views.{act_of};
 ghost use Rattle.iv_machine.specs.Well.{is_well_act};
 ghost use Rattle.iv_machine.specs.State.{State};
-ghost use Rattle.iv_clients.specs.Journal.{Entry, IsEntry, IsRequest, Request as RequestSpec};
+ghost use Rattle.iv_records.specs.Journal.{Entry, IsEntry, IsRequest, Request as RequestSpec};
 ghost use Rattle.iv_gate.specs.Arriving.{fact_of};
 ghost use Rattle.iv_gate.specs.Events.{failed, next};
 ghost use Rattle.iv_gate.specs.Gate.{Gate};
@@ -15,12 +15,12 @@ ghost use Rattle.iv_gateway.specs.Views.{IsAlive, IsGate};
 
 use crate::gateway::Gateway;
 use iv_arrivals::push_shape;
-use iv_clients::laws::records_are_read_back;
-use iv_clients::{Entry, Request, read_record};
 use iv_command::{Act, Command};
 use iv_journal::Line;
 use iv_notices::is_accepted;
 use iv_once::Named;
+use iv_records::laws::{records_are_read_back, records_are_read_back};
+use iv_records::{Entry, Entry, Request, Request, read_record, read_record};
 use iv_request::laws::requests_are_well;
 use std::alloc::AllocError;
 

@@ -1,10 +1,8 @@
 //! Sessions of roles: they are begun by need, and finished when nobody needs them.
 ghost use Rattle.std.specs.Prelude.{◌≡◌, IfOk, OnOk, map, string_bytes, true};
 ghost use Rattle.iv_command.specs.Views.{command_of, line_of};
-ghost use Rattle.iv_machine.specs.Act.{Line};
 ghost use Rattle.iv_machine.specs.Well.{is_well_command};
-ghost use Rattle.iv_clients.specs.Feeds.{Seat};
-ghost use Rattle.iv_gate.specs.Gate.{Gate, all_rested, has_session, is_accepted, is_needed, rested, with_session};
+ghost use Rattle.iv_gate.specs.Gate.{Gate, all_rested, has_session, is_needed, rested, with_session};
 ghost use Rattle.iv_gateway.specs.Views.{IsAlive, IsRun, IsSeated};
 
 use crate::gateway::Gateway;

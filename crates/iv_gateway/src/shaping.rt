@@ -1,15 +1,15 @@
 //! Administrators are told what makes the shape of what is shared, as long as that has room.
 ghost use Rattle.std.specs.Prelude.{◌≡◌, List, OnOk};
 ghost use Rattle.iv_command.specs.Views.{act_of};
-ghost use Rattle.iv_clients.specs.Journal.{Entry};
+ghost use Rattle.iv_records.specs.Journal.{Entry};
 ghost use Rattle.iv_gate.specs.Gate.{Gate, has_shape_room, informs, shape_text};
 ghost use Rattle.iv_gateway.specs.Views.{IsAlive};
 
 use crate::gateway::Gateway;
-use iv_clients::is_shape;
 use iv_command::Act;
 use iv_message::laws::told_texts_are_lines;
 use iv_notices::inform_all;
+use iv_records::is_shape;
 use std::alloc::AllocError;
 
 /// The most bytes of the shape's text, beyond which nothing more makes the shape.

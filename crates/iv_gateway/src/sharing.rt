@@ -1,14 +1,13 @@
 //! What changes what is shared: a request is done once by its name, if it has one, and its client is told the reply before what it changes.
-ghost use Rattle.std.specs.Prelude.{◌≡◌, [], ℕ, OnOk, if◌then◌else◌, None, Some, Option, map, not, option_map, true};
+ghost use Rattle.std.specs.Prelude.{◌≡◌, ℕ, OnOk, None, Some, Option, map, not, option_map, true};
 ghost use Rattle.iv_command.specs.Views.{act_of, line_of, refusal_of, reply_of};
 ghost use Rattle.iv_machine.specs.Act.{Act as ActSpec, Reply as ReplySpec, refused};
 ghost use Rattle.iv_machine.specs.Well.{is_well_act};
 ghost use Rattle.iv_message.specs.Told.{answered, denied, undecided};
-ghost use Rattle.iv_clients.specs.Journal.{is_shared};
+ghost use Rattle.iv_records.specs.Journal.{is_shared};
 ghost use Rattle.iv_clients.specs.Clients as spec;
-ghost use Rattle.iv_clients.specs.Names.{Claim, place_text};
-ghost use Rattle.iv_once.specs.Names as once;
-ghost use Rattle.iv_once.specs.Names.{Ask, named, verdict};
+ghost use Rattle.iv_records.specs.Names.{place_text};
+ghost use Rattle.iv_once.specs.Names.{Ask, verdict};
 ghost use Rattle.iv_gate.specs.Gate.{Gate, answer_text, by_verdict, carries, decides, done_in, entered, entries_of, in_session, is_accepted, names_of, place_of, replies_to, reply_in, shares, tells};
 ghost use Rattle.iv_notices.specs.Granting.{IsGranting};
 ghost use Rattle.iv_arrivals.specs.Speaking.{asked_id, request_of};
@@ -19,11 +18,12 @@ use crate::gateway::Gateway;
 use iv_arrivals::{
     Asked, answer_text, ask_of, first_reply, is_done, place_text, push_entry, push_name, push_shape,
 };
-use iv_clients::{Claim, seat_of};
+use iv_clients::seat_of;
 use iv_command::{Act, Command, Line, Refusal, Reply};
 use iv_message::{push_answered, push_denied, push_undecided};
 use iv_notices::{Grants, clear_refused};
 use iv_once::{Ask, Named, Verdict};
+use iv_records::Claim;
 use std::alloc::AllocError;
 
 impl Gateway {

@@ -11,7 +11,7 @@ use Rattle.iv_message.specs.Lines.{IsLine}
 use Rattle.iv_message.specs.Told.{Told, alive, settled, told_text}
 use Rattle.iv_clients.specs.Clients.{Client, Shown, Slots, answered, at_all, at_client, beating, by_others, checked, client_at, dropping, handing, has_role}
 use Rattle.iv_clients.specs.Clients.{is_followed, is_free, is_slow, opens, released, settling, telling, text_shown, told_one}
-use Rattle.iv_clients.specs.Journal.{Entry}
+use Rattle.iv_records.specs.Journal.{Entry}
 use Rattle.iv_clients.specs.Kept.{Kept, Places, answering, checking, emptied, has_role_in, holding, holding_all, holding_beat, holding_owed, is_followed_by}
 use Rattle.iv_clients.specs.Kept.{is_following, is_told, kept, kept_slots, letting_go, releasing}
 use Rattle.iv_clients.specs.Tokens.{Token}

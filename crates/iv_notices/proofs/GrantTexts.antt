@@ -13,7 +13,7 @@ use Rattle.iv_message.specs.Lines.{IsLine}
 use Rattle.iv_message.specs.Told.{Told, granted, told_text}
 use Rattle.iv_clients.specs.Clients.{Client, Slots, at_all, at_client, client_at, own_lines, staying, telling}
 use Rattle.iv_clients.specs.Feeds.{Feed}
-use Rattle.iv_clients.specs.Journal.{Entry}
+use Rattle.iv_records.specs.Journal.{Entry}
 use Rattle.iv_clients.specs.Kept.{Kept, Places, holding, holding_all, keeping_on, kept, kept_slots}
 use Rattle.iv_gate.specs.Gate.{granted_by, is_accepted, reply_in}
 use Rattle.iv_notices.specs.Granting.{IsGranting, granted_in, hearing_granted, holding_for, text_granted}

@@ -23,7 +23,7 @@ use Rattle.iv_message.specs.Lines.{IsLine}
 use Rattle.iv_message.specs.Told.{Told, granted, told_text}
 use Rattle.iv_clients.specs.Clients.{at_all, at_client, client_at, own_lines}
 use Rattle.iv_clients.specs.Feeds.{Feed}
-use Rattle.iv_clients.specs.Journal.{Request}
+use Rattle.iv_records.specs.Journal.{Request}
 use Rattle.iv_clients.specs.Kept.{Kept, Places, holding, holding_all}
 use Rattle.iv_clients.proofs.Slots.{same-Some, not_None-Some}
 use Rattle.iv_hall.specs.Hearing.{hearing_lines}

@@ -7,7 +7,7 @@ use Rattle.iv_access.specs.Rights.{Name}
 use Rattle.iv_message.specs.Lines.{IsLine}
 use Rattle.iv_message.specs.Told.{Told, placed, settled, told_text, welcome}
 use Rattle.iv_clients.specs.Clients.{Slots, at_all, by_others, fresh, greeting, telling, text_shown}
-use Rattle.iv_clients.specs.Journal.{Entry, shape_for, shape_of}
+use Rattle.iv_records.specs.Journal.{Entry, shape_for, shape_of}
 use Rattle.iv_clients.specs.Kept.{Kept, Places, coming, holding, holding_all, kept, kept_slots}
 use Rattle.iv_clients.specs.Tokens.{Token}
 use Rattle.iv_gate.specs.Gate.{Gate, informs, shape_text}

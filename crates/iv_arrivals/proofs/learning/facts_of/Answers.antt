@@ -2,7 +2,7 @@ use Rattle.std.proofs.Common.{◌≡◌, ◌∙◌, ◌++◌, List, [], ap, appe
 use Rattle.std.specs.Prelude.{flat_map, string_bytes}
 use Rattle.std.specs.Vec.Iter.{into_iter_items}
 use Rattle.iv_command.specs.Views.{act_of}
-use Rattle.iv_clients.specs.Journal.{Request}
+use Rattle.iv_records.specs.Journal.{Request}
 use Rattle.iv_store.proofs.RunLines.{nil-of_length_zero}
 use Rattle.iv_gate.specs.Arriving.{fact_of}
 use Rattle.iv_arrivals.specs.Entering.{shape_in}

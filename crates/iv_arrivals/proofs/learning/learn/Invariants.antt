@@ -1,6 +1,6 @@
 use Rattle.std.proofs.Common.{◌≡◌, ◌+◌, length}
 use Rattle.std.specs.Vec.Iter.{into_iter_items}
-use Rattle.iv_clients.specs.Names.{limits}
+use Rattle.iv_records.specs.Names.{limits}
 use Rattle.iv_once.specs.Views.{names_of}
 use Rattle.iv_gate.specs.Arriving.{first_known}
 use Rattle.iv_arrivals.specs.Entering.{all_pushed}

@@ -1,7 +1,7 @@
 use Rattle.std.proofs.Common.{◌≡◌, ◌∙◌, List, Some, ap, drop, false, option_map, sym, true}
 use Rattle.std.specs.List.{list_all}
-use Rattle.iv_clients.specs.Journal.{Entry}
-use Rattle.iv_clients.specs.Parsed.{record_in}
+use Rattle.iv_records.specs.Journal.{Entry}
+use Rattle.iv_records.specs.Parsed.{record_in}
 use Rattle.iv_journal.specs.Journal.{Line}
 use Rattle.iv_arrivals.specs.Reads.{is_answer}
 use Rattle.iv_arrivals.proofs.StepLines.{no_record, no_texts, one_record, step_well}

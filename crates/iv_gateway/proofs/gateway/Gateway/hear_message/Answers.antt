@@ -1,6 +1,6 @@
 use Rattle.std.proofs.Common.{◌≡◌, ◌∙◌, ap, rules, refl, sym, subst}
 use Rattle.iv_clients.specs.Clients.{at_client, saying}
-use Rattle.iv_clients.specs.Journal.{said_by}
+use Rattle.iv_records.specs.Journal.{said_by}
 use Rattle.iv_clients.specs.Kept.{asking}
 use Rattle.iv_gate.specs.Gate.{done_for}
 use Rattle.iv_gateway.specs.Views.{IsAlive}

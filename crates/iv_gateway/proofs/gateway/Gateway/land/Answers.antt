@@ -2,7 +2,7 @@ use Rattle.std.proofs.Common.{◌≡◌, ◌∙◌, List, [], ◌∷◌, Some, a
 use Rattle.std.specs.Prelude.{IfErr}
 use Rattle.std.specs.List.{list_all}
 use Rattle.iv_command.specs.Views.{line_of}
-use Rattle.iv_clients.specs.Journal.{Request}
+use Rattle.iv_records.specs.Journal.{Request}
 use Rattle.iv_clients.specs.Kept.{kept_slots}
 use Rattle.iv_engine.specs.Stepped.{is_write}
 use Rattle.iv_steps.specs.Steps.{Fact, is_well_fact, stepped}

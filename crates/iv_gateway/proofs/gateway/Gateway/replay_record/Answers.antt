@@ -1,5 +1,5 @@
 use Rattle.std.proofs.Common.{◌∙◌, List, drop, option_map, ap, refl, subst, sym}
-use Rattle.iv_clients.specs.Journal.{Entry}
+use Rattle.iv_records.specs.Journal.{Entry}
 use Rattle.iv_journal.specs.Journal.{Line}
 use Rattle.iv_gateway.specs.Replays.{IsReplayed}
 use Rattle.iv_gateway.proofs.JournalReplays.{IsEntry-record_in, IsReplaying-scratch, IsRecordReplayed-false, IsRecordReplayed-IsReplayed, IsRecordReplayed-None}

@@ -4,7 +4,7 @@ use Rattle.iv_rows.specs.Names.{is_name}
 use Rattle.iv_machine.specs.Act.{begin}
 use Rattle.iv_machine.specs.Well.{is_well_act}
 use Rattle.iv_command.specs.Views.{act_of}
-use Rattle.iv_clients.specs.Journal.{IsRequest, Request}
+use Rattle.iv_records.specs.Journal.{IsRequest, Request}
 use Rattle.iv_steps.specs.Steps.{carried, passed}
 use Rattle.iv_gate.specs.Arriving.{fact_of}
 use Rattle.iv_gate.specs.Gate.{Gate}
