@@ -23,7 +23,7 @@ use iv_clients::Token;
 use iv_gate::laws::events_leave_their_marks;
 use iv_gateway::{Gateway, GatewayFault, Journal, RestoreFault, StepFault};
 use iv_journal::Line;
-use iv_records::{OwnedLine, OwnedLine};
+use iv_records::OwnedLine;
 use std::alloc::{AllocError, Global};
 
 /// Peers by their numbers, and the gateway whose clients have the same numbers. After a fault it is dead: it hears, tells and offers nothing
