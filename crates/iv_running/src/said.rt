@@ -8,7 +8,7 @@ pub const UNUSABLE: u8 = 1;
 /// The status if the system refuses the network, or random bytes.
 pub const SYSTEM: u8 = 2;
 /// The status if the keeper of a log says what cannot be.
-const KEEPER: u8 = 4;
+pub const KEEPER: u8 = 4;
 /// The status if memory is refused.
 const MEMORY: u8 = 3;
 
