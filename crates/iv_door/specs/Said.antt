@@ -46,8 +46,14 @@ is_letter b = (nat_le 32 b && nat_lt b 127) && not ((b == 34) || (b == 92))
 abbrev pub is_digit : ℕ → Bool
 is_digit b = (nat_le 48 b && nat_le b 57) || (nat_le 97 b && nat_le b 102)
 
+abbrev pub is_name : List ℕ → Bool
+is_name name = (nat_le 1 (length name) && nat_le (length name) 128) && list_all is_letter name
+
+abbrev pub is_epoch : List ℕ → Bool
+is_epoch epoch = (length epoch == 32) && list_all is_digit epoch
+
 abbrev pub is_log : Log → Bool
-is_log l = (nat_le 1 (length l.name) && nat_le (length l.name) 128) && (list_all is_letter l.name && ((length l.epoch == 32) && list_all is_digit l.epoch))
+is_log l = is_name l.name && is_epoch l.epoch
 
 -- it begins as a request in a journal does, or as a name
 abbrev pub is_brought : List ℕ → Bool

@@ -2,7 +2,7 @@
 ghost use Rattle.std.specs.Prelude.{◌≡◌, ◌++◌, [], OnOk, codes, decimal, option_map};
 ghost use Rattle.iv_rows.specs.Options.{if_some};
 ghost use Rattle.iv_door.specs.Said.{step_text};
-ghost use Rattle.iv_door.specs.Answers.{gap, held_text, hello, on_disk, other_log, recalled, words_of};
+ghost use Rattle.iv_door.specs.Answers.{gap, held_text, hello, not_accepted, on_disk, other_log, recalled, words_of};
 ghost use Rattle.iv_door.specs.Views.{fault_of};
 
 use crate::said::Log;
@@ -74,6 +74,23 @@ fn push_with(out: &mut Vec<u8>, before: &[u8], number: u64, behind: &[u8]) -> Re
     Ok(())
 }
 
+/// Appends two numbers with texts before them, and a text.
+fn push_both(
+    out: &mut Vec<u8>,
+    before: &[u8],
+    number: u64,
+    between: &[u8],
+    other: u64,
+    behind: &[u8],
+) -> Result<(), AllocError>
+    ensures { OnOk result (out.new.items ≡ out.old.items
+        ++ (before.now ++ (decimal number ++ (between.now ++ (decimal other ++ behind.now))))) }
+{
+    out.extend_from_slice(before)?;
+    push_number(out, number)?;
+    push_with(out, between, other, behind)
+}
+
 /// Appends the text by which a journal ends a step.
 pub(crate) fn push_step(out: &mut Vec<u8>, to: u64) -> Result<(), AllocError>
     ensures { OnOk result (out.new.items ≡ out.old.items ++ step_text to) }
@@ -99,9 +116,23 @@ fn push_other(out: &mut Vec<u8>, log: &Log) -> Result<(), AllocError>
 fn push_gap(out: &mut Vec<u8>, to: u64, from: u64, position: u64) -> Result<(), AllocError>
     ensures { OnOk result (out.new.items ≡ out.old.items ++ words_of (gap to from position)) }
 {
-    push_with(out, b"step ", to, b" is from ")?;
-    push_with(out, b"", from, b", and the position is ")?;
+    push_both(
+        out,
+        b"step ",
+        to,
+        b" is from ",
+        from,
+        b", and the position is ",
+    )?;
     push_number(out, position)
+}
+
+/// Appends which entry is refused, and by which number.
+fn push_refused(out: &mut Vec<u8>, entry: u64, to: u64, refusal: u64) -> Result<(), AllocError>
+    ensures { OnOk result (out.new.items ≡ out.old.items ++ words_of (not_accepted entry to refusal)) }
+{
+    push_both(out, b"entry ", entry, b" of step ", to, b" is refused by ")?;
+    push_number(out, refusal)
 }
 
 /// Appends the words of a fault: none for want of memory.
@@ -120,18 +151,17 @@ pub fn push_words(out: &mut Vec<u8>, fault: &Fault) -> Result<(), AllocError>
         Fault::NoRoom => Ok(out.extend_from_slice(b"a step is too long")?),
         Fault::Gap(to, from, position) => push_gap(out, *to, *from, *position),
         Fault::NoEntry(line, to) => {
-            push_with(out, b"line ", *line, b" of step ")?;
-            push_with(out, b"", *to, b" is no entry")
+            push_both(out, b"line ", *line, b" of step ", *to, b" is no entry")
         }
-        Fault::NotAccepted(entry, to, refusal) => {
-            push_with(out, b"entry ", *entry, b" of step ")?;
-            push_with(out, b"", *to, b" is refused by ")?;
-            push_number(out, *refusal)
-        }
-        Fault::NotNew(name, to) => {
-            push_with(out, b"name ", *name, b" of step ")?;
-            push_with(out, b"", *to, b" may have an answer already")
-        }
+        Fault::NotAccepted(entry, to, refusal) => push_refused(out, *entry, *to, *refusal),
+        Fault::NotNew(name, to) => push_both(
+            out,
+            b"name ",
+            *name,
+            b" of step ",
+            *to,
+            b" may have an answer already",
+        ),
         Fault::Memory => Ok(()),
     }
 }
@@ -159,7 +189,8 @@ fn push_held(out: &mut Vec<u8>, log: &Log, position: u64) -> Result<(), AllocErr
     out.extend_from_slice(&log.name)?;
     out.extend_from_slice(b"\",\"epoch\":\"")?;
     out.extend_from_slice(&log.epoch)?;
-    push_with(out, b"\",\"position\":", position, b"")
+    out.extend_from_slice(b"\",\"position\":")?;
+    push_number(out, position)
 }
 
 /// Appends the first line, without its newline: how many rows a table may have, and the log that is followed with its position.

@@ -1,13 +1,12 @@
 //! `Said`: what a keeper says; `read_said` reads a line of it.
 ghost use Rattle.std.specs.Prelude.{◌≡◌, ◌≢◌, ◌<◌, ◌^◌, ◌==◌, ◌++◌, ◌∷◌, ℕ, List, None, IfOk, IfSome, decimal, false, length, option_map, true};
-ghost use Rattle.std.specs.List.{list_any};
+ghost use Rattle.std.specs.List.{list_all, list_any};
 ghost use Rattle.iv_door.specs.Said as spec;
-ghost use Rattle.iv_door.specs.Said.{ends, is_brought, is_digit, is_letter, is_log, is_well, line_of};
+ghost use Rattle.iv_door.specs.Said.{ends, is_brought, is_digit, is_epoch, is_letter, is_log, is_name, is_well, line_of};
 ghost use Rattle.iv_door.specs.Talk.{IsSaidBy};
 ghost use Rattle.iv_door.specs.Views.{IsLogIn, IsWord, said_of};
 
 use itoa::Buffer;
-use memchr::memchr;
 use std::alloc::{AllocError, Global};
 use std::marker::Model;
 
@@ -47,13 +46,36 @@ pub enum Said {
     Shut,
 }
 
+/// What follows a first text.
+fn after<'a>(text: &'a [u8], front: &[u8]) -> Option<&'a [u8]>
+    ensures some { IfSome result (λ rest. front.now ++ rest.now ≡ text.now) }
+    ensures none { result ≡ None → (rest : List ℕ) → front.now ++ rest ≢ text.now }
+{
+    if text.len() < front.len() {
+        return None;
+    }
+    let (first, rest) = text.split_at(front.len());
+    if first == front { Some(rest) } else { None }
+}
+
+/// What comes before a last text.
+fn before<'a>(text: &'a [u8], back: &[u8]) -> Option<&'a [u8]>
+    ensures some { IfSome result (λ rest. rest.now ++ back.now ≡ text.now) }
+    ensures none { result ≡ None → (rest : List ℕ) → rest ++ back.now ≢ text.now }
+{
+    if text.len() < back.len() {
+        return None;
+    }
+    let (rest, last) = text.split_at(text.len() - back.len());
+    if last == back { Some(rest) } else { None }
+}
+
 /// What stands between a first and a last text.
 fn within<'a>(text: &'a [u8], front: &[u8], back: &[u8]) -> Option<&'a [u8]>
     ensures some { IfSome result (λ m. front.now ++ (m.now ++ back.now) ≡ text.now) }
     ensures none { result ≡ None → (m : List ℕ) → front.now ++ (m ++ back.now) ≢ text.now }
 {
-    let rest = text.strip_prefix(front)?;
-    rest.strip_suffix(back)
+    before(after(text, front)?, back)
 }
 
 fn is_letter(byte: u8) -> bool
@@ -62,19 +84,43 @@ fn is_letter(byte: u8) -> bool
     (32 <= byte && byte < 127) && !(byte == b'"' || byte == b'\\')
 }
 
+fn are_letters(text: &[u8]) -> bool
+    ensures { result ≡ list_all is_letter text.now }
+{
+    text.iter().all(|byte| is_letter(*byte))
+}
+
 fn is_digit(byte: u8) -> bool
     ensures { result ≡ is_digit byte }
 {
     (48 <= byte && byte <= 57) || (97 <= byte && byte <= 102)
 }
 
+fn are_digits(text: &[u8]) -> bool
+    ensures { result ≡ list_all is_digit text.now }
+{
+    text.iter().all(|byte| is_digit(*byte))
+}
+
+/// Whether it may be the name of a log.
+fn is_name(name: &[u8]) -> bool
+    ensures { result ≡ is_name name.now }
+{
+    (1 <= name.len() && name.len() <= 128) && are_letters(name)
+}
+
+/// Whether it may be the epoch of a log.
+fn is_epoch(epoch: &[u8]) -> bool
+    ensures { result ≡ is_epoch epoch.now }
+{
+    epoch.len() == 32 && are_digits(epoch)
+}
+
 /// Whether it is the name and the epoch of a log.
 fn is_log(name: &[u8], epoch: &[u8]) -> bool
     ensures { result ≡ is_log (record { name = name.now; epoch = epoch.now }) }
 {
-    (1 <= name.len() && name.len() <= 128)
-        && (name.iter().all(|byte| is_letter(*byte))
-            && (epoch.len() == 32 && epoch.iter().all(|byte| is_digit(*byte))))
+    is_name(name) && is_epoch(epoch)
 }
 
 /// What comes before the last 32 bytes, and these.
@@ -91,8 +137,12 @@ pub(crate) fn cut_at(bytes: &[u8], byte: u8) -> Option<(&[u8], &[u8])>
     ensures some { IfSome result (λ p. (p.0.now ++ byte ∷ p.1.now ≡ bytes.now) × (list_any (λ b. b == byte) p.0.now ≡ false)) }
     ensures none { result ≡ None → list_any (λ b. b == byte) bytes.now ≡ false }
 {
-    let at = memchr(byte, bytes)?;
-    Some((&bytes[..at], &bytes[at + 1..]))
+    for at in 0..bytes.len() {
+        if bytes[at] == byte {
+            return Some((&bytes[..at], &bytes[at + 1..]));
+        }
+    }
+    None
 }
 
 /// The number of 64 bits that digits write.
