@@ -3,7 +3,7 @@ use Rattle.std.proofs.Common.{◌≡◌, ◌∙◌, ℕ, zero, suc, ◌<◌, ◌
 use Rattle.std.specs.List.{list_any}
 use Rattle.std.proofs.lemmas.Bool.{false≢true, or_left, or_right}
 use Rattle.iv_rows.specs.Options.{if_some}
-pub use Rattle.iv_records.proofs.Cuts.{same-Some, not_None-Some}
+pub use Rattle.iv_records.proofs.CutParts.{same-Some, not_None-Some}
 use Rattle.iv_clients.specs.Clients.{at_all, at_client, client_at, is_free}
 
 -- what was changed was there before

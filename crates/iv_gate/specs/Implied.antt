@@ -62,8 +62,7 @@ PositionsLast cap g = (disk : List Line) (tokens : List Token) (most : ℕ) (h :
 
 -- ---- names
 
--- all entries of the holder that were after the place and may have borne a name are forgotten, or the place is of another epoch: what was
--- told 102 or 103 is told it for ever
+-- the place is too old or of another epoch: what was told 102 or 103 is barred for ever
 abbrev pub IsPast : Gate → Ask → Type 0
 IsPast g a = (a.at.count + limits.names < count_of g a.holder) ⊎ (a.at.epoch ≢ (place_at g.head a.holder).epoch)
 

@@ -112,8 +112,8 @@ IsAnswer es a answer = (refused : Bool) × Contains es (record { ask = a; refuse
 abbrev pub NoneAnswers : List Named → Ask → Type 0
 NoneAnswers es a = (answer : List ℕ) → IsAnswer es a answer → ⊥
 
--- why a request with a name may not be done: its name is another request's; or its place is too old, so that who did it may be forgotten; or
--- that is of another epoch
+-- what bars a request with a name: its name is another request's; its place is so old that its answer may be forgotten; or its place is of
+-- another epoch
 pub data IsBarred (g : Gate) (a : Ask) : ℕ → Type 0 where
   another : (e : Named) → Contains (remembered_by g a.holder) e → e.ask.name ≡ a.name → e.ask ≢ a → IsBarred g a 101
   late : a.at.count + limits.names < count_of g a.holder → IsBarred g a 102
@@ -136,8 +136,8 @@ pub data HasToWait (g : Gate) (a : Ask) : ℕ → Type 0 where
 abbrev pub place_after : Gate → List ℕ → ℕ → List ℕ
 place_after g holder more = place_text (record { epoch = (place_at g.head holder).epoch; count = count_of g holder + more })
 
--- the reply to a request with a name, and what it adds to the journal: if it may be done, it is done now, unless it has to wait; it was done,
--- and its answer is told again; or it is barred, and none of the names that are remembered answers it
+-- the reply to a request with a name, and what it adds to the journal: if it may be done, it is done now or has to wait; if its answer is
+-- remembered, that is told again; if it is barred and no answer is remembered, nobody says whether it was done
 pub data IsNamedReply (g : Gate) (c : Client) (id : Option Data) (q : Request) (a : Ask) : Told → List Entry → Type 0 where
   is_done : (r : Reply) → MayBeDone g a → ((number : ℕ) → HasToWait g a number → ⊥) → IsSharedReply g c q.act r
       → IsNamedReply g c id q a (answered id false (place_after g a.holder 1) (answer_text r)) (entries_of q (Some a) r)

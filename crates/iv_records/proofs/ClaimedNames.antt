@@ -11,7 +11,7 @@ use Rattle.iv_records.specs.Journal.{id_parts}
 use Rattle.iv_records.specs.Laws.{ClaimsAreWell, HoldersAreText, IsClaim}
 use Rattle.iv_records.specs.Names.{Claim, Spelled, claim_in, claimed, count_in, is_count, is_epoch, is_random, spelled_in}
 use Rattle.iv_records.specs.Cuts.{behind}
-use Rattle.iv_records.proofs.Cuts.{same-Some, not_None-Some, and-both_true, Found-option_and_then, Passed-option_and_then}
+use Rattle.iv_records.proofs.CutParts.{same-Some, not_None-Some, and-both_true, Found-option_and_then, Passed-option_and_then}
 use Rattle.iv_records.proofs.PartsAsText.{IsUtf8-is_name}
 
 claimed_well : (s : Spelled) (p : Claim × List ℕ) → claimed s ≡ Some p → IsClaim p.0

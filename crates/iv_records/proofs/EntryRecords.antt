@@ -12,7 +12,7 @@ use Rattle.iv_records.specs.Journal.{Entry, IsEntry, IsNamed, IsRequest, Request
 use Rattle.iv_records.specs.Laws.{Begins, ReadsBack}
 use Rattle.iv_records.specs.Names.{is_count}
 use Rattle.iv_records.specs.Parsed.{Text, of_request, of_name, of_position, no_entry, part, record_from, record_in, text_in, with_text}
-use Rattle.iv_records.proofs.Cuts.{same-Some, not_None-Some}
+use Rattle.iv_records.proofs.CutParts.{same-Some, not_None-Some}
 use Rattle.iv_records.proofs.JournalTexts.{Is, text_in-name_text, text_in-position_text, text_in-request_text, Is-text_in}
 
 abbrev pub made : List Request → List Named → Option ℕ → Entry

@@ -22,7 +22,7 @@ use Rattle.iv_records.specs.Journal.{IsNamed, IsRequest, Request, answer_key, be
 use Rattle.iv_records.specs.Names.{Spelled, behind_count, behind_epoch, behind_name, count_in, is_between, is_count, is_epoch, is_letter, is_random, spelled_in}
 use Rattle.iv_records.specs.Cuts.{between, cut_quote, behind, cut_at, decoded}
 use Rattle.iv_records.specs.Parsed.{NameParts, Text, of_request, of_name, of_position, act_plain, answer_in, behind_digest, behind_holder, but_last, count_first, digest_of_32, is_answer, is_asked, name_in, name_parts, named_by, named_in, named_of, named_request, position_in, request_by, request_in, request_parts, request_read, string_in, text_in}
-use Rattle.iv_records.proofs.Cuts.{same-Some, not_None-Some, HasNo, Passes, same-behind, and-both_true, same-cut_at, cut_at-HasNo, Found-option_and_then, but_last-push, passing-true, HasNo-list_all, Passed-option_and_then, Passes-passing, cut_quote-escape}
+use Rattle.iv_records.proofs.CutParts.{same-Some, not_None-Some, HasNo, Passes, same-behind, and-both_true, same-cut_at, cut_at-HasNo, Found-option_and_then, but_last-push, passing-true, HasNo-list_all, Passed-option_and_then, Passes-passing, cut_quote-escape}
 use Rattle.iv_records.proofs.Spelling.{count_in-decimal, HasNo-decimal_brace, HasNo-decimal_quote, digest_of_32-encode_lower, HasNo-encode_lower, string_in-escape}
 
 -- ---- requests

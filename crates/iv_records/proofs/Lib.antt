@@ -1,5 +1,5 @@
 pub mod CutPlaces
-pub mod Cuts
+pub mod CutParts
 pub mod PartsAsText
 pub mod Spelling
 pub mod JournalTexts

@@ -33,7 +33,7 @@ use Rattle.iv_records.specs.Journal.{is_digest}
 use Rattle.iv_records.specs.Names.{count_in, is_count}
 use Rattle.iv_records.specs.Parsed.{digest_of_32, string_in}
 use Rattle.iv_records.specs.Cuts.{decoded}
-use Rattle.iv_records.proofs.Cuts.{HasNo, and-both_true, passing-true, HasNo-list_all}
+use Rattle.iv_records.proofs.CutParts.{HasNo, and-both_true, passing-true, HasNo-list_all}
 
 -- a text of the tokens of a value is read as that
 read_one : (text : List ℕ) (j : json.Json) → tokens text ≡ json_tokens j → depth j ≤ max_depth → read text ≡ of_json j

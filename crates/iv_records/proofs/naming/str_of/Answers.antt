@@ -9,7 +9,7 @@ use Rattle.json.specs.declared.value.Value.TheVariants as value
 use Rattle.serde_json.specs.Find.{as_str}
 use Rattle.iv_request.specs.Documents.{data_of}
 use Rattle.iv_request.specs.Request.{passing}
-use Rattle.iv_records.proofs.Cuts.{passing-true}
+use Rattle.iv_records.proofs.CutParts.{passing-true}
 use Rattle.iv_records.proofs.naming.str_of.Goals as goal
 
 pub returns-in_ok-from_str-in-String : goal.returns-in_ok-from_str-in-String
