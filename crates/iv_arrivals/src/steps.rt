@@ -9,10 +9,8 @@ ghost use Rattle.iv_arrivals.specs.Reads.{is_answer, step_in, step_of};
 
 use iv_journal::{Line, MOST_TEXT};
 use iv_once::Named;
-use iv_records::laws::{records_are_read_back, records_are_read_back};
-use iv_records::{
-    Entry, Entry, Request, Request, is_answer_text, is_answer_text, read_record, read_record,
-};
+use iv_records::laws::records_are_read_back;
+use iv_records::{Entry, Request, is_answer_text, read_record};
 use json::Scratch;
 use std::alloc::{AllocError, Global};
 use std::marker::Model;

@@ -21,7 +21,7 @@ use iv_clients::{Feed, Seat, Token};
 use iv_engine::Engine;
 use iv_hall::Hall;
 use iv_once::Names;
-use iv_records::{OwnedLine, OwnedLine};
+use iv_records::OwnedLine;
 use json::Scratch;
 use std::alloc::{AllocError, Global};
 

@@ -19,8 +19,8 @@ use iv_command::{Act, Command};
 use iv_journal::Line;
 use iv_notices::is_accepted;
 use iv_once::Named;
-use iv_records::laws::{records_are_read_back, records_are_read_back};
-use iv_records::{Entry, Entry, Request, Request, read_record, read_record};
+use iv_records::laws::records_are_read_back;
+use iv_records::{Entry, Request, read_record};
 use iv_request::laws::requests_are_well;
 use std::alloc::AllocError;
 

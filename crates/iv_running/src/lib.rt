@@ -12,6 +12,4 @@ mod said;
 pub use fault::Fault;
 pub use logs::{Follows, begin_log, followed_in, recalled_in};
 pub use opening::{come_back, open_journal};
-pub use said::{
-    KEEPER, SYSTEM, UNUSABLE, failed, no_log_in, no_random_bytes, no_secret, out_of_memory,
-};
+pub use said::{KEEPER, SYSTEM, UNUSABLE, failed, no_log_in, out_of_memory};

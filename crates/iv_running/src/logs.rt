@@ -5,6 +5,7 @@ use iv_audit::{WriteFault, anew};
 use iv_head::{Begun, Followed, push_begun};
 use iv_host::{JournalFile, OpenFault, Settings};
 use iv_journal::Line;
+use iv_records::OwnedLine;
 use std::alloc::{AllocError, Global};
 
 /// What a journal says of the log that it follows.
@@ -37,6 +38,18 @@ pub fn followed_in(rt: &HostRuntime, settings: &Settings, bytes: &[u8]) -> Resul
     }
 }
 
+/// Lines, where their texts are.
+fn lines_of<'a>(alloc: Global, lines: &'a [OwnedLine]) -> Result<Vec<Line<'a>>, AllocError> {
+    let mut out = Vec::new(alloc);
+    for line in lines {
+        out.push(Line {
+            is_last: line.is_last,
+            text: &line.text,
+        })?;
+    }
+    Ok(out)
+}
+
 /// The bytes of a journal of these digits that follows a log from its beginning on.
 fn following(
     alloc: Global,
@@ -54,13 +67,7 @@ fn following(
     };
     let mut lines = Vec::new(alloc);
     push_begun(alloc, &mut lines, &begun)?;
-    let mut given = Vec::new(alloc);
-    for line in lines.iter() {
-        given.push(Line {
-            is_last: line.is_last,
-            text: &line.text,
-        })?;
-    }
+    let given = lines_of(alloc, &lines)?;
     anew(alloc, digits, &given)
 }
 

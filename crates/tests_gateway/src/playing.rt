@@ -19,7 +19,7 @@ use iv_engine::Engine;
 use iv_gateway::{Gateway, GatewayFault, Head, Journal, JournalFault, RestoreFault};
 use iv_journal::Line;
 use iv_once::{LIMITS, Names};
-use iv_records::{OwnedLine, OwnedLine};
+use iv_records::OwnedLine;
 use std::alloc::{AllocError, Global};
 use std::mem;
 
