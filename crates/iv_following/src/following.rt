@@ -3,13 +3,14 @@ ghost use Rattle.iv_running.specs.Running.{Leads};
 
 use crate::steps::{copied, take_step, text_of};
 use crate::wire::{COMING, Got, PIECE, SAID, TOLD, Wire};
+use iv_admission::no_secret;
 use iv_desk::Desk;
 use iv_door::{Act, Log, Talk, push_fault, push_hello, push_on_disk, push_recalled, push_words};
 use iv_host::{JournalFile, KeeperAt, Settings, read_secret};
 use iv_running::calls::may_read;
 use iv_running::{
-    Fault, Follows, KEEPER, SYSTEM, UNUSABLE, begin_log, followed_in, no_log_in, no_secret,
-    out_of_memory, recalled_in,
+    Fault, Follows, KEEPER, SYSTEM, UNUSABLE, begin_log, followed_in, no_log_in, out_of_memory,
+    recalled_in,
 };
 use iv_server::Server;
 use json::Scratch;
