@@ -85,14 +85,10 @@ IsSaidBy line (Some s) = (is_well s ≡ true) × (line_of s ≡ line)
 IsSaidBy line None = (s : Said) → is_well s ≡ true → line_of s ≢ line
 
 -- a line is heard
-abbrev pub hears_said : Talk → Option Said → Heard × Talk
-hears_said t None = (fails (no_line t.lines), t)
-hears_said t (Some s) = says t s
-
-pub record HearsLine (t : Talk) (line : List ℕ) (x : Heard × Talk) : Type 0 where
-  pub said : Option Said
-  pub is : IsSaidBy line said
-  pub heard : x ≡ (if nat_lt most_line (length line) then (fails (too_long t.lines), t) else hears_said t said)
+pub data HearsLine (t : Talk) (line : List ℕ) : Heard × Talk → Type 0 where
+  is_long : most_line < length line → HearsLine t line (fails (too_long t.lines), t)
+  is_said : (s : Said) → length line ≤ most_line → IsSaidBy line (Some s) → HearsLine t line (says t s)
+  is_none : length line ≤ most_line → IsSaidBy line None → HearsLine t line (fails (no_line t.lines), t)
 
 abbrev pub has_newline : List ℕ → Bool
 has_newline bytes = list_any (λ b. b == 10) bytes
@@ -101,5 +97,5 @@ has_newline bytes = list_any (λ b. b == 10) bytes
 pub data Hears (t : Talk) : Heard × Talk → Type 0 where
   a_line : (line rest : List ℕ) (x : Heard × Talk) → t.unread ≡ line ++ 10 ∷ rest → has_newline line ≡ false
       → HearsLine (record t { unread = rest; lines = t.lines + 1 }) line x → Hears t x
-  no_line_yet : has_newline t.unread ≡ false → length t.unread ≤ most_line → Hears t (nothing, t)
+  not_yet : has_newline t.unread ≡ false → length t.unread ≤ most_line → Hears t (nothing, t)
   no_end : has_newline t.unread ≡ false → most_line < length t.unread → Hears t (fails (too_long (t.lines + 1)), t)
