@@ -280,6 +280,9 @@ impl Following {
     /// # Errors
     /// `Memory` if a growth of memory was refused.
     pub fn tell(&mut self, desk: &Desk, poll: &Poll) -> Result<(), Fault> {
+        if self.wire.is_none() {
+            self.owes = false;
+        }
         if self.owes {
             self.owes = false;
             push_on_disk(&mut self.out, desk.settled_at())?;
@@ -602,6 +605,7 @@ impl Following {
     /// Waits for a keeper until one has begun a log, or the only one has gone.
     fn wait_for_beginning(&mut self, poll: &mut Poll, events: &mut Events) -> Result<bool, Fault> {
         'waits: for _ in 0..u64::MAX {
+            self.send_out(poll);
             if poll
                 .poll(events, Some(Duration::from_millis(1000)))
                 .is_err()
@@ -618,7 +622,6 @@ impl Following {
             if self.has_ended() {
                 return Ok(false);
             }
-            self.send_out(poll);
         }
         Ok(false)
     }
