@@ -30,5 +30,5 @@ pub left_behind : (bytes front rest : List ℕ) (p : ℕ) → front ++ rest ≡ 
 left_behind bytes front rest p h =
     let all : bytes ≡ (take p bytes ++ front) ++ rest = sym (take-append-drop p bytes) ∙ (ap (λ z. take p bytes ++ z) (sym h) ∙ sym (append_assoc (take p bytes) front rest)) in
     let count : length bytes - length rest ≡ length (take p bytes ++ front)
-        = ap (λ (z : List ℕ). length z - length rest) all ∙ (ap (λ z. z - length rest) (length-append (take p bytes ++ front) rest) ∙ less (length (take p bytes ++ front)) (length rest)) in
+    = ap (λ (z : List ℕ). length z - length rest) all ∙ (ap (λ z. z - length rest) (length-append (take p bytes ++ front) rest) ∙ less (length (take p bytes ++ front)) (length rest)) in
     (λ i. drop (count i) (all i)) ∙ drop-append_seam (take p bytes ++ front) rest

@@ -1,14 +1,13 @@
 -- Texts that are put together, and where they are cut again.
-use Rattle.std.proofs.Common.{◌≡◌, ◌≢◌, ℕ, ◌+◌, ◌<◌, ◌^◌, Bool, true, false, ◌||◌, ◌&&◌, List, [], ◌∷◌, ◌++◌, drop, length, take, refl, ap, ◌∙◌, sym, subst, arith, append_assoc, length-append}
-use Rattle.std.specs.Prelude.{◌==◌, bytes_eq, codes, decimal}
+use Rattle.std.proofs.Common.{◌≡◌, ◌≢◌, ℕ, ◌+◌, ◌<◌, ◌^◌, Bool, true, false, ◌||◌, ◌&&◌, List, [], ◌∷◌, ◌++◌, drop, length, take, refl, ap, ◌∙◌, sym, subst, arith, append_assoc, append-nil, length-append}
+use Rattle.std.specs.Prelude.{◌-◌, ◌==◌, codes, decimal, nat_lt}
 use Rattle.std.specs.Char.{digit_value}
-use Rattle.std.specs.List.{list_any}
+use Rattle.std.specs.List.{list_all, list_any}
 use Rattle.std.specs.Str.Parse.{AllDigits}
 use Rattle.std.proofs.Math.Seq.{drop-append_seam, take-append_seam}
-use Rattle.std.proofs.lemmas.Bool.{eqb-true, false≢true}
+use Rattle.std.proofs.lemmas.Bool.{eqb-true, false≢true, ltb-true}
 use Rattle.std.proofs.lemmas.Fmt.{decimal_is_IsNumeral}
-use Rattle.std.proofs.lemmas.Slice.Eq.{bytes_eq-Decides}
-use Rattle.iv_door.specs.Said.{Log, ends, line_of, log_line}
+use Rattle.iv_door.specs.Said.{Log, ends, is_digit, is_epoch, is_log, is_name, is_well, line_of, log_line}
 
 -- ---- tests
 
@@ -23,12 +22,6 @@ first_false false c h = refl
 second_false : (b c : Bool) → (b || c) ≡ false → c ≡ false
 second_false true c h = absurd (false≢true (sym h))
 second_false false c h = h
-
-pub not_same : (xs ys : List ℕ) → bytes_eq xs ys ≡ false → xs ≢ ys
-not_same xs ys h e = false≢true (sym h ∙ (bytes_eq-Decides xs ys).1 e)
-
-pub are_same : (xs ys : List ℕ) → bytes_eq xs ys ≡ true → xs ≡ ys
-are_same xs ys h = (bytes_eq-Decides xs ys).0 h
 
 -- ---- two parts
 
@@ -55,6 +48,25 @@ same_ends xs ys zs ws h n =
 -- what stands between one front and one end
 pub same_within : (front m k back : List ℕ) → front ++ (m ++ back) ≡ front ++ (k ++ back) → m ≡ k
 same_within front m k back h = (same_ends m back k back (same_fronts front (m ++ back) front (k ++ back) h refl).behind refl).before
+
+-- ---- many parts
+
+pub joined_4 : (o a n b e r : List ℕ) → (o ++ (a ++ (n ++ (b ++ e)))) ++ r ≡ o ++ (a ++ (n ++ (b ++ (e ++ r))))
+joined_4 o a n b e r =
+    append_assoc o (a ++ (n ++ (b ++ e))) r
+    ∙ ap (λ z. o ++ z) (append_assoc a (n ++ (b ++ e)) r ∙ ap (λ z. a ++ z) (append_assoc n (b ++ e) r ∙ ap (λ z. n ++ z) (append_assoc b e r)))
+
+pub joined_5 : (o a n b m c r : List ℕ) → (o ++ (a ++ (n ++ (b ++ (m ++ c))))) ++ r ≡ o ++ (a ++ (n ++ (b ++ (m ++ (c ++ r)))))
+joined_5 o a n b m c r = joined_4 o a n b (m ++ c) r ∙ ap (λ z. o ++ (a ++ (n ++ (b ++ z)))) (append_assoc m c r)
+
+less : (a b : ℕ) → a + b - b ≡ a
+less a b = omega arith
+
+pub drop_end : (rest back text : List ℕ) → rest ++ back ≡ text → drop (length text - length back) text ≡ back
+drop_end rest back text h =
+    let count : length text - length back ≡ length rest
+    = ap (λ (z : List ℕ). length z - length back) (sym h) ∙ (ap (λ z. z - length back) (length-append rest back) ∙ less (length rest) (length back)) in
+    (λ i. drop (count i) (sym h i)) ∙ drop-append_seam rest back
 
 -- ---- a byte between two parts
 
@@ -125,3 +137,32 @@ pub log_line_is : (front : List ℕ) (l : Log) → front ++ (log_middle l ++ cod
 log_line_is front l =
     ap (λ z. front ++ z) (append_assoc l.name (codes "\",\"epoch\":\"" ++ l.epoch) (codes "\"}")
     ∙ ap (λ z. l.name ++ z) (append_assoc (codes "\",\"epoch\":\"") l.epoch (codes "\"}")))
+
+-- the parts of a step's last line
+pub from_fits : (from to : ℕ) → is_well (ends from to) ≡ true → from < 2 ^ 64
+from_fits from to w = ltb-true from (2 ^ 64) (both_true (nat_lt from (2 ^ 64)) (nat_lt to (2 ^ 64)) w).0
+
+pub to_fits : (from to : ℕ) → is_well (ends from to) ≡ true → to < 2 ^ 64
+to_fits from to w = ltb-true to (2 ^ 64) (both_true (nat_lt from (2 ^ 64)) (nat_lt to (2 ^ 64)) w).1
+
+pub middle_is : (m line : List ℕ) (from to : ℕ) → codes "{\"from\":" ++ (m ++ codes "}") ≡ line → line_of (ends from to) ≡ line → m ≡ middle_of from to
+middle_is m line from to h k = same_within (codes "{\"from\":") m (middle_of from to) (codes "}") (h ∙ sym (ends_line from to ∙ k))
+
+pub step_parts : (f r m line : List ℕ) (from to : ℕ) → codes "{\"from\":" ++ (m ++ codes "}") ≡ line → (f ++ 44 ∷ r ≡ m) × HasNo 44 f → is_well (ends from to) ≡ true
+    → line_of (ends from to) ≡ line → Parts f r (decimal from) (codes "\"step\":" ++ decimal to)
+step_parts f r m line from to h c w k =
+    same_cut 44 f r (decimal from) (codes "\"step\":" ++ decimal to) c.1 (decimal_no_comma from (from_fits from to w)) (c.0 ∙ middle_is m line from to h k)
+
+pub to_line : (to : ℕ) → codes "\"step\":" ++ (decimal to ++ []) ≡ codes "\"step\":" ++ decimal to
+to_line to = ap (λ z. codes "\"step\":" ++ z) (append-nil (decimal to))
+
+-- the parts of a log's line
+epoch_fits : (l : Log) → is_log l ≡ true → length l.epoch ≡ 32
+epoch_fits l h = eqb-true (length l.epoch) 32 (both_true (length l.epoch == 32) (list_all is_digit l.epoch) (both_true (is_name l.name) (is_epoch l.epoch) h).1).0
+
+pub log_parts : (front line m b e : List ℕ) (l : Log) → front ++ (m ++ codes "\"}") ≡ line → (b ++ e ≡ m) × (length e ≡ 32) → (is_log l ≡ true) × (log_line front l ≡ line)
+    → Parts b e (l.name ++ codes "\",\"epoch\":\"") l.epoch
+log_parts front line m b e l h c k =
+    same_ends b e (l.name ++ codes "\",\"epoch\":\"") l.epoch
+    (c.0 ∙ (same_within front m (log_middle l) (codes "\"}") (h ∙ sym (log_line_is front l ∙ k.1)) ∙ sym (append_assoc l.name (codes "\",\"epoch\":\"") l.epoch)))
+    (c.1 ∙ sym (epoch_fits l k.0))

@@ -2,3 +2,4 @@ pub mod Said
 pub mod Answers
 pub mod Talk
 pub mod Views
+pub mod Worked

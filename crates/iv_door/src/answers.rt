@@ -132,7 +132,8 @@ fn push_refused(out: &mut Vec<u8>, entry: u64, to: u64, refusal: u64) -> Result<
     ensures { OnOk result (out.new.items ≡ out.old.items ++ words_of (not_accepted entry to refusal)) }
 {
     push_both(out, b"entry ", entry, b" of step ", to, b" is refused by ")?;
-    push_number(out, refusal)
+    push_number(out, refusal)?;
+    Ok(())
 }
 
 /// Appends the words of a fault: none for want of memory.
@@ -181,16 +182,34 @@ pub fn push_fault(out: &mut Vec<u8>, fault: &Fault) -> Result<(), AllocError>
     Ok(())
 }
 
-/// Appends what is held.
-fn push_held(out: &mut Vec<u8>, log: &Log, position: u64) -> Result<(), AllocError>
-    ensures { OnOk result (out.new.items ≡ out.old.items ++ held_text (record { log = log.now; position = position })) }
+/// Appends the log that is followed.
+fn push_log(out: &mut Vec<u8>, log: &Log) -> Result<(), AllocError>
+    ensures { OnOk result (out.new.items ≡ out.old.items
+        ++ (codes ",\"log\":\"" ++ (log.now.name ++ (codes "\",\"epoch\":\"" ++ log.now.epoch)))) }
 {
     out.extend_from_slice(b",\"log\":\"")?;
     out.extend_from_slice(&log.name)?;
     out.extend_from_slice(b"\",\"epoch\":\"")?;
     out.extend_from_slice(&log.epoch)?;
-    out.extend_from_slice(b"\",\"position\":")?;
-    push_number(out, position)
+    Ok(())
+}
+
+/// Appends a text and a number.
+fn push_after(out: &mut Vec<u8>, before: &[u8], number: u64) -> Result<(), AllocError>
+    ensures { OnOk result (out.new.items ≡ out.old.items ++ (before.now ++ decimal number)) }
+{
+    out.extend_from_slice(before)?;
+    push_number(out, number)?;
+    Ok(())
+}
+
+/// Appends what is held.
+fn push_held(out: &mut Vec<u8>, log: &Log, position: u64) -> Result<(), AllocError>
+    ensures { OnOk result (out.new.items ≡ out.old.items ++ held_text (record { log = log.now; position = position })) }
+{
+    push_log(out, log)?;
+    push_after(out, b"\",\"position\":", position)?;
+    Ok(())
 }
 
 /// Appends the first line, without its newline: how many rows a table may have, and the log that is followed with its position.

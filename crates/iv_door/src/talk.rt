@@ -1,9 +1,9 @@
 //! `Talk`: how what a keeper says is heard, line by line.
-ghost use Rattle.std.specs.Prelude.{◌≡◌, ◌++◌, false, true, IfErr, IfOk, IfSome, OnOk, map, option_map};
+ghost use Rattle.std.specs.Prelude.{◌≡◌, ◌≤◌, ◌++◌, false, true, Some, length, IfErr, IfOk, IfSome, OnOk, map, option_map};
 ghost use Rattle.iv_door.specs.Said.{begins, brings, ends, goes_on, recalls};
 ghost use Rattle.iv_door.specs.Answers.{other_log};
 ghost use Rattle.iv_door.specs.Talk as spec;
-ghost use Rattle.iv_door.specs.Talk.{Hears, HearsLine, acts, at_start, fails, has_newline, has_room, is_same, stepped};
+ghost use Rattle.iv_door.specs.Talk.{Hears, HearsLine, IsSaidBy, acts, at_start, fails, has_newline, has_room, is_same, most_line, stepped};
 ghost use Rattle.iv_door.specs.Views.{IsFailingBy, IsPassed, act_of, fault_of, heard_of, said_of};
 ghost use Rattle.iv_door.specs.declared.answers.Fault.TheVariants.{WrongTime};
 
@@ -313,6 +313,19 @@ impl Talk {
         Ok(Some(line))
     }
 
+    /// Hears what is said by a line.
+    fn hear_said(&mut self, line: &[u8], said: Said) -> Result<Act, Fault>
+        requires said { IsSaidBy line.now (Some (said_of said)) }
+        requires short { length line.now ≤ most_line }
+        ensures heard { IfOk result (λ a. HearsLine self.old line.now (acts (act_of a), self.new)) }
+        ensures fault { IfErr result (λ f. IsFailingBy (HearsLine self.old line.now) (fault_of f)) }
+    {
+        match self.heed(said) {
+            Ok(act) => Ok(act),
+            Err(fault) => Err(fault),
+        }
+    }
+
     /// Hears a line.
     fn hear_line(&mut self, line: &[u8]) -> Result<Act, Fault>
         ensures heard { IfOk result (λ a. HearsLine self.old line.now (acts (act_of a), self.new)) }
@@ -323,7 +336,7 @@ impl Talk {
         }
         match read_said(self.alloc, line)? {
             None => Err(Fault::NoLine(self.lines)),
-            Some(said) => self.heed(said),
+            Some(said) => self.hear_said(line, said),
         }
     }
 
@@ -342,6 +355,17 @@ impl Talk {
         }
     }
 
+    /// Hears the line that was passed.
+    fn hear_passed(&mut self, line: &[u8]) -> Result<Option<Act>, Fault>
+        ensures heard { IfOk result (λ o. (t : spec.Talk) → IsPassed t (Some line.now) self.old → Hears t (heard_of o, self.new)) }
+        ensures fault { IfErr result (λ f. (t : spec.Talk) → IsPassed t (Some line.now) self.old → IsFailingBy (Hears t) (fault_of f)) }
+    {
+        match self.hear_line(line) {
+            Ok(act) => Ok(Some(act)),
+            Err(fault) => Err(fault),
+        }
+    }
+
     /// Hears the next line, if its end has come. What it asks.
     ///
     /// # Errors
@@ -352,10 +376,7 @@ impl Talk {
     {
         match self.next_line()? {
             None => self.wait(),
-            Some(line) => {
-                let act = self.hear_line(&line)?;
-                Ok(Some(act))
-            }
+            Some(line) => self.hear_passed(&line),
         }
     }
 }
