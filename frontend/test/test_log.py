@@ -201,6 +201,11 @@ def test_clients_come_in_when_that_is_said(here: pathlib.Path) -> None:
     assert keeper.end() == 0
 
 
+def steps(first: int, last: int) -> list[str]:
+    """Steps of a row each."""
+    return [text for it in range(first, last) for text in (insert(it + 1), '{"from":%d,"step":%d}' % (it, it + 1))]
+
+
 def test_what_was_not_synced_is_taken_again_after_any_kill(here: pathlib.Path) -> None:
     begun(here).end()
     position = 10
@@ -208,12 +213,15 @@ def test_what_was_not_synced_is_taken_again_after_any_kill(here: pathlib.Path) -
         keeper = Keeper(here)
         held = json.loads(keeper.hear())["position"]
         assert held >= position
-        keeper.say(GO_ON, *(text for it in range(held, held + 40) for text in (insert(it + 1), '{"from":%d,"step":%d}' % (it, it + 1))))
-        position = held
+        keeper.say(GO_ON)
+        position = last = held
         for _ in range(turn % 4):
-            told = json.loads(keeper.hear())["on_disk"]
-            assert told >= position
-            position = told
+            last += 10
+            keeper.say(*steps(last - 10, last))
+            position = json.loads(keeper.hear())["on_disk"]
+            assert last - 10 < position <= last or position == held
+        keeper.say(*steps(last, last + 40))
+        time.sleep(turn / 1000)
         keeper.kill()
     keeper = Keeper(here)
     held = json.loads(keeper.hear())["position"]
@@ -276,7 +284,8 @@ def test_a_port_lets_in_one_keeper_with_the_secret(here: pathlib.Path) -> None:
 
 
 def test_words_that_cannot_be(here: pathlib.Path) -> None:
-    for words in (("--log", "0", "--log-secret-file", here / "secret"), ("--log", "9000"), ("--log", "-", "--log-secret-file", here / "secret"),
-                  ("--log-secret-file", here / "secret"), ("--log", "-", "--seed", here / "seed"), ("--log", "x", "--log-secret-file", here / "secret")):
+    secret: tuple[str | pathlib.Path, ...] = ("--log-secret-file", here / "secret")
+    none: tuple[str | pathlib.Path, ...] = ()
+    for words in (("--log", "0", *secret), ("--log", "9000"), ("--log", "-", *secret), (*none, *secret), ("--log", "-", "--seed", here / "seed"), ("--log", "x", *secret)):
         gate = Keeper(here, words)
         assert gate.process.wait(PATIENCE) == 1, words

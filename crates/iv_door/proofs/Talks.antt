@@ -1,11 +1,15 @@
 -- What a talk has heard, put together of what was read of it.
 use Rattle.std.proofs.Common.{◌≡◌, ℕ, ◌+◌, List, ◌∷◌, ◌++◌, drop, length, take, Option, None, Some, refl, ap, ◌∙◌, sym, subst, arith, append_assoc, length-append}
-use Rattle.std.specs.Prelude.{◌-◌, IfSome}
+use Rattle.std.specs.Prelude.{◌-◌, IfErr, IfSome, Result, Ok, Err}
 use Rattle.std.proofs.Math.Seq.{drop-append_seam}
 use Rattle.std.proofs.lemmas.List.{take-append-drop}
 use Rattle.iv_door.specs.Answers.{Fault}
 use Rattle.iv_door.specs.Talk.{Heard, Hears, HearsLine, Talk, a_line, fails}
 use Rattle.iv_door.specs.Views.{IsFailingBy, IsPassed}
+
+pub err_map : {X E : Type 0} (r : Result X E) (P Q : E → Type 0) → ((e : E) → P e → Q e) → IfErr r P → IfErr r Q
+err_map (Ok x) P Q f h = tt
+err_map (Err e) P Q f h = f e h
 
 -- what fails so
 pub failing : (P : Heard × Talk → Type 0) (x : Heard × Talk) → P x → (o : Option Fault) → IfSome o (λ g. x.0 ≡ fails g) → IsFailingBy P o

@@ -59,6 +59,11 @@ joined_4 o a n b e r =
 pub joined_5 : (o a n b m c r : List ℕ) → (o ++ (a ++ (n ++ (b ++ (m ++ c))))) ++ r ≡ o ++ (a ++ (n ++ (b ++ (m ++ (c ++ r)))))
 joined_5 o a n b m c r = joined_4 o a n b (m ++ c) r ∙ ap (λ z. o ++ (a ++ (n ++ (b ++ z)))) (append_assoc m c r)
 
+pub pushed_4 : (o a n b e p q r s : List ℕ) → p ≡ o ++ a → q ≡ p ++ n → r ≡ q ++ b → s ≡ r ++ e → s ≡ o ++ (a ++ (n ++ (b ++ e)))
+pushed_4 o a n b e p q r s h i j k =
+    k ∙ (ap (λ z. z ++ e) (j ∙ ap (λ z. z ++ b) (i ∙ ap (λ z. z ++ n) h))
+    ∙ (append_assoc ((o ++ a) ++ n) b e ∙ (append_assoc (o ++ a) n (b ++ e) ∙ append_assoc o a (n ++ (b ++ e)))))
+
 less : (a b : ℕ) → a + b - b ≡ a
 less a b = omega arith
 

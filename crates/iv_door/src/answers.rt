@@ -182,15 +182,14 @@ pub fn push_fault(out: &mut Vec<u8>, fault: &Fault) -> Result<(), AllocError>
     Ok(())
 }
 
-/// Appends the log that is followed.
-fn push_log(out: &mut Vec<u8>, log: &Log) -> Result<(), AllocError>
-    ensures { OnOk result (out.new.items ≡ out.old.items
-        ++ (codes ",\"log\":\"" ++ (log.now.name ++ (codes "\",\"epoch\":\"" ++ log.now.epoch)))) }
+/// Appends the log that is followed, by its name and epoch.
+fn push_log(out: &mut Vec<u8>, name: &[u8], epoch: &[u8]) -> Result<(), AllocError>
+    ensures { OnOk result (out.new.items ≡ out.old.items ++ (codes ",\"log\":\"" ++ (name.now ++ (codes "\",\"epoch\":\"" ++ epoch.now)))) }
 {
     out.extend_from_slice(b",\"log\":\"")?;
-    out.extend_from_slice(&log.name)?;
+    out.extend_from_slice(name)?;
     out.extend_from_slice(b"\",\"epoch\":\"")?;
-    out.extend_from_slice(&log.epoch)?;
+    out.extend_from_slice(epoch)?;
     Ok(())
 }
 
@@ -207,7 +206,7 @@ fn push_after(out: &mut Vec<u8>, before: &[u8], number: u64) -> Result<(), Alloc
 fn push_held(out: &mut Vec<u8>, log: &Log, position: u64) -> Result<(), AllocError>
     ensures { OnOk result (out.new.items ≡ out.old.items ++ held_text (record { log = log.now; position = position })) }
 {
-    push_log(out, log)?;
+    push_log(out, &log.name, &log.epoch)?;
     push_after(out, b"\",\"position\":", position)?;
     Ok(())
 }

@@ -18,5 +18,6 @@ returns-in_default-parse-clause-none c = λ _ n l h. c.in_default-parse.not-Ok n
 
 pub returns-else-is-clause-none : goal.returns-else-is-clause-none
 returns-else-is-clause-none c = λ _ n l h.
-    let same = same_number c.in-Ok-parse.number n (parse-decimal 64 n c.in-Ok.text.now _ l l (c.in-Ok.ensures.cases.0 ∙ sym h) c.in-Ok-parse.ensures.value.0) in
+    let same = same_number c.in-Ok-parse.number n
+    (sym c.in-Ok-parse.is ∙ parse-decimal 64 n c.in-Ok.text.now c.parse.result l l (c.in-Ok.ensures.cases.0 ∙ sym h) c.parse.ensures.value.0) in
     other_text c.as_bytes.result.now c.args.digits.now c.if-is.ensures (c.as_bytes.ensures.value ∙ (c.format.ensures.text ∙ (ap decimal same ∙ h)))

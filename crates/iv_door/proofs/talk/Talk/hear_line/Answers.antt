@@ -19,5 +19,5 @@ returns-in-None-clause-fault c = (
       (is_none c.if-line-gt-MOST_LINE.false (subst (λ o. IsSaidBy c.args.line.now (option_map said_of o)) c.in-None.is c.in_ok-read_said.ensures)),
 )
 
-pub hear_said-requires-said : goal.hear_said-requires-said
-hear_said-requires-said c = subst (λ o. IsSaidBy c.args.line.now (option_map said_of o)) c.in-Some.is c.in_ok-read_said.ensures
+pub hear_said-requires-clause-said : goal.hear_said-requires-clause-said
+hear_said-requires-clause-said c = subst (λ o. IsSaidBy c.args.line.now (option_map said_of o)) c.in-Some.is c.in_ok-read_said.ensures

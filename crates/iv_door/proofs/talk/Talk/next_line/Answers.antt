@@ -1,4 +1,4 @@
-use Rattle.std.proofs.Common.{◌∙◌, ◌∷◌, ◌++◌, [], ap, append_assoc, length, sym}
+use Rattle.std.proofs.Common.{◌∙◌, ◌∷◌, ◌++◌, ◌+◌, [], ap, append_assoc, length, sym}
 use Rattle.std.specs.Prelude.{◌-◌, drop}
 use Rattle.iv_door.specs.Talk.{has_newline}
 use Rattle.iv_door.proofs.Talks.{left_behind}
