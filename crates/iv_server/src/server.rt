@@ -461,6 +461,18 @@ impl Server {
         self.open = true;
     }
 
+    /// The connection of a number is closed, if the desk has it.
+    fn close_at(&mut self, desk: &mut Desk, at: u32) -> Result<(), Fault>
+        ensures { Leads desk.old desk.new }
+    {
+        if self.kind(at) != Kind::Desk {
+            return Ok(());
+        }
+        close(desk, at, 1013, b"The log is not followed now.")?;
+        self.asked.push(at)?;
+        Ok(())
+    }
+
     /// No client may come in, and who is there is closed.
     ///
     /// # Errors
@@ -473,10 +485,7 @@ impl Server {
         }
         self.open = false;
         for at in 0..self.most {
-            if self.kind(at) == Kind::Desk {
-                close(desk, at, 1013, b"The log is not followed now.")?;
-                self.asked.push(at)?;
-            }
+            self.close_at(desk, at)?;
         }
         Ok(())
     }
