@@ -1,5 +1,5 @@
 -- What a gateway answers a keeper: lines, byte for byte, without their newlines.
-use Rattle.std.specs.Prelude.{ℕ, List, [], ◌∷◌, ◌++◌, codes, decimal, Option, None, Some}
+use Rattle.std.specs.Prelude.{ℕ, List, [], ◌++◌, codes, decimal, Option}
 use Rattle.iv_rows.specs.Options.{if_some}
 use Rattle.iv_door.specs.Said.{Log}
 

@@ -1,5 +1,5 @@
 -- What a keeper of a log says to a gateway that follows it: lines, byte for byte.
-use Rattle.std.specs.Prelude.{ℕ, ◌==◌, ◌^◌, ◌&&◌, ◌||◌, not, Bool, true, List, [], ◌∷◌, ◌++◌, bytes_eq, codes, decimal, length, nat_le, nat_lt, take}
+use Rattle.std.specs.Prelude.{ℕ, ◌==◌, ◌^◌, ◌&&◌, ◌||◌, not, Bool, true, List, ◌∷◌, ◌++◌, bytes_eq, codes, decimal, length, nat_le, nat_lt, take}
 use Rattle.std.specs.List.{list_all}
 
 -- a log by its name, and which beginning of it

@@ -1,5 +1,5 @@
 -- A keeper's talk: how what it says is heard, line by line, however its bytes come.
-use Rattle.std.specs.Prelude.{◌≡◌, ◌≢◌, ◌<◌, ◌≤◌, ℕ, ◌+◌, ◌==◌, ◌&&◌, ◌||◌, not, Bool, true, false, if◌then◌else◌, List, [], ◌∷◌, ◌++◌, bytes_eq, length, nat_le, nat_lt, Option, None, Some}
+use Rattle.std.specs.Prelude.{◌≡◌, ◌≢◌, ◌<◌, ◌≤◌, ℕ, ◌+◌, ◌==◌, ◌&&◌, Bool, true, false, if◌then◌else◌, List, [], ◌∷◌, ◌++◌, bytes_eq, length, nat_le, nat_lt, Option, None, Some}
 use Rattle.std.specs.List.{list_any}
 use Rattle.iv_rows.specs.Options.{if_some}
 use Rattle.iv_door.specs.Said.{Log, Said, begins, goes_on, recalls, brings, ends, opens, shuts, is_well, line_of, step_text}

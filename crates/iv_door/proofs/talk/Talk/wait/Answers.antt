@@ -1,4 +1,4 @@
-use Rattle.std.proofs.Common.{◌≡◌, ◌<◌, ◌≤◌, ◌∙◌, ◌+◌, ap, length, subst, sym}
+use Rattle.std.proofs.Common.{◌<◌, ◌≤◌, ◌∙◌, ◌+◌, ap, length, subst, sym}
 use Rattle.iv_door.specs.Answers.{too_long}
 use Rattle.iv_door.specs.Talk.{Hears, fails, no_end, not_yet}
 use Rattle.iv_door.proofs.talk.Talk.wait.Goals as goal
