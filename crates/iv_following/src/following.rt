@@ -435,13 +435,13 @@ impl Following {
             }
             return Ok(());
         };
-        if !is_same(&line[..end], &self.secret) {
+        if !is_same(line.get(..end).unwrap_or(&[]), &self.secret) {
             let _ = eprintln!(self.rt; "gateway: the log: a keeper has shown another secret");
             self.drop_wire();
             return Ok(());
         }
         self.greet(position)?;
-        if let Some(rest) = line.get(end + 1..) {
+        if let Some(rest) = line.get(end.saturating_add(1)..) {
             self.talk.take(rest)?;
         }
         Ok(())
@@ -469,7 +469,7 @@ impl Following {
         match got {
             Got::Nothing => {}
             Got::End => self.drop_wire(),
-            Got::Bytes(count) => self.take(&buffer[..count], position)?,
+            Got::Bytes(count) => self.take(buffer.get(..count).unwrap_or(&[]), position)?,
         }
         Ok(again && self.wire.is_some())
     }
