@@ -227,7 +227,7 @@ impl Following {
             if !self.writable || self.sent >= self.out.len() {
                 return true;
             }
-            let (count, again) = wire.write(poll, &self.out[self.sent..]);
+            let (count, again) = wire.write(poll, self.out.get(self.sent..).unwrap_or(&[]));
             self.writable = again;
             match count {
                 None => return false,
