@@ -7,6 +7,7 @@ import pathlib
 import re
 import select
 import socket
+import struct
 import subprocess
 import tempfile
 import time
@@ -15,7 +16,7 @@ from collections.abc import Iterator
 import pytest
 
 from ports import free_port
-from wire import PATIENCE, PROGRAM, TOP, Ended, Wire, digest
+from wire import COMING, PATIENCE, PROGRAM, TOP, Ended, Wire, digest, http
 
 EPOCH = "0123456789abcdef" * 2
 BEGIN = '{"begin":"example","epoch":"%s"}' % EPOCH
@@ -254,13 +255,8 @@ def reached(port: int, first: str) -> tuple[socket.socket, bytes]:
 def test_a_port_lets_in_one_keeper_with_the_secret(here: pathlib.Path) -> None:
     port, shown = free_port(), '{"secret":"%s"}' % SECRET
     gate = Keeper(here, ("--log", str(port), "--log-secret-file", here / "secret"))
-    first, told = reached(port, shown)
-    assert told == b'{"door":1,"rows":65536}\n'
+    first = begun_at(port)
     assert at_port(port, shown)[1] == b""
-    first.sendall(f'{BEGIN}\n{ROLE}\n{TABLE}\n{{"from":0,"step":3}}\n{{"open":true}}\n'.encode())
-    told = b""
-    while b'{"on_disk":3}' not in told:
-        told += first.recv(1 << 16)
     end = time.monotonic() + PATIENCE
     while True:
         try:
@@ -283,9 +279,60 @@ def test_a_port_lets_in_one_keeper_with_the_secret(here: pathlib.Path) -> None:
     assert gate.process.wait(PATIENCE) == 4
 
 
+def begun_at(port: int) -> socket.socket:
+    """A keeper at a port that has begun a log, and let clients in."""
+    it, told = reached(port, '{"secret":"%s"}' % SECRET)
+    assert told == b'{"door":1,"rows":65536}\n'
+    it.sendall(f'{BEGIN}\n{ROLE}\n{TABLE}\n{{"from":0,"step":3}}\n{{"open":true}}\n'.encode())
+    told = b""
+    while b'{"on_disk":3}' not in told:
+        told += it.recv(1 << 16)
+    return it
+
+
+def replaced(here: pathlib.Path, seconds: float) -> float:
+    """For how many seconds a client stays in where a keeper is gone and another one, who says nothing, waits already."""
+    port = free_port()
+    gate = Keeper(here, ("--log", str(port), "--log-secret-file", here / "secret"))
+    first = begun_at(port)
+    end = time.monotonic() + PATIENCE
+    while http(gate.port, "/readyz")[0] != 200:
+        assert time.monotonic() < end
+    mia = gate.enter()
+    many = "".join(f"{insert(it)}\n" for it in range(20_000))
+    first.sendall(f'{many}{{"from":3,"step":4}}\n'.encode())
+    first.setsockopt(socket.SOL_SOCKET, socket.SO_LINGER, struct.pack("ii", 1, 0))
+    time.sleep(seconds)
+    first.close()  # with a reset: what the gateway tells it then fails
+    with socket.create_connection(("127.0.0.1", port), PATIENCE):
+        began = time.monotonic()
+        with pytest.raises(Ended, match="1013"):
+            mia.line()
+        stayed = time.monotonic() - began
+        assert http(gate.port, "/readyz")[0] == 503
+    gate.kill()
+    return stayed
+
+
+@pytest.mark.parametrize("seconds", (0.01, 0.02, 0.03, 0.05, 0.1))
+def test_nobody_is_let_in_between_two_keepers(seconds: float, here: pathlib.Path) -> None:
+    assert replaced(here, seconds) < COMING, "a client stayed as long as the second keeper, who showed no secret"
+
+
+SECRETS = {"short": "x" * 31, "long": "x" * 1_025, "a mark": "x" * 32 + '"', "a backslash": "x" * 32 + "\\", "two lines": "x" * 32 + "\n" + "x" * 32}
+
+
+@pytest.mark.parametrize("what", SECRETS)
+def test_a_secret_that_no_keeper_can_show_is_refused(what: str, here: pathlib.Path) -> None:
+    (here / "other").write_text(SECRETS[what])
+    gate = Keeper(here, ("--log", str(free_port()), "--log-secret-file", here / "other"))
+    assert gate.process.wait(PATIENCE) == 1, gate.said()
+
+
 def test_words_that_cannot_be(here: pathlib.Path) -> None:
     secret: tuple[str | pathlib.Path, ...] = ("--log-secret-file", here / "secret")
     none: tuple[str | pathlib.Path, ...] = ()
-    for words in (("--log", "0", *secret), ("--log", "9000"), ("--log", "-", *secret), (*none, *secret), ("--log", "-", "--seed", here / "seed"), ("--log", "x", *secret)):
+    for words in (("--log", "0", *secret), ("--log", "9000"), ("--log", "-", *secret), (*none, *secret), ("--log", "-", "--seed", here / "seed"),
+                  ("--log", "x", *secret)):
         gate = Keeper(here, words)
         assert gate.process.wait(PATIENCE) == 1, words
