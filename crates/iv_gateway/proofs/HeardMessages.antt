@@ -257,13 +257,13 @@ pub IsAlive-decided_elsewhere : (g : Gate) (m : ℕ) (id : Option Data) (q : Req
 IsAlive-decided_elsewhere g m id q name x h a = subst (λ b. IsAlive (cond b (tells g m (decided_elsewhere id name)) (carries g m id q name)) x) (sym h) a
 
 -- a verdict of the code is the gateway's
-pub verdict_of-IsAlive : (g : Gate) (a : Ask) (v : code_once.Verdict) (x : Gateway) → verdict_of v ≡ verdict (names_in_code x.names) a → IsAlive g x
-    → verdict_of v ≡ verdict (names_of g) a
-verdict_of-IsAlive g a v x h b = h ∙ ap (λ n. verdict n a) b.names
+pub verdict_of-IsAlive : (g : Gate) (a : Ask) (v w : code_once.Verdict) (x : Gateway) → v ≡ w → verdict_of v ≡ verdict (names_in_code x.names) a → IsAlive g x
+    → verdict_of w ≡ verdict (names_of g) a
+verdict_of-IsAlive g a v w x e h b = ap verdict_of (sym e) ∙ (h ∙ ap (λ n. verdict n a) b.names)
 
-pub IsAlive-by_verdict : (g : Gate) (m : ℕ) (id : Option Data) (q : Request) (a : Ask) (v w : Verdict) (x : Gateway) → v ≡ w → IsAlive (by_verdict g m id q a v) x
-    → IsAlive (by_verdict g m id q a w) x
-IsAlive-by_verdict g m id q a v w x e b = subst (λ z. IsAlive (by_verdict g m id q a z) x) e b
+pub IsAlive-by_verdict : (g : Gate) (m : ℕ) (id : Option Data) (q : Request) (a : Ask) (v : Verdict) (x : Gateway) → v ≡ verdict (names_of g) a
+    → IsAlive (by_verdict g m id q a v) x → IsAlive (by_verdict g m id q a (verdict (names_of g) a)) x
+IsAlive-by_verdict g m id q a v x e b = subst (λ z. IsAlive (by_verdict g m id q a z) x) e b
 
 -- with a name, and without
 pub IsAlive-shares_plain : (g : Gate) (m : ℕ) (c : Client) (id : Option Data) (q : Request) (claim : Option Claim) (x : Gateway) → claim ≡ None

@@ -8,7 +8,6 @@ ghost use Rattle.iv_records.specs.Journal.{is_shared};
 ghost use Rattle.iv_clients.specs.Clients as spec;
 ghost use Rattle.iv_records.specs.Names.{place_text};
 ghost use Rattle.iv_once.specs.Names.{Ask, verdict};
-ghost use Rattle.iv_once.specs.Views.{verdict_of};
 ghost use Rattle.iv_gate.specs.Gate.{Gate, answer_text, by_verdict, carries, decides, done_in, entered, entries_of, in_session, is_accepted, names_of, place_of, replies_to, reply_in, shares, tells};
 ghost use Rattle.iv_notices.specs.Granting.{IsGranting};
 ghost use Rattle.iv_arrivals.specs.Speaking.{asked_id, request_of};
@@ -281,19 +280,14 @@ impl Gateway {
         }
     }
 
-    /// Has done what a client asks by a name, as the verdict on the name says.
-    fn follow_verdict(
-        &mut self,
-        asked: &Asked<'_>,
-        ask: Ask,
-        act: Act,
-        verdict: Verdict,
-    ) -> Result<(), AllocError>
+    /// Has done what a client asks by a name, once.
+    fn ask_named(&mut self, asked: &Asked<'_>, ask: Ask, act: Act) -> Result<(), AllocError>
         requires well { is_well_act (act_of act) ≡ true }
         requires shared { is_shared (act_of act) ≡ true }
         ensures { OnOk result ((g : Gate) → IsAlive g self.old
-            → IsAlive (by_verdict g asked.now.client (asked_id asked.now) (request_of asked.now (act_of act)) ask (verdict_of verdict)) self.new) }
+            → IsAlive (by_verdict g asked.now.client (asked_id asked.now) (request_of asked.now (act_of act)) ask (verdict (names_of g) ask)) self.new) }
     {
+        let verdict = self.names.verdict(&ask)?;
         match verdict {
             Verdict::Carry => {
                 self.decide(asked, Some(ask), act)?;
@@ -315,23 +309,15 @@ impl Gateway {
                 self.leave(asked, 103)?;
                 Ok(())
             }
-            Verdict::Ahead | Verdict::Over => {
+            Verdict::Ahead => {
+                self.leave(asked, 104)?;
+                Ok(())
+            }
+            Verdict::Over => {
                 self.leave(asked, 104)?;
                 Ok(())
             }
         }
-    }
-
-    /// Has done what a client asks by a name, once.
-    fn ask_named(&mut self, asked: &Asked<'_>, ask: Ask, act: Act) -> Result<(), AllocError>
-        requires well { is_well_act (act_of act) ≡ true }
-        requires shared { is_shared (act_of act) ≡ true }
-        ensures { OnOk result ((g : Gate) → IsAlive g self.old
-            → IsAlive (by_verdict g asked.now.client (asked_id asked.now) (request_of asked.now (act_of act)) ask (verdict (names_of g) ask)) self.new) }
-    {
-        let verdict = self.names.verdict(&ask)?;
-        self.follow_verdict(asked, ask, act, verdict)?;
-        Ok(())
     }
 
     /// Has done what changes what is shared, by its name if it has one.
