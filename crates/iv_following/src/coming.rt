@@ -26,6 +26,7 @@ impl Following {
         self.out.truncate(0);
         self.readable = false;
         self.owes = false;
+        self.late = false;
     }
 
     /// The log that is followed, for one more talk.
@@ -153,7 +154,7 @@ impl Following {
 
     /// Reads what has come, so much at most.
     pub(crate) fn read(&mut self, poll: &Poll, position: u64) -> Result<(), Fault> {
-        if !self.readable {
+        if !self.readable || self.late {
             return Ok(());
         }
         'reads: for _ in 0..READS {

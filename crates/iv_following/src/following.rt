@@ -16,6 +16,9 @@ use mio::{Events, Poll};
 use std::alloc::Global;
 use std::time::Instant;
 
+/// Bytes that a keeper is to be told, beyond which nothing more is heard of it.
+const MOST_OUT: usize = 1_048_576;
+
 /// The log that is followed, and its keeper.
 #[derive(Drop)]
 pub struct Following {
@@ -52,6 +55,8 @@ pub struct Following {
     pub(crate) writable: bool,
     /// It is to be told what is on disk.
     pub(crate) owes: bool,
+    /// Lines that have come may be unheard: nothing more is read.
+    pub(crate) late: bool,
     /// The next round is to come at once.
     pub(crate) again: bool,
     /// What JSON is read with.
@@ -92,6 +97,7 @@ impl Following {
             readable: false,
             writable: true,
             owes: false,
+            late: false,
             again: false,
             scratch: Scratch::new(alloc),
         })
@@ -201,11 +207,15 @@ impl Following {
         ensures { Leads desk.old desk.new }
     {
         'lines: for _ in 0..u32::MAX {
+            if self.out.len() > MOST_OUT {
+                return Ok(());
+            }
             if !may_read(desk) {
                 self.again = true;
                 return Ok(());
             }
             if !self.hear_line(desk, server)? {
+                self.late = false;
                 return Ok(());
             }
         }
@@ -242,8 +252,12 @@ impl Following {
         self.shut_without(desk, server)?;
         self.accept(poll)?;
         self.read(poll, desk.settled_at())?;
+        self.late = true;
         self.hear_lines(desk, server)?;
         self.shut_without(desk, server)?;
+        if self.readable && !self.late {
+            self.again = true;
+        }
         Ok(self.has_ended())
     }
 }

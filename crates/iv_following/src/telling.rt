@@ -1,4 +1,10 @@
 //! What a keeper is told: what is held, what is on disk, and why nothing more is taken.
+ghost use Rattle.std.specs.Prelude.{◌≡◌, ◌++◌, ◌∷◌, [], OnOk, false, if◌then◌else◌};
+ghost use Rattle.iv_gate.specs.Arriving.{settled_at};
+ghost use Rattle.iv_desk.specs.Desks.{IsDesk};
+ghost use Rattle.iv_desk.specs.Front.{Front};
+ghost use Rattle.iv_door.specs.Answers.{on_disk};
+
 use crate::following::Following;
 use crate::wire::{Got, PIECE};
 use iv_desk::Desk;
@@ -69,6 +75,20 @@ impl Following {
         }
     }
 
+    /// Appends up to where the journal has the log, if that is owed.
+    fn push_owed(&mut self, desk: &Desk) -> Result<(), Fault>
+        ensures { OnOk result ((d : Front) → IsDesk d desk.now → d.gate.dead ≡ false
+            → self.new.out.items ≡ self.old.out.items ++ (if self.old.owes then on_disk (settled_at d.gate) ++ 10 ∷ [] else [])) }
+    {
+        if !self.owes {
+            return Ok(());
+        }
+        self.owes = false;
+        push_on_disk(&mut self.out, desk.settled_at())?;
+        self.out.push(b'\n')?;
+        Ok(())
+    }
+
     /// The keeper is told up to where the journal has the log, if it ended a step since it was told so.
     ///
     /// # Errors
@@ -77,11 +97,7 @@ impl Following {
         if self.wire.is_none() {
             self.owes = false;
         }
-        if self.owes {
-            self.owes = false;
-            push_on_disk(&mut self.out, desk.settled_at())?;
-            self.end_line()?;
-        }
+        self.push_owed(desk)?;
         self.send_out(poll);
         Ok(())
     }

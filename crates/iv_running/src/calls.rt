@@ -1,15 +1,16 @@
 //! The desk's calls as the program makes them: each leads from a run to a run.
 //!
 //! So after each of them all holds that `browsers_are_told_their_views` of iv_desk says of runs.
-ghost use Rattle.std.specs.Prelude.{◌≡◌, ℕ, IfOk, OnOk, false, true};
+ghost use Rattle.std.specs.Prelude.{◌≡◌, ℕ, IfOk, None, OnOk, false, true};
 ghost use Rattle.iv_rows.specs.RowLimit.{IsRowLimit};
+ghost use Rattle.iv_arrivals.specs.Reads.{step_in};
 ghost use Rattle.iv_gate.specs.Events.{IsWell, arrived};
 ghost use Rattle.iv_gate.specs.Gate as spec;
 ghost use Rattle.iv_gateway.specs.Views.{IsHead};
 ghost use Rattle.iv_gateway.specs.Waiting.{WaitsWithin};
 ghost use Rattle.iv_desk.specs.Desks.{IsDesk};
-ghost use Rattle.iv_desk.specs.Front.{Front, may_tell};
-ghost use Rattle.iv_running.specs.Running.{IsNew, IsRunning, Leads, most_told};
+ghost use Rattle.iv_desk.specs.Front.{Front, by_event, may_tell};
+ghost use Rattle.iv_running.specs.Running.{IsFollowed, IsNew, IsRunning, Leads, most_told};
 
 use crate::fault::Fault;
 use iv_arrivals::{Log, Step, read_step};
@@ -125,7 +126,8 @@ pub fn leave(desk: &mut Desk, at: u32) -> Result<(), Fault>
 /// Takes a step of the log that is followed. Whether it was not taken before.
 fn take(desk: &mut Desk, step: Step) -> Result<bool, StepFault>
     requires { IsWell (arrived step) }
-    ensures { Leads desk.old desk.new }
+    ensures leads { Leads desk.old desk.new }
+    ensures front { OnOk result ((d : Front) → IsDesk d desk.old → IsDesk (by_event (arrived step) d) desk.new) }
 {
     events_leave_their_marks();
     match desk.take_step(step) {
@@ -146,7 +148,9 @@ pub fn follow(
     lines: &[Line<'_>],
     scratch: &mut Scratch,
 ) -> Result<bool, StepFault>
-    ensures { Leads desk.old desk.new }
+    ensures leads { Leads desk.old desk.new }
+    ensures taken { IfOk result (λ is. is ≡ true → IsFollowed log from lines.now desk.old desk.new) }
+    ensures none { IfOk result (λ is. is ≡ false → (step_in log from lines.now ≡ None) × (desk.new ≡ desk.old)) }
 {
     match read_step(alloc, log, from, lines, scratch) {
         Err(_) => Err(StepFault::Memory),
