@@ -175,8 +175,8 @@ impl Places {
 }
 
 impl Server {
-    /// One with these places, in which nobody is.
-    pub fn new(alloc: Global, places: Places, admission: Admission) -> Server {
+    /// One with these places, in which nobody is. Whether clients may come in.
+    pub fn new(alloc: Global, places: Places, admission: Admission, open: bool) -> Server {
         let Places {
             most,
             pages,
@@ -194,7 +194,7 @@ impl Server {
             shares: Vec::new(alloc),
             inside: 0,
             by_token: ByToken::new(alloc),
-            open: true,
+            open,
             accepting: false,
             again: false,
             swept: 0,
@@ -488,11 +488,6 @@ impl Server {
             self.close_at(desk, at)?;
         }
         Ok(())
-    }
-
-    /// No client may come in until that is said, and none is there.
-    pub fn keep_shut(&mut self) {
-        self.open = false;
     }
 
     /// The entries that were made since the last of somebody were made by nobody who is here.

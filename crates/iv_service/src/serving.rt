@@ -176,14 +176,11 @@ fn no_address(rt: &HostRuntime, address: SocketAddr) -> u8 {
     SYSTEM
 }
 
-/// A keeper who is there is told what is held, and no client comes in until it says so.
-fn meet(desk: &Desk, server: &mut Server, following: &mut Option<Following>) -> Result<(), Fault> {
+/// A keeper who is there is told what is held.
+fn meet(desk: &Desk, following: &mut Option<Following>) -> Result<(), Fault> {
     match following {
         None => Ok(()),
-        Some(following) => {
-            server.keep_shut();
-            following.meet(desk)
-        }
+        Some(following) => following.meet(desk),
     }
 }
 
@@ -217,7 +214,7 @@ fn open(
     ensures { Leads desk.old desk.new }
 {
     let address = SocketAddr::from((settings.host, settings.port));
-    if meet(desk, server, following).is_err() {
+    if meet(desk, following).is_err() {
         return Err(out_of_memory(rt));
     }
     let Some(listener) = listener_at(rt, address, poll) else {
@@ -314,7 +311,7 @@ fn serve_those(
     match new_places(rt.alloc(), settings) {
         Err(_) => Err(out_of_memory(rt)),
         Ok(places) => {
-            let mut server = Server::new(rt.alloc(), places, admission);
+            let mut server = Server::new(rt.alloc(), places, admission, settings.keeper.is_none());
             serve_anew(rt, settings, file, &mut server, tokens)
         }
     }
