@@ -33,6 +33,8 @@ def insert(number: int, what: str = "milk") -> str:
 class Keeper:
     """A gateway behind a log whose keeper the test is: at standard input and output, or at a port."""
 
+    running: list["Keeper"] = []
+
     def __init__(self, here: pathlib.Path, words: tuple[str | pathlib.Path, ...] = ("--log", "-")):
         self.here, self.port = here, free_port()
         (here / "tokens").write_text("[tokens]\n" + "".join(f'"{digest(f"{role}-demo")}" = "{role}"\n' for role in ("admin", "mia")))
@@ -43,6 +45,7 @@ class Keeper:
         assert self.process.stdin and self.process.stdout
         self.given, self.taken = self.process.stdout, self.process.stdin
         self.read = b""
+        self.running.append(self)
 
     def say(self, *lines: str) -> None:
         self.taken.write("".join(f"{it}\n" for it in lines).encode())
@@ -90,6 +93,8 @@ class Keeper:
 def here() -> Iterator[pathlib.Path]:
     with tempfile.TemporaryDirectory() as folder:
         yield pathlib.Path(folder)
+        while Keeper.running:
+            Keeper.running.pop().kill()
 
 
 def test_the_conversation_of_the_page(here: pathlib.Path) -> None:
