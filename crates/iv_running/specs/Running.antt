@@ -1,9 +1,13 @@
 -- What stands behind the program's desk at all times.
-use Rattle.std.specs.Prelude.{ℕ, List, []}
+use Rattle.std.specs.Prelude.{◌≡◌, ℕ, List, [], Some}
+use Rattle.iv_journal.specs.Journal.{Line}
+use Rattle.iv_gate.specs.Arriving.{Step}
+use Rattle.iv_gate.specs.Events.{arrived}
+use Rattle.iv_arrivals.specs.Reads.{step_in}
 use Rattle.iv_clients.specs.Tokens.{Token}
-use Rattle.iv_gate.specs.Gate.{Head}
+use Rattle.iv_gate.specs.Gate.{Head, Log}
 use Rattle.iv_gate.specs.Restoring.{gate_at_start}
-use Rattle.iv_desk.specs.Front.{Front, FrontRuns, front_at_start}
+use Rattle.iv_desk.specs.Front.{Front, FrontRuns, by_event, front_at_start}
 use Rattle.iv_desk.specs.Desks.{IsDesk}
 use Rattle.iv_desk.specs.declared.desk.Desk.{Desk}
 
@@ -16,6 +20,12 @@ pub record IsRunning (cap : ℕ) (x : Desk) : Type 0 where
 -- if a run has led to the first desk, one leads to the second
 abbrev pub Leads : Desk → Desk → Type 0
 Leads x y = (cap : ℕ) → IsRunning cap x → IsRunning cap y
+
+-- the lines are a step of the log from a position, and that is what arrives
+pub record IsFollowed (log : Log) (from : ℕ) (lines : List Line) (x y : Desk) : Type 0 where
+  pub step : Step
+  pub is : step_in log from lines ≡ Some step
+  pub arrives : (d : Front) → IsDesk d x → IsDesk (by_event (arrived step) d) y
 
 -- nobody came yet, and nothing happened
 pub record IsNew (cap : ℕ) (x : Desk) : Type 0 where
