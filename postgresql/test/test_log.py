@@ -1,0 +1,90 @@
+"""The conversation of docs/LOG.md, word for word: the gateway of these tests says what stands there."""
+import json
+import pathlib
+import re
+import shutil
+import tempfile
+import unittest
+from collections import Counter
+from typing import Any
+
+from desk import TOP
+from gateway import Fault, Gateway
+
+Line = dict[str, Any]
+ROWS = 65_536
+
+
+class Client:
+    """A client in a role: what it is told, by its own numbers."""
+
+    def __init__(self, role: str):
+        self.role = role
+        self.subs: dict[int, tuple[str, Counter[tuple[Any, ...]]]] = {}
+        self.ids: dict[int, int] = {}  # of its asks
+
+    def differs(self, gateway: Gateway) -> list[Line]:
+        """What it is told of what changed."""
+        found: list[Line] = []
+        for sub, (name, before) in self.subs.items():
+            after = Counter(gateway.live.shown(self.role, name) or {})
+            gateway.live.settle()
+            after = Counter(gateway.live.shown(self.role, name) or {})
+            changes = [[after[row] - before[row], list(row)] for row in sorted({*after, *before}) if after[row] != before[row]]
+            self.subs[sub] = name, after
+            found += [{"sub": sub, "changes": changes}] if changes else []
+        return found
+
+
+class Conversation(unittest.TestCase):
+    def setUp(self) -> None:
+        self.room = pathlib.Path(tempfile.mkdtemp())
+        self.addCleanup(shutil.rmtree, self.room)
+        self.gateway = Gateway(self.room, ROWS)
+        self.addCleanup(lambda: self.gateway.close())
+        self.client = Client("mia")
+        self.said: list[str] = []
+
+    def tell(self, who: str, *lines: Line) -> None:
+        self.said += [f"{who} {json.dumps(it, ensure_ascii=False, separators=(',', ':'))}" for it in lines]
+
+    def keeper(self, it: Line) -> None:
+        asked = dict(self.gateway.asked)
+        try:
+            self.tell("<", *self.gateway.hear(it))
+        except Fault as why:
+            self.tell("<", {"fault": str(why)})
+        for ask in asked.keys() - self.gateway.asked.keys():
+            answer = {"error": it["error"]} if "refused" in it else {"ok": "write"}
+            self.tell("mia<", answer | {"id": self.client.ids[ask]})
+        self.tell("mia<", *self.client.differs(self.gateway))
+
+    def says(self, it: Line) -> None:
+        """A client's message."""
+        if it["do"] == "subscribe":
+            self.assertTrue(self.gateway.is_open)
+            self.gateway.live.shown("mia", it["on"])
+            self.client.subs[it["id"]] = it["on"], Counter()
+            columns = next(one["columns"] for one in map(json.loads, self.gateway.path.read_text().splitlines()) if one.get("name") == it["on"])
+            self.tell("mia<", {"ok": "subscribe", "sub": it["id"], "columns": columns, "id": it["id"]})
+        else:
+            ask = self.gateway.ask("mia", {key: value for key, value in it.items() if key != "id"})
+            self.client.ids[ask["ask"]] = it["id"]
+            self.tell("<", ask)
+
+    def test_the_page(self) -> None:
+        blocks = re.findall(r"(?ms)^```\n(.*?)^```$", (TOP / "docs/LOG.md").read_text())
+        self.assertEqual(len(blocks), 2)
+        for block in blocks:
+            self.gateway.close()
+            self.gateway, self.client, self.said = Gateway(self.room, ROWS), Client("mia"), []
+            self.tell("<", self.gateway.hello())
+            for text in block.splitlines():
+                who, _, line = text.partition(" ")
+                if who == ">":
+                    self.said.append(text)
+                    self.keeper(json.loads(line))
+                elif who == "mia>":
+                    self.said.append(text)
+                    self.says(json.loads(line))
+            self.assertEqual("\n".join(self.said), block.rstrip("\n"))
