@@ -7,6 +7,7 @@ is another one. So a right that came and went between two cuts shows no row that
 """
 import time
 from collections import deque
+from collections.abc import Callable
 from typing import NamedTuple
 
 import psycopg2
@@ -67,6 +68,7 @@ class Steps:
         self.certain = place.end  # all commits before it were told
         self.known = place if is_known and place.commit else None  # a transaction that has to come again
         self.last = place.end  # the place of the last cut
+        self.late: Callable[[], None] = lambda: None  # is called while the stream is waited for
         self.waiting: deque[Transaction] = deque()
         self.names = ""  # by which the texts of policies and views are printed
         self.texts: dict[str, str] = {}  # that are known, so that none waits for somebody's lock
@@ -150,6 +152,7 @@ class Steps:
             if not pushed and time.monotonic() - began > PUSH:
                 self.push()
                 pushed = True
+            self.late()
             self.stream.wait(PATIENCE if pushed else PUSH)
             self.take()
 

@@ -6,7 +6,8 @@ import secrets
 import sys
 import time
 from collections import deque
-from collections.abc import Callable
+from collections.abc import Iterable
+from itertools import islice
 from typing import NamedTuple
 
 import psycopg2
@@ -27,7 +28,7 @@ AHEAD = 4  # steps that are said before the first of them is on the gateway's di
 AGAIN = 1.0  # seconds between two looks for a PostgreSQL that is away
 TELL = 1.0  # seconds between two lines about the log
 WORD = 5.0  # seconds between two words of progress
-AWAY = (psycopg2.OperationalError, psycopg2.InterfaceError)
+MANY, LONG = 100, 500  # words about what is left out, and characters of one
 
 
 class Said(NamedTuple):
@@ -36,11 +37,15 @@ class Said(NamedTuple):
     number: int
     place: Place
     certain: int  # all commits before it are told by then
-    time: float
 
 
 def log(text: str) -> None:
     print(f"viewd-postgresql: {printable(text)}", file=sys.stderr, flush=True)
+
+
+def is_away(why: psycopg2.Error) -> bool:
+    """Of a stream that has ended psycopg2 says no more than that something is wrong."""
+    return isinstance(why, (psycopg2.OperationalError, psycopg2.InterfaceError)) or type(why) is psycopg2.DatabaseError
 
 
 def words() -> Progress:
@@ -65,6 +70,7 @@ class Follow:
         self.certain = 0  # all commits before it are on the gateway's disk
         self.open = False
         self.is_away = False
+        self.level = time.monotonic()  # when the gateway had all that was known of
         self.told: tuple[float, Request] = (0.0, {})
 
     def run(self) -> None:
@@ -72,6 +78,7 @@ class Follow:
         self.start()
         while True:
             try:
+                self.door.kept()
                 if self.following is None:
                     self.begin()
                 elif self.is_away:
@@ -82,8 +89,8 @@ class Follow:
                 self.anew(str(why))
             except Unsettled as why:
                 log(str(why))
-            except AWAY as why:
-                if self.number == 0:
+            except psycopg2.Error as why:
+                if self.number == 0 or not is_away(why):
                     raise
                 self.away(" ".join(str(why).split()))
 
@@ -107,7 +114,7 @@ class Follow:
         self.waiting.clear()
         self.number, self.open = 0, False
         self.door.begin(self.following.begun.log, secrets.token_hex(16))
-        self.say(self.following, list(self.following.first()))
+        self.say(self.following, self.following.first())
         rows = sum(it.rows.total() for it in self.following.begun.mirror.tables.values())
         log(f"began with {rows:,} rows at {lsn_text(self.following.source.place.end)}")
         for name, fault in self.following.state.left_out():
@@ -120,16 +127,17 @@ class Follow:
             self.door.wait(self.waiting[0].number, WAIT)
             return
         known = following.begun.steps.mark
+        following.begun.steps.late = lambda: self.about(following)
         if requests := following.next(WAIT):
             self.say(following, requests)
         if not known and following.begun.steps.mark:  # what was told before it was of another moment
             self.serve()
         self.about(following)
 
-    def say(self, following: Following, requests: list[Request]) -> None:
+    def say(self, following: Following, requests: Iterable[Request]) -> None:
         self.number += 1
         self.door.step(self.number, requests)
-        self.waiting.append(Said(self.number, following.source.place, following.begun.steps.certain, time.monotonic()))
+        self.waiting.append(Said(self.number, following.source.place, following.begun.steps.certain))
 
     def keep(self, following: Following) -> None:
         """PostgreSQL hears of what is on the gateway's disk, and of nothing else."""
@@ -150,7 +158,7 @@ class Follow:
         log(why)
         if self.open:
             self.open = False
-            self.door.shut(why)
+            self.door.shut(why[:LONG])
 
     def anew(self, why: str) -> None:
         self.shut(f"begins anew: {why}")
@@ -173,13 +181,16 @@ class Follow:
 
     def about(self, following: Following) -> None:
         """What the gateway tells of the log."""
-        steps = following.begun.steps
+        self.keep(following)
+        steps, now = following.begun.steps, time.monotonic()
         if not self.waiting:
             self.certain = steps.certain
-        now = time.monotonic()
-        late = round(now - self.waiting[0].time, 1) if self.waiting else 0.0
-        left = {name: why for name, why in following.state.left_out()}
-        one = {"place": lsn_text(self.certain), "lag_bytes": max(0, steps.last - self.certain), "lag_seconds": late, "left_out": left}
-        if now - self.told[0] > TELL and one != self.told[1]:
+        late = max(0, steps.last - self.certain)
+        if not late:
+            self.level = now
+        if now - self.told[0] > TELL:
+            left = {name: why[:LONG] for name, why in islice(following.state.left_out(), MANY)}
+            one = {"place": lsn_text(self.certain), "lag_bytes": late, "lag_seconds": round(now - self.level, 1), "left_out": left}
+            if one != self.told[1]:
+                self.door.about(one)
             self.told = now, one
-            self.door.about(one)

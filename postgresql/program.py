@@ -85,7 +85,7 @@ def init(found: State, settings: Settings, path: pathlib.Path | None) -> int:
 def run(given: argparse.Namespace) -> int:
     settings = read(given.config, given.dsn) if given.config and given.command != "init" else Settings(given.dsn)
     if given.command == "follow":
-        Follow(settings, Door(sys.stdin.buffer, sys.stdout.buffer)).run()
+        Follow(settings, Door(os.fdopen(os.dup(0), "rb"), sys.stdout.buffer)).run()  # of sys.stdin's own lock Python would abort at the end
     connection = connect(settings.dsn)
     try:
         found = state(connection, settings, given.rows)

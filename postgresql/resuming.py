@@ -5,7 +5,7 @@ the journal is an older copy, or somebody made the slot anew.
 """
 from collections.abc import Callable
 
-from beginning import Beginning, ready, slot
+from beginning import Beginning, NotReady, ready, slot
 from catalog import Relation, asked, connect, read
 from cuts import Steps
 from mirror import Mirror, Table
@@ -24,7 +24,7 @@ def resume(settings: Settings, source: Source, log: str, tables: Callable[[Made,
     try:
         stream = Stream(settings.dsn, settings.slot, settings.publication)
         if (found := stream.system()) != log:
-            raise Lost(f"it is {found}, and what is held is of {log}")
+            raise NotReady(f"the gateway holds the log of {log}, and this is {found}: give it another journal")
         if settled(settings) != source.settings:
             raise Lost("the configuration is another one")
         goes_on(settings, source)

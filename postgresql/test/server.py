@@ -86,5 +86,13 @@ class Server:
             subprocess.run(self.command(self.folder / "pg_ctl", "-D", self.room / "data", "-m", how, "-t", str(int(PATIENCE)), "stop"), stdout=subprocess.DEVNULL, stderr=subprocess.DEVNULL, cwd="/")
             self.process.wait()
 
+    def put_back(self, data: pathlib.Path) -> None:
+        """An older copy of the server's folder, while it is stopped."""
+        shutil.rmtree(self.room / "data")
+        shutil.move(data, self.room / "data")
+        if os.getuid() == 0:
+            subprocess.run(["chown", "-R", "postgres", self.room / "data"], check=True)
+        os.chmod(self.room / "data", 0o700)
+
     def dsn(self, user: str = "postgres", database: str = "postgres") -> str:
         return f"host=127.0.0.1 port={self.port} user={user} dbname={database}"

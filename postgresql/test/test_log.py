@@ -1,5 +1,7 @@
-"""The conversation of docs/LOG.md, word for word: the gateway of these tests says what stands there."""
+"""The door for logs: the conversation of docs/LOG.md, word for word, and lines that no gateway should say."""
+import io
 import json
+import os
 import pathlib
 import re
 import shutil
@@ -9,6 +11,7 @@ from collections import Counter
 from typing import Any
 
 from desk import TOP
+from door import Door, Ended, Held
 from gateway import Fault, Gateway
 
 Line = dict[str, Any]
@@ -88,3 +91,31 @@ class Conversation(unittest.TestCase):
                     self.said.append(text)
                     self.says(json.loads(line))
             self.assertEqual("\n".join(self.said), block.rstrip("\n"))
+
+
+class Doors(unittest.TestCase):
+    """Lines that no gateway of these tests says."""
+
+    def test_what_a_gateway_says(self) -> None:
+        for text, words in ((b"", "the gateway has ended"), (b"x\n", "what is no line: b'x"), (b'{"door":2}\n', "another form than 1"), (b'{"fault":"why"}\n', "the gateway says: why")):
+            with self.assertRaisesRegex(Ended, words):
+                Door(io.BytesIO(text), io.BytesIO()).hello()
+        taken = io.BytesIO()
+        door = Door(io.BytesIO(b'{"door":1,"rows":5,"log":"a","epoch":"b","position":7}\n{"as":"admin","do":"x"}\n{"recalled":7}\n'), taken)
+        self.assertEqual(door.hello(), Held(5, "a", "b", 7))
+        self.assertEqual(list(door.recall()), [{"do": "x"}])
+        self.assertEqual(taken.getvalue(), b'{"recall":true}\n')
+
+    def test_a_beginning_forgets_what_was_on_disk(self) -> None:
+        given, other = os.pipe()
+        with os.fdopen(given, "rb") as lines, os.fdopen(other, "wb", buffering=0) as says:
+            says.write(b'{"door":1,"rows":5,"log":"a","epoch":"b","position":7}\n')
+            door = Door(lines, io.BytesIO())
+            door.hello()
+            door.begin("a", "c")
+            for text, kept in ((b'{"on_disk":8}\n', 0), (b'{"on_disk":0}\n', 0), (b'{"on_disk":1}\n', 1)):
+                says.write(text + b'{"heard":1}\n')
+                door.hear()
+                self.assertEqual(door.kept(), kept)
+            says.close()
+            self.assertRaises(Ended, door.hear)
