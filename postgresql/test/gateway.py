@@ -22,7 +22,7 @@ class Gateway:
         self.path, self.rows = folder / "journal", rows
         self.dies_after = -1  # bytes that it writes until then
         self.log = self.epoch = ""
-        self.position = self.beginnings = 0
+        self.position = self.beginnings = self.asks_so_far = 0
         self.is_open, self.begins, self.asks = False, False, False
         self.entries: list[Line] = []  # of the step that is not whole
         self.asked: dict[int, str] = {}
@@ -121,9 +121,9 @@ class Gateway:
 
     def ask(self, role: str, request: Line) -> Line:
         """What the keeper is asked for a client."""
-        number = max(self.asked, default=0) + 1
-        self.asked[number] = role
-        return {"ask": number, "as": role, "request": request}
+        self.asks_so_far += 1
+        self.asked[self.asks_so_far] = role
+        return {"ask": self.asks_so_far, "as": role, "request": request}
 
     def close(self) -> None:
         self.live.close()

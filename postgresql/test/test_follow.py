@@ -75,7 +75,7 @@ class Histories(Followed):
                 thread.join()
                 writer.connection.close()
             counts["transactions"] += writer.counts["transactions"]
-        self.settle()
+            self.settle()
         self.compare()
 
     def look(self, role: str, scene: str) -> None:

@@ -35,7 +35,7 @@ class Client:
             after = Counter(gateway.live.shown(self.role, name) or {})
             changes = [[after[row] - before[row], list(row)] for row in sorted({*after, *before}) if after[row] != before[row]]
             self.subs[sub] = name, after
-            found += [{"sub": sub, "changes": changes}] if changes else []
+            found += [{"changes": changes, "sub": sub}] if changes else []
         return found
 
 
@@ -57,10 +57,11 @@ class Conversation(unittest.TestCase):
             self.tell("<", *self.gateway.hear(it))
         except Fault as why:
             self.tell("<", {"fault": str(why)})
+        told: list[Line] = []
         for ask in asked.keys() - self.gateway.asked.keys():
-            answer = {"error": it["error"]} if "refused" in it else {"ok": "write"}
-            self.tell("mia<", answer | {"id": self.client.ids[ask]})
-        self.tell("mia<", *self.client.differs(self.gateway))
+            told.append({"error": it["error"], "id": self.client.ids[ask]} if "refused" in it else {"id": self.client.ids[ask], "ok": True})
+        told += self.client.differs(self.gateway)
+        self.tell("mia<", *told, *([{"settled": True}] if told else []))
 
     def says(self, it: Line) -> None:
         """A client's message."""
@@ -69,7 +70,7 @@ class Conversation(unittest.TestCase):
             self.gateway.live.shown("mia", it["on"])
             self.client.subs[it["id"]] = it["on"], Counter()
             columns = next(one["columns"] for one in map(json.loads, self.gateway.path.read_text().splitlines()) if one.get("name") == it["on"])
-            self.tell("mia<", {"ok": "subscribe", "sub": it["id"], "columns": columns, "id": it["id"]})
+            self.tell("mia<", {"columns": columns, "id": it["id"], "ok": True, "sub": it["id"]}, {"settled": True})
         else:
             ask = self.gateway.ask("mia", {key: value for key, value in it.items() if key != "id"})
             self.client.ids[ask["ask"]] = it["id"]
