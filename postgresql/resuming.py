@@ -6,7 +6,7 @@ the journal is an older copy, or somebody made the slot anew.
 from collections.abc import Callable
 
 from beginning import Beginning, NotReady, ready, slot
-from catalog import Relation, asked, connect, read
+from catalog import Relation, connect
 from cuts import Steps
 from mirror import Mirror, Table
 from pgoutput import lsn_of
@@ -21,6 +21,7 @@ def resume(settings: Settings, source: Source, log: str, tables: Callable[[Made,
     """`tables` answers the rows that were told of a table. Raises what `begin` raises; Lost where all has to begin anew."""
     connection = connect(settings.dsn)
     stream: Stream | None = None
+    steps: Steps | None = None
     try:
         stream = Stream(settings.dsn, settings.slot, settings.publication)
         if (found := stream.system()) != log:
@@ -29,7 +30,9 @@ def resume(settings: Settings, source: Source, log: str, tables: Callable[[Made,
             raise Lost("the configuration is another one")
         goes_on(settings, source)
         names = source.names()
-        catalog = read(connection, list(names), settings.publication)
+        steps = Steps(connection, settings.dsn, stream, list(names), settings.publication, "", source.place, True)
+        catalog = steps.ask()[1]
+        assert catalog
         ready(catalog, settings)
         mirror = Mirror()
 
@@ -37,13 +40,12 @@ def resume(settings: Settings, source: Source, log: str, tables: Callable[[Made,
             one = mirror.tables[it.oid] = tables(it, rel)
             return one
         state = said(catalog, names, settings, held, follows=True)
-        connection.rollback()
-        steps = Steps(connection, settings.dsn, stream, list(names), settings.publication, "", source.place, True)
         stream.begin(source.place.again())
         return Beginning(names, state, mirror, steps, connection, stream, log)
     except BaseException:
-        if stream:
-            stream.close()
+        for it in (steps, stream):
+            if it:
+                it.close()
         connection.close()
         raise
 
