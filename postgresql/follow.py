@@ -13,7 +13,7 @@ from typing import NamedTuple
 import psycopg2
 import psycopg2.errors
 
-from beginning import Progress
+from beginning import NotReady, Progress
 from catalog import Unsettled
 from door import Door, Held
 from following import Anew, Following
@@ -111,6 +111,8 @@ class Follow:
             self.following = Following.anew(self.settings, self.held.rows, words())
         except psycopg2.errors.LockNotAvailable as why:  # somebody holds a table, for a while
             raise Unsettled(" ".join(str(why).split())) from None
+        except Lost as why:  # no further beginning mends it
+            raise NotReady(str(why)) from None
         self.waiting.clear()
         self.number, self.open = 0, False
         self.door.begin(self.following.begun.log, secrets.token_hex(16))
