@@ -47,6 +47,8 @@ class Door:
         for text in iter(lambda: self.given.readline(LONGEST + 2), b""):
             try:
                 one = json.loads(text)
+                if not isinstance(one, dict):
+                    raise ValueError
                 if "on_disk" in one:
                     self.keep(int(one["on_disk"]))
                 elif "fault" in one:
@@ -96,14 +98,14 @@ class Door:
         if one.get("door") != FORM:
             raise Ended(f"the gateway's door has another form than {FORM}: {str(one)[:200]}")
         self.on_disk = int(one.get("position", 0))
-        return Held(int(one["rows"]), str(one.get("log", "")), str(one.get("epoch", "")), self.on_disk)
+        return Held(int(one.get("rows", 0)), str(one.get("log", "")), str(one.get("epoch", "")), self.on_disk)
 
     def recall(self) -> Iterator[Request]:
         """What it holds, as requests that lead there."""
         self.say({"recall": True})
         self.flush()
         while "recalled" not in (one := self.hear()):
-            del one["as"]
+            one.pop("as", None)
             yield one
 
     def begin(self, log: str, epoch: str) -> None:

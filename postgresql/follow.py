@@ -99,7 +99,7 @@ class Follow:
         if not self.held.log:
             return
         try:
-            self.following = Following.resumed(self.settings, self.held.rows, self.held.log, list(self.door.recall()))
+            self.following = Following.resumed(self.settings, self.held.rows, self.held.log, self.door.recall())
         except (Anew, Lost, Unreadable) as why:
             self.anew(str(why))
             return
@@ -114,7 +114,7 @@ class Follow:
         except Lost as why:  # no further beginning mends it
             raise NotReady(str(why)) from None
         self.waiting.clear()
-        self.number, self.open = 0, False
+        self.number, self.open, self.is_away = 0, False, False
         self.door.begin(self.following.begun.log, secrets.token_hex(16))
         self.say(self.following, self.following.first())
         rows = sum(it.rows.total() for it in self.following.begun.mirror.tables.values())

@@ -3,7 +3,8 @@
 They are one step: what stands between two of them is no state of PostgreSQL, and is to be shown to nobody. viewd has no request that drops
 or changes a relation, so where one is another one all begins anew.
 """
-from collections.abc import Iterator
+from collections import Counter
+from collections.abc import Iterable, Iterator
 
 import beginning
 import rows
@@ -13,12 +14,12 @@ from mirror import Table
 from relations import Made
 from resuming import resume
 from rights import ROLES
-from rows import Request
+from rows import Request, Row
 from settings import Settings
 from source import FORM, NAME, Print, Source, changes, read, sourced
 from state import State, said
 from stream import Lost, Place, Transaction
-from told import Guards, Told, off, rows_of
+from told import Guards, Told, off, written
 
 
 class Anew(Exception):
@@ -39,11 +40,12 @@ class Following:
         return Following(settings, most, begun, Told(), sourced(settings, begun.steps.place, begun.state))
 
     @staticmethod
-    def resumed(settings: Settings, most: int, log: str, requests: list[Request]) -> "Following":
+    def resumed(settings: Settings, most: int, log: str, requests: Iterable[Request]) -> "Following":
         """Goes on from what a gateway holds. Raises Lost, Anew, and what `begin` raises."""
-        told, held = Told(), rows_of(requests)
+        told, held = Told(), dict[str, Counter[Row]]()
         for it in requests:
             told.add(it)
+            written(held, it)
         try:
             source = read(held[NAME])
         except (KeyError, ValueError):

@@ -47,14 +47,11 @@ def off(name: str) -> Request:
     return {"do": "row_security", "on": name, "enable": False, "force": False}
 
 
-def rows_of(requests: list[Request]) -> dict[str, Counter[Row]]:
-    """The rows of each table that is made, as its writes left them."""
-    held: dict[str, Counter[Row]] = {it["name"]: Counter() for it in requests if it["do"] == "create_table"}
-    for request in requests:
-        for it in request["entries"] if request["do"] == "write" else ():
-            of = held[it["on"]]
-            one, copies = (tuple(it["insert"]), it.get("copies", 1)) if "insert" in it else (tuple(it["delete"]), -it.get("copies", 1))
-            of[one] += copies
-            if not of[one]:
-                del of[one]
-    return held
+def written(held: dict[str, Counter[Row]], request: Request) -> None:
+    """Adds what a write does to the rows of tables by their names."""
+    for it in request["entries"] if request["do"] == "write" else ():
+        of = held.setdefault(it["on"], Counter())
+        one, copies = (tuple(it["insert"]), it.get("copies", 1)) if "insert" in it else (tuple(it["delete"]), -it.get("copies", 1))
+        of[one] += copies
+        if not of[one]:
+            del of[one]
