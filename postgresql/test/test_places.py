@@ -65,20 +65,21 @@ class Places(Followed):
             self.assertEqual(self.beginnings > before, bool(words), (statements, self.told()[-500:]))
             if words:
                 self.assertIn(words, self.told())
-        self.desk.do("insert into tickets values (9, 'mia', 'y', true, 3)")
-        self.settle()
+        self.slot_goes_on()
         self.restored(old)
         self.settle()
         self.compare(("mia", "olga"))
         self.assertIn("has gone on beyond what is held", self.told())
-        for config in ('[relations]\ntickets = "public.tickets"\nclock = "public.clock"\n', '[relations]\ntickets = "public.tickets"\nclock = "public.clock"\n[users]\nrole = "day"\ncalls = ["current_setting(\'app.user\')"]\nnames = ["zoe"]\n'):
+        # (with users CURRENT_USER in a policy is refused)
+        for config, names in (('[relations]\ntickets = "public.tickets"\nclock = "public.clock"\n', ["clock", "tickets"]),
+                              ('[relations]\ntickets = "public.tickets"\nclock = "public.clock"\n[users]\nrole = "day"\ncalls = ["current_setting(\'app.user\')"]\nnames = ["zoe"]\n', ["clock"])):
             before = self.beginnings
             self.away()
             self.config.write_text(config)
             self.settle()
             self.assertEqual(self.beginnings, before + 1)
             assert self.gateway
-            self.assertEqual(sorted(self.gateway.live.names), ["clock", "tickets"])
+            self.assertEqual(sorted(self.gateway.live.names), names)
 
     def free(self, *statements: str) -> None:
         """The same, and the slot is in use no more."""
@@ -95,6 +96,19 @@ class Places(Followed):
         assert self.gateway
         return self.gateway.path.read_bytes()
 
+    def slot_goes_on(self) -> None:
+        """PostgreSQL has forgotten what an older journal would need: until then it would go on from that, too."""
+        self.desk.do("insert into tickets values (9, 'mia', 'y', true, 3)")
+        aim = self.one("select pg_current_wal_insert_lsn()::text")
+        end = time.monotonic() + PATIENCE
+        while self.one(f"select confirmed_flush_lsn >= '{aim}' from pg_replication_slots") is not True:
+            self.assertLess(time.monotonic(), end, self.told())
+            self.settle()
+
+    def one(self, query: str) -> object:
+        self.desk.cursor.execute(query)
+        return (self.desk.cursor.fetchone() or (None,))[0]
+
     def restored(self, old: bytes) -> None:
         """The gateway has an older copy."""
         assert self.gateway
@@ -107,8 +121,7 @@ class Places(Followed):
         while not (self.gateway and self.gateway.position == 1):
             self.turn()
         old = self.journal()
-        self.desk.do("insert into tickets values (9, 'mia', 'y', true, 3)")
-        self.settle()
+        self.slot_goes_on()
         self.assertEqual(self.beginnings, 1)
         self.restored(old)
         self.settle()
