@@ -127,6 +127,7 @@ class Places(Followed):
         self.settle()
         self.compare(("mia", "olga"))
         self.assertEqual(self.beginnings, 2, self.told())
+        self.assertIn("has gone on beyond what is held", self.told())
 
     def test_a_database_that_was_put_back(self) -> None:
         """Its log is another one from some place on, with the slot as it was."""
@@ -224,7 +225,9 @@ class Places(Followed):
         assert self.gateway
         journal = self.journal()
         self.restored(re.sub(rb"postgresql [0-9]+/", b"postgresql 1/", journal, count=1))
+        end = time.monotonic() + PATIENCE
         while not self.statuses[3]:
+            self.assertLess(time.monotonic(), end, self.told())
             self.turn()
         self.assertIn("give it another journal", self.told())
         self.assertTrue(self.journal().startswith(b'{"log": "postgresql 1/'))
