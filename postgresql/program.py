@@ -1,5 +1,6 @@
 """The command line of viewd-postgresql."""
 import argparse
+import itertools
 import os
 import pathlib
 import sys
@@ -7,11 +8,15 @@ import sys
 import psycopg2
 
 import prepare
+from beginning import NotReady
 from catalog import Unsettled, connect
+from door import Door, Ended
+from follow import Follow
 from settings import Settings, Wrong, read
 from state import State, Unsayable, line, state
 
-GOOD, LEFT_OUT, WRONG, UNREACHED, INTERRUPTED = 0, 1, 2, 3, 130  # exit statuses
+GOOD, LEFT_OUT, WRONG, UNREACHED, LEFT, INTERRUPTED = 0, 1, 2, 3, 4, 130  # exit statuses
+BEGIN = {"do": "begin", "role": "admin"}
 ROWS, LEAST, MOST = 65_536, 1_024, 1_048_576
 EPILOG = """examples:
   viewd-postgresql check "host=127.0.0.1 dbname=desk user=viewd"
@@ -20,9 +25,12 @@ EPILOG = """examples:
       writes a configuration with all relations that it could have
   viewd-postgresql show "host=127.0.0.1 dbname=desk user=viewd" viewd.toml | ./viewd replay
       tells a viewd all of it, as it is now
+  viewd-postgresql follow "host=127.0.0.1 dbname=desk user=viewd" viewd.toml
+      brings a gateway one state of it after another: docs/LOG.md has the lines on standard input and output
 
 exit status: 0 if all is well; 1 if something is left out or missing (its words are on standard output, or for show and init
-on standard error); 2 if the words or the configuration are wrong; 3 if PostgreSQL cannot be reached or refuses.
+on standard error); 2 if the words or the configuration are wrong; 3 if PostgreSQL cannot be reached or refuses; 4 if follow's
+gateway has ended.
 
 docs/POSTGRESQL.md says what becomes what, and what is refused.
 """
@@ -31,13 +39,16 @@ docs/POSTGRESQL.md says what becomes what, and what is refused.
 def arguments(words: list[str]) -> argparse.Namespace:
     parser = argparse.ArgumentParser(prog="viewd-postgresql", description="viewd beside a PostgreSQL that stays as it is.", epilog=EPILOG,
                                      formatter_class=argparse.RawDescriptionHelpFormatter)
-    commands = parser.add_subparsers(dest="command", required=True, metavar="check|init|show")
+    commands = parser.add_subparsers(dest="command", required=True, metavar="check|init|show|follow")
     for name, what in (("check", "say what viewd could have of a database, and what is missing"), ("show", "print the requests that tell a viewd all of it"),
-                       ("init", "write a configuration")):
+                       ("init", "write a configuration"), ("follow", "bring a gateway one state of it after another")):
         one = commands.add_parser(name, help=what, description=what)
         one.add_argument("dsn", metavar="DSN", help="which database, as libpq says it; \"\" for the one of the configuration")
         file = "where it is written, standard output if left out" if name == "init" else "the configuration, a file of TOML; all relations if left out"
         one.add_argument("config", metavar="CONFIG", nargs="?", type=pathlib.Path, help=file)
+        if name == "follow":  # the gateway says how many rows it can hold
+            one.set_defaults(rows=ROWS)
+            continue
         one.add_argument("--rows", type=int, default=ROWS, help=f"different rows of a table, as for viewd: {LEAST:,} to {MOST:,}, {ROWS:,} if left out")
     given = parser.parse_args(words)
     if not LEAST <= given.rows <= MOST:
@@ -50,7 +61,7 @@ def complain(why: str) -> None:
 
 
 def show(found: State) -> int:
-    for request in found.requests():
+    for request in itertools.chain([BEGIN], found.requests()):
         print(line(request))
     for name, why in found.left_out():
         complain(f"{name} is left out: {why}")
@@ -73,6 +84,8 @@ def init(found: State, settings: Settings, path: pathlib.Path | None) -> int:
 
 def run(given: argparse.Namespace) -> int:
     settings = read(given.config, given.dsn) if given.config and given.command != "init" else Settings(given.dsn)
+    if given.command == "follow":
+        Follow(settings, Door(os.fdopen(os.dup(0), "rb"), sys.stdout.buffer)).run()  # of sys.stdin's own lock Python would abort at the end
     connection = connect(settings.dsn)
     try:
         found = state(connection, settings, given.rows)
@@ -101,7 +114,10 @@ def main(words: list[str]) -> int:
     except (Wrong, OSError) as why:
         complain(str(why))
         return WRONG
-    except (psycopg2.Error, Unsettled) as why:
+    except Ended as why:
+        complain(str(why))
+        return LEFT
+    except (psycopg2.Error, Unsettled, NotReady) as why:
         complain(f"PostgreSQL: {' '.join(str(why).split())}")
         return UNREACHED
     except UnicodeDecodeError as why:
