@@ -2,12 +2,12 @@
 
 It keeps nothing. From where it goes on is what the gateway has on its disk, and PostgreSQL is told no more than that.
 """
+import json
 import secrets
 import sys
 import time
 from collections import deque
-from collections.abc import Iterable
-from itertools import islice
+from collections.abc import Iterable, Iterator
 from typing import NamedTuple
 
 import psycopg2
@@ -15,7 +15,7 @@ import psycopg2.errors
 
 from beginning import NotReady, Progress
 from catalog import Unsettled
-from door import Door, Held
+from door import Gateway, line
 from following import Anew, Following
 from pgoutput import Unreadable, lsn_text
 from prepare import printable
@@ -23,12 +23,11 @@ from rows import Request
 from settings import Settings
 from stream import Lost, Place
 
-WAIT = 0.1  # seconds between two cuts where nothing comes
+WAIT = 0.1  # seconds between two cuts if nothing comes
 AHEAD = 4  # steps that are said before the first of them is on the gateway's disk
 AGAIN = 1.0  # seconds between two looks for a PostgreSQL that is away
-TELL = 1.0  # seconds between two lines about the log
 WORD = 5.0  # seconds between two words of progress
-MANY, LONG = 100, 500  # words about what is left out, and characters of one
+LINES, BYTES = 500_000, 128_000_000  # of a step: a gateway takes twice as many
 
 
 class Said(NamedTuple):
@@ -36,7 +35,7 @@ class Said(NamedTuple):
 
     number: int
     place: Place
-    certain: int  # all commits before it are told by then
+    certain: int  # all rows of commits before it are told by then
 
 
 def log(text: str) -> None:
@@ -60,21 +59,33 @@ def words() -> Progress:
     return progress
 
 
+def requests(lines: Iterable[bytes]) -> Iterator[Request]:
+    """What a gateway holds, without the role that made it."""
+    for it in lines:
+        one: Request = json.loads(it)
+        del one["as"]
+        yield one
+
+
 class Follow:
-    def __init__(self, settings: Settings, door: Door):
-        self.settings, self.door = settings, door
-        self.held: Held = door.hello()
+    def __init__(self, settings: Settings, gateway: Gateway):
+        self.settings, self.gateway = settings, gateway
         self.following: Following | None = None
-        self.number = self.held.position  # of the last step that was said
         self.waiting: deque[Said] = deque()
-        self.certain = 0  # all commits before it are on the gateway's disk
-        self.open = False
+        self.certain = 0  # all rows of commits before it are on the gateway's disk
         self.is_away = False
-        self.level = time.monotonic()  # when the gateway had all that was known of
-        self.told: tuple[float, Request] = (0.0, {})
+        self.level = self.told = time.monotonic()  # when the gateway had all that was known of, and when it was said that it has not
+        self.meet()
+
+    def meet(self) -> None:
+        """A gateway that was not there before."""
+        self.door = self.gateway.door
+        self.held = self.door.hello()
+        self.number = self.held.position  # of the last step that was said
+        self.open = False
 
     def run(self) -> None:
-        """Follows until the gateway ends. Raises Ended, NotReady, Wrong, Unsayable; psycopg2.Error where PostgreSQL was never reached."""
+        """Follows until the gateway ends. Raises Ended, Kept, NotReady, Wrong, Unsayable; psycopg2.Error if PostgreSQL was never reached."""
         self.start()
         while True:
             try:
@@ -99,7 +110,7 @@ class Follow:
         if not self.held.log:
             return
         try:
-            self.following = Following.resumed(self.settings, self.held.rows, self.held.log, self.door.recall())
+            self.following = Following.resumed(self.settings, self.held.rows, self.held.log, requests(self.door.recall()))
         except (Anew, Lost, Unreadable) as why:
             self.anew(str(why))
             return
@@ -114,14 +125,25 @@ class Follow:
         except Lost as why:  # no further beginning mends it
             raise NotReady(str(why)) from None
         self.waiting.clear()
-        self.number, self.open, self.is_away = 0, False, False
+        self.is_away = False
         self.door.begin(self.following.begun.log, secrets.token_hex(16))
-        self.say(self.following, self.following.first())
+        self.first(self.following)
         rows = sum(it.rows.total() for it in self.following.begun.mirror.tables.values())
         log(f"began with {rows:,} rows at {lsn_text(self.following.source.place.end)}")
         for name, fault in self.following.state.left_out():
             log(f"{name} is left out: {fault}")
         self.serve()
+
+    def first(self, following: Following) -> None:
+        """The beginning, in as many steps as it needs: nobody is let in before the last, which alone says where it is from."""
+        lines, size = list[bytes](), 0
+        for it in following.first():
+            lines.append(line({"as": "admin"} | it))
+            size += len(lines[-1])
+            if len(lines) == LINES or size > BYTES:
+                self.tell(lines)
+                lines, size = [], 0
+        self.say(following, lines)
 
     def step(self, following: Following) -> None:
         self.keep(following)
@@ -130,16 +152,23 @@ class Follow:
             return
         steps = following.begun.steps
         known = steps.told
-        steps.late = lambda: self.about(following)
-        if requests := following.next(WAIT):
-            self.say(following, requests)
+        steps.late = lambda: self.late(following)
+        if found := following.next(WAIT):
+            lines = [line({"as": "admin"} | it) for it in found]
+            if len(lines) > LINES or sum(map(len, lines)) > BYTES:
+                raise Anew(f"a transaction of {len(lines):,} requests is more than a step may have")
+            self.say(following, lines)
         if known is None and steps.told:  # what was told before it was of another moment
             self.serve()
-        self.about(following)
+        self.late(following)
 
-    def say(self, following: Following, requests: Iterable[Request]) -> None:
+    def tell(self, lines: list[bytes]) -> None:
         self.number += 1
-        self.door.step(self.number, requests)
+        self.door.step(self.number - 1, self.number, lines)
+        self.door.flush()
+
+    def say(self, following: Following, lines: list[bytes]) -> None:
+        self.tell(lines)
         self.waiting.append(Said(self.number, following.source.place, following.begun.steps.certain))
 
     def keep(self, following: Following) -> None:
@@ -155,19 +184,23 @@ class Follow:
     def serve(self) -> None:
         if not self.open:
             self.open = True
-            self.door.open()
+            self.door.open(True)
 
     def shut(self, why: str) -> None:
         log(why)
         if self.open:
             self.open = False
-            self.door.shut(why[:LONG])
+            self.door.open(False)
 
     def anew(self, why: str) -> None:
+        """By another gateway: this one goes on from what it holds, or not at all. Raises Kept."""
         self.shut(f"begins anew: {why}")
         if self.following:
             self.following.close()
         self.following, self.is_away = None, False
+        if self.held.log or self.number:
+            self.gateway.anew()
+            self.meet()
 
     def away(self, why: str) -> None:
         """Who may see what is not known until PostgreSQL is back."""
@@ -182,18 +215,15 @@ class Follow:
         self.is_away = False
         log("PostgreSQL is back")
 
-    def about(self, following: Following) -> None:
-        """What the gateway tells of the log."""
+    def late(self, following: Following) -> None:
+        """Says by how much the gateway is behind, while it is for long."""
         self.keep(following)
         steps, now = following.begun.steps, time.monotonic()
         if not self.waiting:
             self.certain = steps.certain
-        late = max(0, steps.last - self.certain)
-        if not late:
+        left = max(0, steps.last - self.certain)
+        if not left:
             self.level = now
-        if now - self.told[0] > TELL:
-            left = {name: why[:LONG] for name, why in islice(following.state.left_out(), MANY)}
-            one = {"place": lsn_text(self.certain), "lag_bytes": late, "lag_seconds": round(now - self.level, 1), "left_out": left}
-            if one != self.told[1]:
-                self.door.about(one)
-            self.told = now, one
+        elif now - max(self.level, self.told) > WORD:
+            self.told = now
+            log(f"{left:,} bytes behind, for {now - self.level:.0f} seconds")

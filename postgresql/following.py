@@ -70,8 +70,8 @@ class Following:
         return self
 
     def first(self) -> Iterator[Request]:
-        """Those that bring an empty viewd to the beginning. They are read from the mirror: all of them before the first step."""
-        for part in ((FORM,), rows.writes(changes(None, self.source)), self.state.requests()):
+        """Those that bring an empty viewd to the beginning, at last where that is. They are read from the mirror: all of them before the first step."""
+        for part in ((FORM,), self.state.requests(), rows.writes(changes(None, self.source))):
             for it in part:
                 self.told.add(it)
                 yield it

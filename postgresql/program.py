@@ -7,15 +7,18 @@ import sys
 
 import psycopg2
 
+sys.path.append(str(pathlib.Path(__file__).resolve().parent.parent / "frontend"))
+
+import door
 import prepare
 from beginning import NotReady
 from catalog import Unsettled, connect
-from door import Door, Ended
+from door import Ended, Kept
 from follow import Follow
 from settings import Settings, Wrong, read
 from state import State, Unsayable, line, state
 
-GOOD, LEFT_OUT, WRONG, UNREACHED, LEFT, INTERRUPTED = 0, 1, 2, 3, 4, 130  # exit statuses
+GOOD, LEFT_OUT, WRONG, UNREACHED, LEFT, KEPT, INTERRUPTED = 0, 1, 2, 3, 4, 5, 130  # exit statuses
 BEGIN = {"do": "begin", "role": "admin"}
 ROWS, LEAST, MOST = 65_536, 1_024, 1_048_576
 EPILOG = """examples:
@@ -25,12 +28,12 @@ EPILOG = """examples:
       writes a configuration with all relations that it could have
   viewd-postgresql show "host=127.0.0.1 dbname=desk user=viewd" viewd.toml | ./viewd replay
       tells a viewd all of it, as it is now
-  viewd-postgresql follow "host=127.0.0.1 dbname=desk user=viewd" viewd.toml
-      brings a gateway one state of it after another: docs/LOG.md has the lines on standard input and output
+  viewd-postgresql follow "host=127.0.0.1 dbname=desk user=viewd" viewd.toml -- ./gateway --journal desk.jsonl --tokens tokens.toml
+      starts a gateway, and brings it one state of the database after another
 
 exit status: 0 if all is well; 1 if something is left out or missing (its words are on standard output, or for show and init
 on standard error); 2 if the words or the configuration are wrong; 3 if PostgreSQL cannot be reached or refuses; 4 if follow's
-gateway has ended.
+gateway has ended, 5 if it needs a new journal.
 
 docs/POSTGRESQL.md says what becomes what, and what is refused.
 """
@@ -48,9 +51,17 @@ def arguments(words: list[str]) -> argparse.Namespace:
         one.add_argument("config", metavar="CONFIG", nargs="?", type=pathlib.Path, help=file)
         if name == "follow":  # the gateway says how many rows it can hold
             one.set_defaults(rows=ROWS)
+            one.add_argument("--port", type=int, help="where a gateway listens for this side; without it, and without words of a gateway behind --, "
+                                                      "the gateway is at standard input and output")
+            one.add_argument("--secret-file", type=pathlib.Path, help="the file that it has, too")
             continue
         one.add_argument("--rows", type=int, default=ROWS, help=f"different rows of a table, as for viewd: {LEAST:,} to {MOST:,}, {ROWS:,} if left out")
-    given = parser.parse_args(words)
+    count = words.index("--") if "--" in words else len(words)
+    given = parser.parse_args(words[:count])
+    given.gateway = words[count + 1:]
+    follows = given.command == "follow"
+    if given.gateway and (not follows or given.port) or follows and bool(given.port) != bool(given.secret_file):
+        parser.error("follow has a gateway behind --, or --port and --secret-file")
     if not LEAST <= given.rows <= MOST:
         parser.error(f"--rows is {LEAST:,} to {MOST:,}")
     return given
@@ -82,10 +93,21 @@ def init(found: State, settings: Settings, path: pathlib.Path | None) -> int:
     return LEFT_OUT if left else GOOD
 
 
+def follow(settings: Settings, given: argparse.Namespace) -> None:
+    try:
+        gateway = door.gateway(given.gateway, given.port, given.secret_file)
+    except OSError as why:
+        raise Ended(f"no gateway: {why}") from None
+    try:
+        Follow(settings, gateway).run()
+    finally:
+        gateway.close()
+
+
 def run(given: argparse.Namespace) -> int:
     settings = read(given.config, given.dsn) if given.config and given.command != "init" else Settings(given.dsn)
     if given.command == "follow":
-        Follow(settings, Door(os.fdopen(os.dup(0), "rb"), sys.stdout.buffer)).run()  # of sys.stdin's own lock Python would abort at the end
+        follow(settings, given)
     connection = connect(settings.dsn)
     try:
         found = state(connection, settings, given.rows)
@@ -117,6 +139,9 @@ def main(words: list[str]) -> int:
     except Ended as why:
         complain(str(why))
         return LEFT
+    except Kept as why:
+        complain(str(why))
+        return KEPT
     except (psycopg2.Error, Unsettled, NotReady) as why:
         complain(f"PostgreSQL: {' '.join(str(why).split())}")
         return UNREACHED

@@ -282,6 +282,9 @@ class Gateway:
         fresh.write_text(text)
         fresh.rename(self.tokens)
 
+    def command(self) -> list[Any]:
+        return [PROGRAM, "--journal", self.journal, "--tokens", self.tokens, "--port", str(self.port), *self.words]
+
     def launch(self, most: int | None = None, memory: int | None = None, files: int | None = None) -> subprocess.Popen[bytes]:
         """Starts it. It makes no file longer than so many bytes, has no more memory than so many, and no more files open than so many."""
         def limit() -> None:
@@ -291,8 +294,7 @@ class Gateway:
                     resource.setrlimit(kind, (size, size))
         self.logs.append(self.folder / f"log.{len(self.logs)}")
         with self.logs[-1].open("wb") as log:
-            self.started = subprocess.Popen([PROGRAM, "--journal", self.journal, "--tokens", self.tokens, "--port", str(self.port), *self.words],
-                                            stdin=subprocess.DEVNULL, stderr=log, preexec_fn=None if most is memory is files is None else limit)
+            self.started = subprocess.Popen(self.command(), stdin=subprocess.DEVNULL, stderr=log, preexec_fn=None if most is memory is files is None else limit)
         return self.process
 
     def start(self, most: int | None = None, memory: int | None = None) -> None:

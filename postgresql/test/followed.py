@@ -76,11 +76,9 @@ class Followed(Base):
         line = self.keeper.hear(seconds)
         if line is None:
             if self.keeper.ends:
-                self.statuses[self.keeper.close()] += 1
-                self.keeper = None
-                self.gateway.is_open = False
+                self.end()
             return False
-        beginnings = self.gateway.beginnings
+        begins = "begin" in line
         try:
             for answer in self.gateway.hear(line):
                 self.keeper.say(answer)
@@ -89,10 +87,22 @@ class Followed(Base):
             return False
         except Fault as why:
             raise AssertionError(f"{why}\n{self.told()}") from None
-        self.beginnings += self.gateway.beginnings - beginnings
-        counts["beginnings"] += self.gateway.beginnings - beginnings
+        self.beginnings += begins
+        counts["beginnings"] += begins
         counts["steps"] += "step" in line
         return "step" in line
+
+    def end(self) -> None:
+        """The program has ended. What it cannot go on from is put aside."""
+        assert self.keeper and self.gateway
+        status = self.keeper.close()
+        self.statuses[status] += 1
+        self.keeper = None
+        self.gateway.is_open = self.gateway.goes_on = False
+        if status == 5:
+            self.gateway.close()
+            self.gateway.path.rename(self.room / "journal.before")
+            self.gateway = None
 
     def kill(self, is_heard: bool) -> None:
         """The program. What it had said by then the gateway hears, or not."""
@@ -109,7 +119,7 @@ class Followed(Base):
             self.gateway.close()
             self.gateway = None
         if self.gateway:
-            self.gateway.is_open, self.gateway.entries = False, []
+            self.gateway.is_open, self.gateway.goes_on, self.gateway.entries = False, False, []
 
     def gateway_dies(self) -> None:
         assert self.gateway and self.keeper

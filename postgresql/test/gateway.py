@@ -22,11 +22,9 @@ class Gateway:
         self.path, self.rows = folder / "journal", rows
         self.dies_after = -1  # bytes that it writes until then
         self.log = self.epoch = ""
-        self.position = self.beginnings = self.asks_so_far = 0
-        self.is_open, self.begins, self.asks = False, False, False
+        self.position = 0
+        self.is_open = self.goes_on = False
         self.entries: list[Line] = []  # of the step that is not whole
-        self.asked: dict[int, str] = {}
-        self.about: Line = {}
         self.live = Live(rows)
         self.restore()
 
@@ -35,11 +33,13 @@ class Gateway:
         if not self.path.exists():
             return
         texts = self.path.read_bytes().split(b"\n")[:-1]
-        while not texts[-1].startswith(b'{"step":'):
+        while len(texts) > 1 and not texts[-1].startswith(b'{"from":'):
             texts.pop()
         os.truncate(self.path, sum(len(it) + 1 for it in texts))
+        if not texts:
+            return
         head, *lines = map(json.loads, texts)
-        self.log, self.epoch = head["log"], head["epoch"]
+        self.log, self.epoch = head["begin"], head["epoch"]
         for it in lines:
             if "step" in it:
                 self.position = it["step"]
@@ -47,7 +47,7 @@ class Gateway:
                 self.carry_out(it)
 
     def carry_out(self, it: Line) -> Line:
-        request = {key: value for key, value in it.items() if key not in ("as", "ask")}
+        request = {key: value for key, value in it.items() if key != "as"}
         session = 1 if it["as"] == "admin" else self.live.session(it["as"])
         return self.live.told(request | {"session": session})
 
@@ -57,73 +57,51 @@ class Gateway:
     def hear(self, it: Line) -> list[Line]:
         """What it answers. Raises Died, Fault."""
         match it:
-            case {"begin": log, "epoch": epoch, "asks": asks}:
-                self.live.close()
-                self.live = Live(self.rows)
-                self.log, self.epoch, self.asks, self.position = log, epoch, asks, 0
-                self.begins, self.is_open, self.entries = True, False, []
-                self.beginnings += 1
+            case {"begin": log, "epoch": epoch}:
+                if self.log:
+                    raise Fault(f"the log {self.log} of epoch {self.epoch} is followed here: another one needs a new journal file")
+                self.write([it])
+                self.log, self.epoch, self.goes_on = log, epoch, True
                 return [{"on_disk": 0}]
-            case {"go_on": log, "epoch": epoch, "asks": asks}:
+            case {"go_on": log, "epoch": epoch}:
                 if (log, epoch) != (self.log, self.epoch):
-                    raise Fault(f"{log} {epoch} is to go on, and {self.log} {self.epoch} is here")
-                self.asks = asks
-            case {"recall": True}:
+                    raise Fault(f"the log {self.log} of epoch {self.epoch} is followed here: another one needs a new journal file")
+                self.goes_on = True
+            case {"recall": True} if self.log and not self.goes_on:
                 lines = [json.loads(line) for line in self.path.read_bytes().splitlines()[1:]]
                 return [*(line for line in lines if "step" not in line), {"recalled": self.position}]
-            case {"as": _}:
+            case {"as": _} if self.goes_on:
                 self.entries.append(it)
-            case {"step": number, "entries": count}:
-                return self.step(it.get("from", number - 1), number, count)
-            case {"open": True}:
-                self.is_open = True
-            case {"open": False, "why": _}:
-                self.is_open = False
-            case {"about": about}:
-                self.about = about
-            case {"refused": ask}:
-                del self.asked[ask]
+            case {"from": start, "step": number} if self.goes_on:
+                return self.step(start, number)
+            case {"open": bool(is_open)} if self.goes_on:
+                self.is_open = is_open
             case _:
                 raise Fault(f"it says {it}")
         return []
 
-    def step(self, start: int, number: int, count: int) -> list[Line]:
+    def step(self, start: int, number: int) -> list[Line]:
         entries, self.entries = self.entries, []
-        if len(entries) != count:
-            raise Fault(f"step {number} has {len(entries)} entries, and says {count}")
         if number > self.position:
             if start != self.position:
                 raise Fault(f"step {number} is from {start}, and the position is {self.position}")
-            self.write(number, [{key: value for key, value in it.items() if key != "ask"} for it in entries])
+            self.write([*entries, {"from": start, "step": number}])
             for place, it in enumerate(entries, 1):
                 answer = self.carry_out(it)
                 if "ok" not in answer:
-                    raise Fault(f"entry {place} of step {number} is refused: {answer}: {str(it)[:500]}")
-                self.asked.pop(it.get("ask", 0), None)
+                    raise Fault(f"entry {place} of step {number} is refused by {answer.get('error')}: {str(it)[:500]}")
             self.live.settle()
             self.position = number
         return [{"on_disk": self.position}]
 
-    def write(self, number: int, entries: list[Line]) -> None:
-        text = b"".join(json.dumps(it, ensure_ascii=False, separators=(",", ":")).encode() + b"\n" for it in [*entries, {"step": number, "entries": len(entries)}])
-        if self.begins:
-            text = json.dumps({"log": self.log, "epoch": self.epoch}).encode() + b"\n" + text
-        path = self.path.with_suffix(".new") if self.begins else self.path
-        with path.open("wb" if self.begins else "ab") as file:
+    def write(self, lines: list[Line]) -> None:
+        text = b"".join(json.dumps(it, ensure_ascii=False, separators=(",", ":")).encode() + b"\n" for it in lines)
+        with self.path.open("ab") as file:
             if 0 <= self.dies_after < len(text):
                 file.write(text[:self.dies_after])
                 raise Died
             self.dies_after -= len(text) if self.dies_after >= 0 else 0
             file.write(text)
-        if self.begins:
-            path.rename(self.path)
-        self.begins = False
-
-    def ask(self, role: str, request: Line) -> Line:
-        """What the keeper is asked for a client."""
-        self.asks_so_far += 1
-        self.asked[self.asks_so_far] = role
-        return {"ask": self.asks_so_far, "as": role, "request": request}
 
     def close(self) -> None:
         self.live.close()

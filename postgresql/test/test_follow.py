@@ -35,7 +35,7 @@ class Histories(Followed):
         for it in writers:
             counts["transactions"] += it.counts["transactions"]
             it.connection.close()
-        self.assertLessEqual(set(self.statuses), {0, 3, 4, -9}, self.told())
+        self.assertLessEqual(set(self.statuses), {0, 3, 4, 5, -9}, self.told())
 
     def misfortune(self, r: random.Random, rounds: int) -> None:
         """Now and then; once a round at most what takes long."""

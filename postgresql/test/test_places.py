@@ -174,20 +174,15 @@ class Places(Followed):
         self.assertIs(self.keeper.process, process, self.told())
 
     def test_a_large_transaction(self) -> None:
-        """It is one step, whatever its size, and what it is late by is told."""
+        """It is one step, whatever its size."""
         self.settle()
         assert self.gateway
         self.desk.do("begin", "grant select on tickets to eve; create policy all_of_eve on tickets to eve using (true)", "insert into tickets select g, 'mia', g::text, true, g from generate_series(1, 30000) g", "commit")
         self.settle()
         self.compare(("mia", "eve", "noah"))
-        steps = self.journal().split(b'{"step":')
+        steps = self.journal().split(b',"step":')
         self.assertEqual(sum(b'"insert":[29999,' in it for it in steps), 1)
         self.assertEqual(sum(b'"on":"tickets"' in it for it in steps), 2, "the first copy and one more")
-        end = time.monotonic() + PATIENCE
-        while self.gateway.about.get("lag_bytes") != 0:
-            self.assertLess(time.monotonic(), end)
-            self.turn(0.2)
-        self.assertEqual(set(self.gateway.about), {"place", "lag_bytes", "lag_seconds", "left_out"})
 
     def test_the_servers_log_is_let_go(self) -> None:
         """Also what others write, of which nothing is followed."""
@@ -230,4 +225,4 @@ class Places(Followed):
             self.assertLess(time.monotonic(), end, self.told())
             self.turn()
         self.assertIn("give it another journal", self.told())
-        self.assertTrue(self.journal().startswith(b'{"log": "postgresql 1/'))
+        self.assertTrue(self.journal().startswith(b'{"begin":"postgresql 1/'))

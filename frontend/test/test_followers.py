@@ -1,0 +1,244 @@
+#!/usr/bin/python3
+"""Gateways that follow the journal of another one, by what docs/PROTOCOL.md says alone: what is told there, while leader, followers and keepers are killed.
+
+GATEWAY and VIEWD name other programs than those that are built, and FOLLOWER the program of those that follow."""
+import contextlib
+import json
+import subprocess
+import threading
+import time
+from collections.abc import Iterator
+
+import pytest
+
+from followers import FOLLOWER, GUARDED, KEEPER, ROLES, TOGGLES, Chronicle, Follower, Reader, caught_up, comes, has_door, shown
+from names import HOLDERS, WRITERS, Row, Trials, Writer, by_name, rows, token_line
+from test_journal import compacted, needs_viewd
+from trial import BASE, comes_in, insert, serving, until
+from wire import PATIENCE, Ended, Gateway, Line, Wire
+
+pytestmark = pytest.mark.skipif(not has_door(), reason=f"{FOLLOWER} has no door for logs")
+
+
+@contextlib.contextmanager
+def led(*by_port: bool) -> Iterator[tuple[Gateway, Wire, list[Follower]]]:
+    """A gateway whose journal others follow."""
+    with serving(BASE + GUARDED, words=("--rows", "1048576")) as (gate, admin):
+        gate.know(*("admin", *ROLES), lines=tuple(token_line(*it) for it in HOLDERS.items()))
+        until(lambda: all(gate.knock(it).role == "mia" for it in HOLDERS), "a token with a holder opens nothing")
+        followers = [Follower(gate, it) for it in by_port]
+        threads = [threading.Thread(target=it.keep, daemon=True) for it in followers]
+        for one in threads:
+            one.start()
+        for it in followers:
+            comes(it)
+        yield gate, admin, followers
+        for it in followers:
+            it.is_ended = True
+        for one in threads:
+            one.join()
+        for it in followers:
+            it.end()
+
+
+def equal(gate: Gateway, followers: list[Follower]) -> None:
+    """Waits until they show what their leader does."""
+    aim = shown(gate)
+    for it in followers:
+        until(lambda it=it: caught_up(it, aim), f"a follower shows something else: {it.said()[-2000:]}")
+
+
+def test_a_follower_shows_what_its_leader_does() -> None:
+    with led(False, True) as (gate, admin, followers):
+        writer, readers = gate.enter("ann"), [(it, it.enter(role)) for it in followers for role in ROLES]
+        for _, wire in readers:
+            assert json.loads(wire.ask({"do": "subscribe", "on": "notes"})[0])["sub"] == 1
+        writer.ask(insert(1, "mia"))
+        for _, wire in readers:
+            assert wire.event() == ['{"changes":[[1,[1,"mia"]]],"sub":1}']
+        writer.ask({"do": "write", "entries": [{"on": "notes", "insert": [2, "ann"]}, {"on": "notes", "delete": [1, "mia"]}, {"on": "notes", "insert": [1, "mia"]}]})
+        for it, wire in readers:
+            if wire.role != "mia":
+                assert wire.event() == ['{"changes":[[1,[2,"ann"]]],"sub":1}']
+        admin.ask(TOGGLES[0])
+        admin.ask(TOGGLES[2])
+        for it, wire in readers:
+            if wire.role == "bob":
+                assert wire.event() == ['{"changes":[[-1,[1,"mia"]],[-1,[2,"ann"]]],"ended":"privilege","on":"notes","sub":1}']
+                assert wire.event() == ['{"granted":"notes"}']
+        equal(gate, followers)
+
+
+def test_who_follows_decides_nothing() -> None:
+    with led(False) as (gate, _, (follower,)):
+        mia = follower.enter("mia")
+        assert mia.ask({"id": 1, **insert(1, "mia")}) == ['{"error":100,"id":1}']
+        assert mia.ask(by_name(mia.place, insert(1, "mia"), id=2)) == ['{"id":2,"undecided":100}']
+        assert follower.enter("admin").ask({"do": "create_role", "name": "zoe"}) == ['{"error":100}']
+        assert json.loads(mia.ask({"do": "subscribe", "on": "notes"})[0])["ok"] and rows(gate) == {}
+
+
+def test_a_name_is_known_where_it_is_followed() -> None:
+    """Who has lost the answer at the leader is told it by a follower, and no other request by that name."""
+    if FOLLOWER.suffix:
+        pytest.skip("a stand-in keeps no names")
+    with led(False) as (gate, _, (follower,)):
+        wire = gate.enter("mia")
+        said, refused = by_name(wire.place, insert(1, "mia")), by_name(wire.place, {"do": "write", "entries": [{"on": "notes", "delete": [-1, "mia"]}]})
+        first, second = [json.loads(wire.ask(it)[0]) for it in (said, refused)]
+        equal(gate, [follower])
+        reader = follower.enter("mia")
+        assert [json.loads(reader.ask(it)[0]) for it in (said, refused)] == [{**it, "again": True, "at": second["at"]} for it in (first, second)]
+
+
+def test_nobody_is_let_in_without_its_keeper() -> None:
+    with led(True) as (gate, _, (follower,)):
+        reader = follower.enter("ann")
+        follower.is_ended = True  # nothing is started again
+        time.sleep(0.1)
+        assert follower.strike("keeper") and reader.end() == 1013
+        assert not comes_in(follower, "ann")
+        gate.enter("ann").ask(insert(1, "ann"))
+        threading.Thread(target=Follower.mend, args=(follower,)).start()
+        comes(follower)
+        equal(gate, [follower])
+
+
+@needs_viewd
+def test_a_compacted_journal_is_told() -> None:
+    """A gateway that has followed another journal does not go on with this one."""
+    with led(False, True) as (gate, _, followers):
+        gate.enter("ann").ask(insert(1, "ann"))
+        equal(gate, followers)
+        gate.kill()
+        assert compacted(gate, "--rows", "1048576").returncode == 0
+        until(lambda: all(it.statuses["keeper 5"] for it in followers), "a keeper follows a compacted journal")
+        gate.start()
+        equal(gate, followers)
+        assert all("it was compacted" in it.said() for it in followers)
+        gate.kill()
+        before = [it.begins for it in followers]
+        for it in followers:
+            it.strike("keeper")
+            comes(it)
+        gate.start()
+        equal(gate, followers)
+        assert before == [it.begins for it in followers], "a start needs no new journal"
+
+
+def test_what_is_no_journal_is_not_followed() -> None:
+    """Status and words of a keeper."""
+    with led() as (gate, _, _):
+        follower = Follower(gate, False)
+        good = gate.journal.read_bytes()
+        lines = good.split(b"\n")[:-1]
+        for data, status, words in ((None, 1, "No such file"), (b"", 1, "no first line"), (b'{"as":"admin","do":"create_role","name":"a"}\n', 1, "line 1, at byte 0"),
+                                    (good[:len(lines[0]) + 100] + b"x" + good[len(lines[0]) + 101:], 1, f"line 2, at byte {len(lines[0]) + 1}, is not what was written"),
+                                    (b"\n".join([*lines[:3], *lines[4:], b""]), 1, "line 4"), (b"\n".join([*lines[:3], lines[3], lines[3], *lines[4:], b""]), 1, "line 5")):
+            follower.leader = Gateway(start=False)
+            if data is not None:
+                follower.leader.journal.write_bytes(data)
+            follower.launch()
+            assert follower.process.wait(PATIENCE) == status, follower.said()
+            assert words in follower.logs[-1].read_text(), (words, follower.logs[-1].read_text())
+            follower.leader.end()
+        for words in ([], [gate.journal], [gate.journal, "--port", "1"], [gate.journal, "--secret-file", gate.tokens], [gate.journal, "--port", "1", "--", "x"]):
+            assert subprocess.run([KEEPER, *words], capture_output=True).returncode == 2, words
+        follower.end()
+
+
+class Pair(Writer):
+    """Each of its requests inserts two rows."""
+
+    def request(self, row: Row) -> Line:
+        request = insert(*row)
+        request["entries"] += insert(row[0], "mia")["entries"]
+        return request
+
+    def hear(self, wire: Wire, row: Row, reply: Line, asked: list[Row]) -> None:
+        super().hear(wire, row, reply, asked)
+        time.sleep(0.002)
+
+
+class Followed(Trials):
+    """The same with those that follow: leader, followers and their keepers are killed in turn."""
+
+    def __init__(self, gate: Gateway, followers: list[Follower], readers: list[Reader], kills: int):
+        super().__init__(gate, [Pair(gate, *it) for it in WRITERS], kills // 3)
+        self.followers, self.readers, self.strikes = followers, readers, kills - kills // 3
+        self.chronicle = Chronicle(gate)
+
+    def kill(self, at: int) -> None:
+        super().kill(at)
+        for _ in range(self.strikes * (at + 1) // self.kills - self.strikes * at // self.kills):
+            self.strike(self.dice.choice(self.followers), self.dice.choice(("keeper", "gateway")))
+
+    def strike(self, follower: Follower, part: str) -> None:
+        mine = [it for it in self.readers if it.gate is follower]
+        before = sum(it.told for it in mine)
+        self.wait(lambda: sum(it.told for it in mine) > before, f"nobody is told anything at a follower: {follower.said()[-1000:]}")
+        time.sleep(self.dice.uniform(0, 0.3))
+        self.counts[part] += follower.strike(part)
+
+    def wait(self, holds, what: str) -> None:  # type: ignore[no-untyped-def]
+        super().wait(lambda: any(it.fault for it in self.readers) or holds(), what)
+
+    def compact(self, *words: str) -> None:
+        if not words:
+            self.chronicle.read()
+        super().compact(*words)
+        if not words:
+            self.chronicle.compacted()
+
+    def restore(self) -> None:
+        self.chronicle.read()
+        super().restore()
+        self.chronicle.restored()
+
+
+def toggle(gate: Gateway, stop: threading.Event) -> None:
+    """Gives and takes rights at the leader."""
+    at = 0
+    while not stop.is_set():
+        with contextlib.suppress(Ended, OSError):
+            admin = gate.enter("admin")
+            while not stop.is_set():
+                admin.ask(TOGGLES[at % len(TOGGLES)])
+                at += 1
+                stop.wait(0.05)
+        stop.wait(0.05)
+
+
+def test_kills_of_all_parts_show_no_state_that_was_not(kills: int) -> None:
+    """Each request of the writers at the leader is done exactly once or told undecided; what each reader at each follower is told adds up, at each `settled`, to
+    what its role sees of the leader after one of its records, never to one before that; and at the end rows, rights and shape are the leader's."""
+    with led(False, True) as (gate, _, followers):
+        readers = [Reader(it, role) for it in followers for role in ROLES]
+        trials, stop = Followed(gate, followers, readers, kills), threading.Event()
+        threads = [threading.Thread(target=it.run, args=(stop,), daemon=True) for it in readers] + [threading.Thread(target=toggle, args=(gate, stop), daemon=True)]
+        for one in threads:
+            one.start()
+        try:
+            trials.run()
+            time.sleep(0.2)
+        finally:
+            stop.set()
+            for it in readers:
+                it.leave()
+        threads[-1].join()
+        equal(gate, followers)
+        until(lambda: not any(it.is_alive() for it in threads) or [it.leave() for it in readers] and False, "a reader stays")
+        assert not [it.fault for it in readers if it.fault], [it.fault for it in readers]
+        trials.chronicle.read()
+        there = rows(gate)
+        trials.account({row: copies for row, copies in there.items() if row[1] == "ann"})
+        assert {row[0] for row in there if row[1] == "mia"} == {row[0] for row in there if row[1] == "ann"}
+        wrong = [it for reader in readers for it in trials.chronicle.wrong(reader)]
+        events = sum(len(it) for reader in readers for it in reader.seen)
+        print(f"  {trials.counts['gateway']} kills of followers and {trials.counts['keeper']} of keepers, {sum(it.begins for it in followers)} new beginnings: {events} settled events of "
+              f"{sum(len(it.seen) for it in readers)} connections of {len(readers)} readers, {len(trials.chronicle.states['ann'])} states, {len(wrong)} wrong", flush=True)
+        assert not wrong, wrong[:10]
+        assert all(it.told for it in readers) and events > kills
+        assert all(it.refusals for it in readers if it.role == "bob") or kills < 10
+        for it in followers:
+            assert {status.split()[1] for status in it.statuses} <= {"-9", "0", "4", "5"}, (it.statuses, it.said()[-1000:])
