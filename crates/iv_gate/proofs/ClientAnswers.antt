@@ -16,7 +16,7 @@ use Rattle.iv_message.specs.Told.{Told, welcome, replied, opened, settled, place
 use Rattle.iv_clients.specs.Bounds.{most_subs}
 use Rattle.iv_clients.specs.Clients.{Client, Sub, answered, at_client, client_at, closing, followed_by, fresh, may_say, saying, told, told_one}
 use Rattle.iv_clients.specs.Feeds.{Feed, feed_for, room_for}
-use Rattle.iv_clients.specs.Journal.{Entry, said_by, shape_for, Request, claim_said}
+use Rattle.iv_records.specs.Journal.{Entry, said_by, shape_for, Request, claim_said}
 use Rattle.iv_clients.proofs.Slots.{client_at-at_client, same-Some, not_None-Some}
 use Rattle.iv_gate.specs.Events.{Event, presented, message, gone, known, ticked, synced, handed, failed, happens, next, arrived, forgave}
 use Rattle.iv_gate.specs.Gate.{Gate, begun_for, closes, done_for, hears, seated, settles, swept, tells, asked_by, at_text, decided_elsewhere, entered, entries_of, may_have, names_of, reply_told}
@@ -29,7 +29,7 @@ use Rattle.iv_gate.proofs.OwnReplies.{Answer, Behind, IsClosing, act_reply, aske
 use Rattle.iv_gate.proofs.EventMarks.{next-alive as is_alive, is_gone, next-dead, AreTouched-next}
 use Rattle.iv_gate.proofs.ShapeTexts.{all_made, filter-all_false, told-fresh, cond-either}
 use Rattle.iv_once.specs.Names.{Ask, Verdict, verdict, carry, again, another, late, foreign, ahead, over}
-use Rattle.iv_clients.specs.Names.{Claim}
+use Rattle.iv_records.specs.Names.{Claim}
 use Rattle.iv_clients.specs.Tokens.{Token}
 use Rattle.iv_gate.proofs.StepRelations.{request_of}
 

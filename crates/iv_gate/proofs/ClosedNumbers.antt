@@ -7,7 +7,7 @@ use Rattle.iv_machine.specs.Act.{done, refused, unknown_subscription, unsubscrib
 use Rattle.iv_message.specs.Message.{Message, request, unknown}
 use Rattle.iv_message.specs.Told.{Told, replied, unasked}
 use Rattle.iv_clients.specs.Clients.{Client, fresh, told, followed_by}
-use Rattle.iv_clients.specs.Journal.{Entry, said_by, claim_said}
+use Rattle.iv_records.specs.Journal.{Entry, said_by, claim_said}
 use Rattle.iv_clients.proofs.Slots.{not_None-Some}
 use Rattle.iv_gate.specs.Gate.{Gate, may_have}
 use Rattle.iv_gate.specs.Replies.{IsAnswered, is_opened, replies}

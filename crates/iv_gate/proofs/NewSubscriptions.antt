@@ -19,7 +19,7 @@ use Rattle.iv_message.specs.Message.{request}
 use Rattle.iv_message.specs.Told.{replied, opened}
 use Rattle.iv_clients.specs.Clients.{Client, Sub, at_client, client_at, following, told, told_one}
 use Rattle.iv_clients.specs.Feeds.{Feed, ends_in, feed_of}
-use Rattle.iv_clients.specs.Journal.{said_by}
+use Rattle.iv_records.specs.Journal.{said_by}
 use Rattle.iv_clients.proofs.Slots.{same-Some, not_None-Some}
 use Rattle.iv_gate.specs.Gate.{Gate, columns_in, feed_begun, in_session, next_own, ran, reply_in, subscribes, tells}
 use Rattle.iv_gate.specs.Replies.{ActsAs, replies}

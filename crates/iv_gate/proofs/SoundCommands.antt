@@ -22,7 +22,7 @@ use Rattle.iv_message.specs.Message.{request}
 use Rattle.iv_message.specs.Told.{Told, changed, opened, over, granted}
 use Rattle.iv_clients.specs.Clients.{Client, Shown, Sub, all_shown, client_at, own_line, own_lines, staying, telling, told, told_one}
 use Rattle.iv_clients.specs.Feeds.{Feed, ends_in, feed_of, feeds_left, is_end, rel_read}
-use Rattle.iv_clients.specs.Journal.{Entry, said_by}
+use Rattle.iv_records.specs.Journal.{Entry, said_by}
 use Rattle.iv_clients.proofs.Slots.{IsFrom, client_at-at_all, IsFrom-option_map}
 use Rattle.iv_steps.specs.Laws.{StepsAreTold}
 use Rattle.iv_gate.specs.Gate.{Gate, granted_by, is_accepted, ran, reply_in, went_on}

@@ -19,9 +19,9 @@ use Rattle.iv_once.specs.Views.{names_of as names_in_code, verdict_of}
 use Rattle.iv_once.specs.declared.asks.Verdict as code_once
 use Rattle.iv_clients.specs.Feeds.{seat_of}
 use Rattle.iv_clients.specs.Clients.{Client, Slots, answered, at_client, client_at, may_say, saying}
-use Rattle.iv_clients.specs.Journal.{Entry, Request, claim_said, is_shared, line_said, said_by}
+use Rattle.iv_records.specs.Journal.{Entry, Request, claim_said, is_shared, line_said, said_by}
 use Rattle.iv_clients.specs.Kept.{Kept, Places, answering, kept, kept_slots}
-use Rattle.iv_clients.specs.Names.{Claim}
+use Rattle.iv_records.specs.Names.{Claim}
 use Rattle.iv_clients.proofs.Slots.{client_at-at_client, same-Some}
 use Rattle.iv_gate.specs.Events.{message}
 use Rattle.iv_gate.specs.Gate.{Gate, acts, done_for, hears, in_session, is_heard, replies_to, reply_in, reply_to, said, shares}
@@ -29,10 +29,10 @@ use Rattle.iv_gate.specs.Gate.{asked_by, by_verdict, carries, decided_elsewhere,
 use Rattle.iv_gate.specs.Laws.{LeavesMarks}
 use Rattle.iv_gate.proofs.GrownTexts.{Grown, Kit-Grown}
 use Rattle.iv_gate.proofs.ClientFacts.{to_done, to_settles, to_then}
-use Rattle.iv_gateway.specs.Speaking.{Speaking, speaker_in, speaking}
+use Rattle.iv_arrivals.specs.Speaking.{Speaking, speaker_in, speaking}
 use Rattle.iv_gateway.specs.Views.{IsAlive, IsRun}
 use Rattle.iv_gateway.specs.declared.gateway.Gateway.{Gateway}
-use Rattle.iv_gateway.proofs.ClientChanges.{kept-answered, client_at-kept_slots}
+use Rattle.iv_notices.proofs.ClientChanges.{kept-answered, client_at-kept_slots}
 
 -- ---- one client
 
@@ -257,13 +257,13 @@ pub IsAlive-decided_elsewhere : (g : Gate) (m : ℕ) (id : Option Data) (q : Req
 IsAlive-decided_elsewhere g m id q name x h a = subst (λ b. IsAlive (cond b (tells g m (decided_elsewhere id name)) (carries g m id q name)) x) (sym h) a
 
 -- a verdict of the code is the gateway's
-pub verdict_of-IsAlive : (g : Gate) (a : Ask) (v w : code_once.Verdict) (x : Gateway) → v ≡ w → verdict_of v ≡ verdict (names_in_code x.names) a → IsAlive g x
-    → verdict_of w ≡ verdict (names_of g) a
-verdict_of-IsAlive g a v w x e h b = ap verdict_of (sym e) ∙ (h ∙ ap (λ n. verdict n a) b.names)
+pub verdict_of-IsAlive : (g : Gate) (a : Ask) (v : code_once.Verdict) (x : Gateway) → verdict_of v ≡ verdict (names_in_code x.names) a → IsAlive g x
+    → verdict_of v ≡ verdict (names_of g) a
+verdict_of-IsAlive g a v x h b = h ∙ ap (λ n. verdict n a) b.names
 
-pub IsAlive-by_verdict : (g : Gate) (m : ℕ) (id : Option Data) (q : Request) (a : Ask) (v : Verdict) (x : Gateway) → v ≡ verdict (names_of g) a
-    → IsAlive (by_verdict g m id q a v) x → IsAlive (by_verdict g m id q a (verdict (names_of g) a)) x
-IsAlive-by_verdict g m id q a v x e b = subst (λ z. IsAlive (by_verdict g m id q a z) x) e b
+pub IsAlive-by_verdict : (g : Gate) (m : ℕ) (id : Option Data) (q : Request) (a : Ask) (v w : Verdict) (x : Gateway) → v ≡ w → IsAlive (by_verdict g m id q a v) x
+    → IsAlive (by_verdict g m id q a w) x
+IsAlive-by_verdict g m id q a v w x e b = subst (λ z. IsAlive (by_verdict g m id q a z) x) e b
 
 -- with a name, and without
 pub IsAlive-shares_plain : (g : Gate) (m : ℕ) (c : Client) (id : Option Data) (q : Request) (claim : Option Claim) (x : Gateway) → claim ≡ None
