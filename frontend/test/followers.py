@@ -23,8 +23,8 @@ FOLLOWER = pathlib.Path(os.environ.get("FOLLOWER", PROGRAM)).resolve()  # the pr
 ROLES = ("ann", "bob", "mia")
 GUARDED: list[Line] = [  # of notes: ann owns it, bob sees all, mia her own rows
     {"do": "create_policy", "on": "notes", "name": "own", "command": "select", "using": "who = current_user"},
-    {"do": "create_policy", "on": "notes", "name": "all", "command": "select", "using": "true", "to": ["bob"]},
-    {"do": "create_policy", "on": "notes", "name": "any", "command": "insert", "check": "true"},
+    {"do": "create_policy", "on": "notes", "name": "every", "command": "select", "using": "true", "to": ["bob"]},
+    {"do": "create_policy", "on": "notes", "name": "puts", "command": "insert", "check": "true"},
     {"do": "row_security", "on": "notes", "enable": True, "force": False}]
 WIDE: Line = {"do": "create_policy", "on": "notes", "name": "wide", "command": "select", "using": "who = 'ann' or id < 10", "to": ["mia"]}
 TOGGLES: tuple[Line, ...] = (

@@ -144,6 +144,8 @@ class Writer:
 class Trials:
     """What becomes of a gateway under writers: it is killed, its journal is torn, compacted, and once that of before stands in its place; tokens are renewed."""
 
+    roles: tuple[str, ...] = ("admin", "ann")  # that have a token without a holder
+
     def __init__(self, gate: Gateway, writers: list[Writer], kills: int):
         self.gate, self.writers, self.kills, self.dice = gate, writers, kills, random.Random(6)
         self.kept = b""  # a copy of the journal
@@ -192,7 +194,7 @@ class Trials:
         self.counts["renewed"] += 1
         self.writers[2].token = f"mia 2 {self.counts['renewed']}"
         holders = {self.writers[0].token: "Mia", self.writers[2].token: "Mia", self.writers[3].token: "Ann"}
-        self.gate.know("admin", "ann", lines=tuple(token_line(*it) for it in holders.items()))
+        self.gate.know(*self.roles, lines=tuple(token_line(*it) for it in holders.items()))
         self.wait(lambda: self.writers[2].came == self.writers[2].token, "a renewed token opens nothing")
 
     def run(self) -> None:

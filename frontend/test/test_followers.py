@@ -157,11 +157,13 @@ class Pair(Writer):
 
     def hear(self, wire: Wire, row: Row, reply: Line, asked: list[Row]) -> None:
         super().hear(wire, row, reply, asked)
-        time.sleep(0.002)
+        time.sleep(0.03)  # those that follow are not to be far behind
 
 
 class Followed(Trials):
     """The same with those that follow: leader, followers and their keepers are killed in turn."""
+
+    roles = ("admin", *ROLES)
 
     def __init__(self, gate: Gateway, followers: list[Follower], readers: list[Reader], kills: int):
         super().__init__(gate, [Pair(gate, *it) for it in WRITERS], kills // 3)

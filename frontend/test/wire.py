@@ -94,6 +94,8 @@ class Wire:
             self.more()
         head, self.input = self.input.split(b"\r\n\r\n", 1)
         lines = head.split(b"\r\n")
+        if lines[0].startswith(b"HTTP/1.1 503"):  # a log lets nobody in
+            raise Ended(503)
         assert lines[0] == b"HTTP/1.1 101 Switching Protocols", head
         fields = {name.strip().lower(): value.strip() for name, _, value in (line.partition(b":") for line in lines[1:])}
         assert fields[b"sec-websocket-accept"] == base64.b64encode(hashlib.sha1(key + GUID).digest()), head
