@@ -43,10 +43,10 @@ class Leader:
         there = self.there()
         is_new = there != self.looked
         if is_new or there[0] > self.at and time.monotonic() > self.next:
-            self.looked, self.next = there, time.monotonic() + AGAIN
             if is_new:
                 os.fsync(self.file)
             yield from self.records()
+            self.looked, self.next = (0, 0) if self.odd else there, time.monotonic() + AGAIN  # (not where nobody asks for the rest)
 
     def there(self) -> tuple[int, int]:
         try:
@@ -82,7 +82,6 @@ class Leader:
         self.odd = self.odd or now
         if now - self.odd > SETTLED:
             raise Damaged(f"{self.path}: line {number}, at byte {at}, is not what was written")
-        self.looked = (0, 0)
 
     def read(self, said: list[bytes]) -> list[bytes]:
         if self.count == 0:

@@ -47,7 +47,7 @@ class Follower(Gateway):
         self.secret.write_text(secrets.token_hex(32))
         self.statuses = collections.Counter[str]()
         self.begins = 0
-        self.is_ended = False
+        self.is_ended = self.rests = False
 
     def command(self) -> list[Any]:
         words = [FOLLOWER, *super().command()[1:]]
@@ -79,9 +79,10 @@ class Follower(Gateway):
                 self.launch()
 
     def keep(self) -> None:
-        """Until it is ended."""
+        """Until it is ended, but for times of rest."""
         while not self.is_ended:
-            self.mend()
+            if not self.rests:
+                self.mend()
             time.sleep(0.01)
 
     def pids(self) -> dict[str, int]:
@@ -96,6 +97,12 @@ class Follower(Gateway):
         if self.keeper and self.keeper.poll() is None:
             found["keeper"] = self.keeper.pid
         return found
+
+    def rest(self) -> None:
+        """Its keeper is gone, and nothing is started."""
+        self.rests = True
+        time.sleep(0.1)
+        until(lambda: "keeper" not in self.pids() or self.strike("keeper") and False, "a keeper stays")
 
     def strike(self, part: str) -> bool:
         """Kills a part. Whether it was there."""
@@ -143,15 +150,16 @@ class Reader:
     def serve(self) -> None:
         wire = self.wire = self.gate.enter(self.role)
         self.seen.append([])
-        number, rows, total = 0, collections.Counter[Row](), 0
+        number, rows, total, is_asked = 0, collections.Counter[Row](), 0, True
         wire.say({"do": "subscribe", "on": "notes"})
         while True:
             for it in map(json.loads, wire.event()):
                 if "error" in it:
                     assert it == {"error": 13, "on": "notes", "privilege": "select"}, it
                     self.refusals += 1
+                    is_asked = False
                 elif "sub" in it and "ok" in it:
-                    number = it["sub"]
+                    number, is_asked = it["sub"], False
                 elif "changes" in it:
                     assert it["sub"] == number, it
                     for copies, row in it["changes"]:
@@ -164,8 +172,9 @@ class Reader:
                     if "ended" in it:
                         assert not rows and it["ended"] == "privilege", it
                         number = 0
-                elif "granted" in it and not number:
+                elif "granted" in it and not number and not is_asked:
                     wire.say({"do": "subscribe", "on": "notes"})
+                    is_asked = True
             if number:
                 self.seen[-1].append(total)
 

@@ -3,6 +3,7 @@
 
 GATEWAY and VIEWD name other programs than those that are built, and FOLLOWER the program of those that follow."""
 import contextlib
+import hashlib
 import json
 import subprocess
 import threading
@@ -80,50 +81,100 @@ def test_who_follows_decides_nothing() -> None:
 
 def test_a_name_is_known_where_it_is_followed() -> None:
     """Who has lost the answer at the leader is told it by a follower, and no other request by that name."""
-    if FOLLOWER.suffix:
-        pytest.skip("a stand-in keeps no names")
     with led(False) as (gate, _, (follower,)):
         wire = gate.enter("mia")
         said, refused = by_name(wire.place, insert(1, "mia")), by_name(wire.place, {"do": "write", "entries": [{"on": "notes", "delete": [-1, "mia"]}]})
-        first, second = [json.loads(wire.ask(it)[0]) for it in (said, refused)]
+        told = [json.loads(wire.ask(it)[0])["answer"] for it in (said, refused)]
         equal(gate, [follower])
         reader = follower.enter("mia")
-        assert [json.loads(reader.ask(it)[0]) for it in (said, refused)] == [{**it, "again": True, "at": second["at"]} for it in (first, second)]
+        for it, answer in zip((said, refused), told):
+            again = json.loads(reader.ask(it)[0])
+            assert again["again"] and again["answer"] == answer
+        assert reader.ask(by_name(reader.place, insert(2, "mia"))) == ['{"undecided":100}']
+        assert json.loads(reader.ask(by_name(wire.place, insert(2, "mia")))[0])["undecided"] in (100, 103)  # (the leader's epoch is another one)
+        equal(gate, [follower])
 
 
 def test_nobody_is_let_in_without_its_keeper() -> None:
     with led(True) as (gate, _, (follower,)):
         reader = follower.enter("ann")
-        follower.is_ended = True  # nothing is started again
-        time.sleep(0.1)
-        assert follower.strike("keeper") and reader.end() == 1013
+        follower.rest()
+        assert reader.end() == 1013
         assert not comes_in(follower, "ann")
         gate.enter("ann").ask(insert(1, "ann"))
-        threading.Thread(target=Follower.mend, args=(follower,)).start()
+        follower.rests = False
         comes(follower)
         equal(gate, [follower])
 
 
+def ends_with(followers: list[Follower], status: int, words: str) -> None:
+    """Their keepers end so, and begin anew."""
+    until(lambda: all(it.statuses[f"keeper {status}"] for it in followers), f"no keeper ends with {status}: {[it.said()[-500:] for it in followers]}")
+    assert all(words in it.said() for it in followers), [it.said() for it in followers]
+    for it in followers:
+        it.statuses.clear()
+
+
 @needs_viewd
 def test_a_compacted_journal_is_told() -> None:
-    """A gateway that has followed another journal does not go on with this one."""
+    """A gateway that has followed another journal does not go on with this one, whether its keeper was there meanwhile or not."""
     with led(False, True) as (gate, _, followers):
-        gate.enter("ann").ask(insert(1, "ann"))
+        wire = gate.enter("ann")
+        for at in range(9):
+            wire.ask(by_name(wire.place, insert(at, "ann")))
         equal(gate, followers)
         gate.kill()
         assert compacted(gate, "--rows", "1048576").returncode == 0
-        until(lambda: all(it.statuses["keeper 5"] for it in followers), "a keeper follows a compacted journal")
+        ends_with(followers, 5, "is another file now: it was compacted")
         gate.start()
         equal(gate, followers)
-        assert all("it was compacted" in it.said() for it in followers)
+        wire = gate.enter("ann")
+        for at in range(9, 99):
+            wire.ask(by_name(wire.place, insert(at, "mia")))
+        equal(gate, followers)
+        for words, told in (((), "it was compacted, or is an"), (("--copy",), "the gateway follows journal of epoch")):
+            for it in followers:
+                it.rest()
+            gate.kill()
+            assert compacted(gate, "--rows", "1048576", *words).returncode == 0
+            gate.start()
+            for it in followers:
+                it.rests = False
+            ends_with(followers, 5, told)
+            equal(gate, followers)
         gate.kill()
-        before = [it.begins for it in followers]
         for it in followers:
             it.strike("keeper")
+        for it in followers:
+            until(lambda it=it: it.statuses["keeper -9"], "a keeper stays")
             comes(it)
         gate.start()
         equal(gate, followers)
-        assert before == [it.begins for it in followers], "a start needs no new journal"
+        assert not any(it.statuses["keeper 5"] for it in followers), "a start needs no new journal"
+
+
+def test_what_is_not_whole_is_not_shown() -> None:
+    """The first line of a record of two, which a gateway that comes again cuts off; and another record stands there then. What was told once is not taken back."""
+    with led(False, True) as (gate, _, followers):
+        gate.enter("ann").ask(insert(1, "ann"))
+        equal(gate, followers)
+        whole = gate.journal.read_bytes()
+        gate.kill()
+        text = b'"at":1,"by":"","as":"ann",' + json.dumps(insert(2, "ann"), separators=(",", ":")).encode()[1:]
+        digest = hashlib.sha256(bytes.fromhex(whole.split(b"\n")[-2][9:73].decode()) + b'{"part":"' + text).hexdigest().encode()
+        with gate.journal.open("ab") as file:
+            file.write(b'{"part":"%s",%s\n{"last":"01' % (digest, text))
+        time.sleep(0.5)
+        assert all((2, "ann") not in shown(it)["ann"] for it in followers)
+        gate.start()
+        gate.enter("ann").ask(insert(3, "ann"))
+        equal(gate, followers)
+        assert gate.journal.read_bytes().startswith(whole) and all(it.begins == 0 for it in followers)
+        gate.kill()
+        gate.journal.write_bytes(whole)
+        ends_with(followers, 5, "has less than it had: its gateway took back")
+        gate.start()
+        equal(gate, followers)
 
 
 def test_what_is_no_journal_is_not_followed() -> None:
