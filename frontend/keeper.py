@@ -22,7 +22,7 @@ from leader import Another, Leader
 
 LOG = "journal"  # the name of a log of this kind
 LOOK = 0.004  # seconds between two looks at the file
-TRIES, WAIT = 100, 0.1  # at a journal that has no head yet, and seconds between them
+TRIES, WAIT = 50, 0.1  # at a journal that has no head yet, and seconds between them
 ANEW = "its gateway needs a new journal file"
 
 
@@ -62,7 +62,8 @@ class Keeper:
             for record in self.leader.more():
                 for it in record:
                     if not it.startswith(b'{"once":') and next(told, b"") != it:
-                        raise Another(f"record {self.leader.count} of {self.leader.path} is not what the gateway holds: it was compacted, or is another copy; {ANEW}")
+                        raise Another(f"record {self.leader.count} of {self.leader.path} is not what the gateway holds: it was compacted, or is "
+                                      f"another copy; {ANEW}")
                 if self.leader.count == held.position:
                     break
             if self.leader.count == before:

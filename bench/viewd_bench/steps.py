@@ -148,7 +148,8 @@ class Following(Server):
     def __init__(self, size: int, clients: int, port: int, secret: pathlib.Path) -> None:
         self.keeper: Keeper | None = None
         self.door, self.secret = port, secret
-        super().__init__("./gateway that follows", [PROGRAM, "--rows", str(ROWS), "--clients", str(clients + 100), "--log", str(port), "--log-secret-file", secret], size)
+        words: list[str | pathlib.Path] = [PROGRAM, "--rows", str(ROWS), "--clients", str(clients + 100), "--log", str(port), "--log-secret-file", secret]
+        super().__init__("./gateway that follows", words, size)
 
     def listens(self) -> bool:
         self.keeper = self.keeper or Keeper(self.door, self.secret.read_text())
@@ -172,12 +173,12 @@ def as_a_step(given: argparse.Namespace, room: pathlib.Path) -> dict[str, str]:
         before, last = peak(server), KEPT + given.entries - 1
         lines = keeper.step([by("ann", write(at)) for at in range(KEPT, last + 1)])
         crowd.wait(seen(last))
-        began = time.monotonic()
+        used, began = sum(server.processor()), time.monotonic()
         keeper.bring(lines)
-        kept = time.monotonic() - began
         got, took = crowd.heard(began)
+        used = sum(server.processor()) - used
         crowd.end()
-        return line("one step", given.entries, got, took, before, peak(server)) | {"on disk, s": number(kept), "the step's lines, MB": number(len(lines) / 1e6)}
+        return line("in one step", given.entries, got, took, used, before, peak(server)) | {"the step's lines, MB": number(len(lines) / 1e6)}
     finally:
         server.end()
 
@@ -190,14 +191,14 @@ def seen(last: int) -> int:
 def one_by_one(given: argparse.Namespace) -> dict[str, str]:
     server = Server("./gateway", [PROGRAM, "--rows", str(ROWS), "--clients", str(given.clients + 100)], given.clients)
     try:
-        admin, writer = Writer(server.port, "admin", KEPT), Writer(server.port, "ann writes", KEPT)
-        admin.ask(*(it.encode() for it in MADE))
+        Writer(server.port, "admin", KEPT).ask(*(it.encode() for it in MADE))
+        writer = Writer(server.port, "ann writes", KEPT)
         for at in range(KEPT):
             writer.ask(json.dumps({"do": "write", "entries": [{"on": "tickets", "insert": row(at)}]}, separators=(",", ":")).encode())
         crowd = Crowd(server, given.processes)
         before, last = peak(server), KEPT + given.alone - 1
         crowd.wait(seen(last))
-        began = time.monotonic()
+        used, began = sum(server.processor()), time.monotonic()
         for at in range(KEPT, last + 1, WINDOW):
             some = [frame(write(it)) for it in range(at, min(at + WINDOW, last + 1))]
             writer.socket.sendall(b"".join(some))
@@ -205,15 +206,17 @@ def one_by_one(given: argparse.Namespace) -> dict[str, str]:
             while count < len(some):
                 count += writer.replies(60.0)
         got, took = crowd.heard(began)
+        used = sum(server.processor()) - used
         crowd.end()
-        return line("one by one", given.alone, got, took, before, peak(server))
+        return line("one by one", given.alone, got, took, used, before, peak(server))
     finally:
         server.end()
 
 
-def line(how: str, entries: int, got: float, took: float, before: int, after: int) -> dict[str, str]:
-    return {"entries": f"{entries:,} {how}", "bytes a client": f"{got:,.0f}", "until the last client's settled, s": number(took), "us an entry": number(took / entries * 1e6),
-            "peak memory before, MB": number(before / 1e6), "peak memory, MB": number(after / 1e6)}
+def line(how: str, entries: int, got: float, took: float, used: float, before: int, after: int) -> dict[str, str]:
+    return {"entries": f"{entries:,} {how}", "bytes a client": f"{got:,.0f}", "until the last client's settled, s": number(took),
+            "the gateway's processor, s": number(used), "us of it an entry": number(used / entries * 1e6), "peak memory before, MB": number(before / 1e6),
+            "peak memory, MB": number(after / 1e6)}
 
 
 def main(words: list[str]) -> None:
@@ -229,4 +232,5 @@ def main(words: list[str]) -> None:
     load = os.getloadavg()[0]
     with tempfile.TemporaryDirectory(prefix="bench-") as room:
         found = [as_a_step(given, pathlib.Path(room)), one_by_one(given)]
-    print(f"{given.clients:,} clients, {BY_TOKEN} of each token, load {load:.1f} before.\n\n{table([found[0], found[1] | {it: '' for it in found[0] if it not in found[1]}])}")
+    found[1] |= {it: "" for it in found[0] if it not in found[1]}
+    print(f"{given.clients:,} clients, {BY_TOKEN} of each token, load {load:.1f} before.\n\n{table(found)}")
