@@ -132,12 +132,15 @@ def test_a_compacted_journal_is_told() -> None:
         for at in range(9, 99):
             wire.ask(by_name(wire.place, insert(at, "mia")))
         equal(gate, followers)
-        for words, told in (((), "it was compacted, or is an"), (("--copy",), "the gateway follows journal of epoch")):
+        for words, told in (((), "is not what the gateway holds: it was compacted"), (("--copy",), "the gateway follows journal of epoch")):
             for it in followers:
                 it.rest()
             gate.kill()
             assert compacted(gate, "--rows", "1048576", *words).returncode == 0
             gate.start()
+            wire = gate.enter("ann")
+            for at in range(100, 220):  # as many records as there were
+                wire.ask(insert(at, "bob"))
             for it in followers:
                 it.rests = False
             ends_with(followers, 5, told)
@@ -173,6 +176,16 @@ def test_what_is_not_whole_is_not_shown() -> None:
         gate.kill()
         gate.journal.write_bytes(whole)
         ends_with(followers, 5, "has less than it had: its gateway took back")
+        gate.start()
+        gate.enter("ann").ask(insert(4, "ann"))
+        equal(gate, followers)
+        for it in followers:
+            it.rest()
+        gate.kill()
+        gate.journal.write_bytes(whole)
+        for it in followers:
+            it.rests = False
+        ends_with(followers, 5, "records, and the gateway holds")
         gate.start()
         equal(gate, followers)
 

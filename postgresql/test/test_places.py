@@ -1,10 +1,34 @@
 """From where the program that follows goes on, and what needs a new beginning."""
+import io
 import re
 import shutil
 import time
+import types
+import unittest
+import unittest.mock
+from typing import Any
 
 from followed import PATIENCE, Followed
 from writers import DESK
+
+import door
+import follow
+from settings import Settings
+from source import NAME
+from stream import Place
+
+
+class Pieces(unittest.TestCase):
+    def test_a_first_copy_of_many_lines_is_many_steps(self) -> None:
+        taken = io.BytesIO()
+        one = follow.Follow(Settings(""), door.Gateway(io.BytesIO(b'{"door":1,"rows":5}\n'), taken))
+        following: Any = types.SimpleNamespace(first=lambda: ({"do": f"x{at}"} for at in range(7)), source=types.SimpleNamespace(place=Place(0, 9)),
+                                               begun=types.SimpleNamespace(steps=types.SimpleNamespace(certain=9)))
+        with unittest.mock.patch.object(follow, "LINES", 3):
+            one.first(following)
+        entries = [f'{{"as":"admin","do":"x{at}"}}' for at in range(7)]
+        self.assertEqual(taken.getvalue().decode().splitlines(), [*entries[:3], '{"from":0,"step":1}', *entries[3:6], '{"from":1,"step":2}', entries[6], '{"from":2,"step":3}'])
+        self.assertEqual([(it.number, it.place.end) for it in one.waiting], [(3, 9)])
 
 
 class Places(Followed):
@@ -116,6 +140,13 @@ class Places(Followed):
         self.gateway.close()
         self.gateway.path.write_bytes(old)
         self.gateway = None
+
+    def test_rows_of_the_place_come_last(self) -> None:
+        """So a first copy that was cut off says nowhere where it is from."""
+        self.settle()
+        first = self.journal().split(b'{"from":')[0].splitlines()[1:]
+        self.assertIn(b'"name":"%s"' % NAME.encode(), first[0])
+        self.assertEqual([b'"on":"%s"' % NAME.encode() in it for it in first].index(True), len(first) - 1)
 
     def test_an_older_journal_from_before_any_transaction(self) -> None:
         while not (self.gateway and self.gateway.position == 1):
