@@ -3,12 +3,14 @@
 
 GATEWAY and VIEWD name other programs than those that are built, and FOLLOWER the program of those that follow."""
 import contextlib
+import functools
 import hashlib
 import json
 import subprocess
 import threading
 import time
-from collections.abc import Iterator
+from collections.abc import Callable, Iterator
+from typing import Any
 
 import pytest
 
@@ -46,7 +48,7 @@ def equal(gate: Gateway, followers: list[Follower]) -> None:
     """Waits until they show what their leader does."""
     aim = shown(gate)
     for it in followers:
-        until(lambda it=it: caught_up(it, aim), f"a follower shows something else: {it.said()[-2000:]}")
+        until(functools.partial(caught_up, it, aim), f"a follower shows something else: {it.said()[-2000:]}")
 
 
 def test_a_follower_shows_what_its_leader_does() -> None:
@@ -149,7 +151,7 @@ def test_a_compacted_journal_is_told() -> None:
         for it in followers:
             it.strike("keeper")
         for it in followers:
-            until(lambda it=it: it.statuses["keeper -9"], "a keeper stays")
+            until(functools.partial(it.statuses.__getitem__, "keeper -9"), "a keeper stays")
             comes(it)
         gate.start()
         equal(gate, followers)
@@ -196,7 +198,7 @@ def test_what_is_no_journal_is_not_followed() -> None:
         follower = Follower(gate, False)
         good = gate.journal.read_bytes()
         lines = good.split(b"\n")[:-1]
-        for data, status, words in ((None, 1, "No such file"), (b"", 1, "no first line"), (b'{"as":"admin","do":"create_role","name":"a"}\n', 1, "line 1, at byte 0"),
+        for data, status, told in ((None, 1, "No such file"), (b"", 1, "no first line"), (b'{"as":"admin","do":"create_role","name":"a"}\n', 1, "line 1, at byte 0"),
                                     (good[:len(lines[0]) + 100] + b"x" + good[len(lines[0]) + 101:], 1, f"line 2, at byte {len(lines[0]) + 1}, is not what was written"),
                                     (b"\n".join([*lines[:3], *lines[4:], b""]), 1, "line 4"), (b"\n".join([*lines[:3], lines[3], lines[3], *lines[4:], b""]), 1, "line 5")):
             follower.leader = Gateway(start=False)
@@ -204,10 +206,11 @@ def test_what_is_no_journal_is_not_followed() -> None:
                 follower.leader.journal.write_bytes(data)
             follower.launch()
             assert follower.process.wait(PATIENCE) == status, follower.said()
-            assert words in follower.logs[-1].read_text(), (words, follower.logs[-1].read_text())
+            assert told in follower.logs[-1].read_text(), (told, follower.logs[-1].read_text())
             follower.leader.end()
-        for words in ([], [gate.journal], [gate.journal, "--port", "1"], [gate.journal, "--secret-file", gate.tokens], [gate.journal, "--port", "1", "--", "x"]):
-            assert subprocess.run([KEEPER, *words], capture_output=True).returncode == 2, words
+        wrong: list[list[Any]] = [[], [gate.journal], [gate.journal, "--port", "1"], [gate.journal, "--secret-file", gate.tokens], [gate.journal, "--port", "1", "--", "x"]]
+        for some in wrong:
+            assert subprocess.run([KEEPER, *some], capture_output=True).returncode == 2, some
         follower.end()
 
 
@@ -246,7 +249,7 @@ class Followed(Trials):
         time.sleep(self.dice.uniform(0, 0.3))
         self.counts[part] += follower.strike(part)
 
-    def wait(self, holds, what: str) -> None:  # type: ignore[no-untyped-def]
+    def wait(self, holds: Callable[[], bool], what: str) -> None:
         super().wait(lambda: any(it.fault for it in self.readers) or holds(), what)
 
     def compact(self, *words: str) -> None:
@@ -275,6 +278,13 @@ def toggle(gate: Gateway, stop: threading.Event) -> None:
         stop.wait(0.05)
 
 
+def left(readers: list[Reader], threads: list[threading.Thread]) -> bool:
+    """Whether all have left that are told to."""
+    for it in readers:
+        it.leave()
+    return not any(it.is_alive() for it in threads)
+
+
 def test_kills_of_all_parts_show_no_state_that_was_not(kills: int) -> None:
     """Each request of the writers at the leader is done exactly once or told undecided; what each reader at each follower is told adds up, at each `settled`, to
     what its role sees of the leader after one of its records, never to one before that; and at the end rows, rights and shape are the leader's."""
@@ -293,7 +303,7 @@ def test_kills_of_all_parts_show_no_state_that_was_not(kills: int) -> None:
                 it.leave()
         threads[-1].join()
         equal(gate, followers)
-        until(lambda: not any(it.is_alive() for it in threads) or [it.leave() for it in readers] and False, "a reader stays")
+        until(lambda: left(readers, threads), "a reader stays")
         assert not [it.fault for it in readers if it.fault], [it.fault for it in readers]
         trials.chronicle.read()
         there = rows(gate)
@@ -306,5 +316,5 @@ def test_kills_of_all_parts_show_no_state_that_was_not(kills: int) -> None:
         assert not wrong, wrong[:10]
         assert all(it.told for it in readers) and events > kills
         assert all(it.refusals for it in readers if it.role == "bob") or kills < 10
-        for it in followers:
-            assert {status.split()[1] for status in it.statuses} <= {"-9", "0", "4", "5"}, (it.statuses, it.said()[-1000:])
+        for follower in followers:
+            assert {status.split()[1] for status in follower.statuses} <= {"-9", "0", "4", "5"}, (follower.statuses, follower.said()[-1000:])

@@ -100,7 +100,7 @@ told-answered b c x =
 
 -- it was told as many replies as it sent messages, and one to its token
 abbrev pub IsEven : Client → Type 0
-IsEven c = length (replies (told c)) ≡ length c.messages + 1
+IsEven c = length (replies (told c)) ≡ length c.messages + 2
 
 hears_sound : Adds → Sounds → (g : Gate) (m : ℕ) (c : Client) (text : List ℕ) → client_at g.clients m ≡ Some c → IsEven c → IsSoundGate g → IsSoundGate (hears g m c text)
 hears_sound adds sounds g m c text t even b = IsSoundGate-at_client (settles did) m (answered c)

@@ -184,7 +184,7 @@ pub record IsHeard (g : Gate) (m : ℕ) (c : Client) (text : List ℕ) (d : Clie
   pub role : d.role ≡ c.role
   pub before : List (List ℕ)
   pub messages : d.messages ≡ before ++ text ∷ []
-  pub pending : length (replies (told d)) ≡ length before + 1
+  pub pending : length (replies (told d)) ≡ length before + 2
 
 pub IsAsker-IsHeard : (g : Gate) (m : ℕ) (c : Client) (id : Option Data) (text : List ℕ) (rel : Name) (d : Client) → said_by text ≡ request id (subscribe rel) → IsHeard g m c text d → IsAsker d id c.role rel
 IsAsker-IsHeard g m c id text rel d e h = record { same = h.role; before = h.before; text = text; messages = h.messages; asks = e; pending = h.pending }

@@ -57,7 +57,7 @@ Came-Runs P k cap _ (begins_again h disk tokens most i r l y) m c x = absurd (no
 pub AreEven-Runs : (cap : ℕ) (g : Gate) → Runs cap g → AreEven g
 AreEven-Runs cap g r m c x = even (length (replies (told c))) (length c.messages) (Came-Runs IsAnswered Came-IsAnswered cap g r m c x).each
   where
-    even : (n k : ℕ) → n ≡ 1 + k → n ≡ k + 1
+    even : (n k : ℕ) → n ≡ 2 + k → n ≡ k + 2
     even n k e = omega (arith, e)
 
 pub IsSoundGate-Runs : Adds → Starts → Sounds → (cap : ℕ) (g : Gate) → Runs cap g → IsSoundGate g

@@ -9,7 +9,7 @@ use Rattle.iv_machine.specs.Act.{Act, begin, finish, subscribe, unsubscribe, don
 use Rattle.iv_machine.specs.Machine.{step}
 use Rattle.iv_machine.specs.State.{Session, State, session_of}
 use Rattle.iv_message.specs.Message.{Message, no_json, too_long, no_object, no_request, request, unknown}
-use Rattle.iv_message.specs.Told.{Told, welcome, replied, opened, fault, unasked, answered, undecided, denied}
+use Rattle.iv_message.specs.Told.{Told, welcome, placed, replied, opened, fault, unasked, answered, undecided, denied}
 use Rattle.iv_clients.specs.Clients.{Client, client_at, followed_by, may_say, told}
 use Rattle.iv_clients.specs.Bounds.{most_feeds, most_seats, most_subs}
 use Rattle.iv_clients.specs.Feeds.{Feed, Seat, feed_for}
@@ -39,6 +39,7 @@ told_by c d = drop (length (told c)) (told d)
 -- to the token, or to a message
 abbrev pub is_reply : Told → Bool
 is_reply (welcome role) = true
+is_reply (placed at) = true
 is_reply (replied id r) = true
 is_reply (opened id own columns) = true
 is_reply (fault number) = true
@@ -190,16 +191,16 @@ abbrev pub is_opened : Told → Bool
 is_opened (opened id own columns) = true
 is_opened _ = false
 
--- a client was told a welcome, and then one reply to each of its messages; each subscription that was opened has the next number
+-- a client was told a welcome and its place, and then one reply to each of its messages; each subscription that was opened has the next number
 pub record IsAnswered (c : Client) : Type 0 where
-  pub welcome : (ts : List Told) × (told c ≡ welcome c.role ∷ ts)
-  pub each : length (replies (told c)) ≡ 1 + length c.messages
+  pub welcome : (at : List ℕ) × (ts : List Told) × (told c ≡ welcome c.role ∷ placed at ∷ ts)
+  pub each : length (replies (told c)) ≡ 2 + length c.messages
   pub given : c.given ≡ length (filter is_opened (told c))
 
--- its message at this place has the reply
+-- its message at this place has the reply: those to its token come before
 abbrev pub IsReplyAt : Client → ℕ → Option Data → Act → Told → Type 0
 IsReplyAt c place id act t = (text : List ℕ) × (slice_get c.messages place ≡ Some text) × (said_by text ≡ request id act)
-    × (slice_get (replies (told c)) (place + 1) ≡ Some t)
+    × (slice_get (replies (told c)) (place + 2) ≡ Some t)
 
 -- the client asked the relation by its own number: the reply to a message that asks it gave the number
 abbrev pub IsAskedBy : Client → ℕ → Name → Type 0

@@ -116,8 +116,8 @@ pub fn messages_are_replied()
     told_texts_are_lines();
 }
 
-/// In whatever runs, over restarts, each client that is not to go was told a welcome first, and as many replies after it as messages
-/// of it were heard; and the last of its own numbers is how many subscriptions were opened for it.
+/// In whatever runs, over restarts, each client that is not to go was told a welcome and its place first, and as many replies after
+/// them as messages of it were heard; and the last of its own numbers is how many subscriptions were opened for it.
 pub fn clients_are_answered()
     ensures { (cap : ℕ) (g : Gate) (m : ℕ) (c : Client) → Runs cap g → IsClient g m c → IsAnswered c }
 {}
