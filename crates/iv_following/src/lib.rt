@@ -4,9 +4,13 @@
 //! in what the keeper says, before the journal is synced, and `tell` tells it up to where that has the log. Behind a fault `last_words` are told.
 #![tactic(auto)]
 
+mod beginning;
+mod coming;
 mod following;
 mod refusals;
 mod steps;
+mod telling;
+mod ways;
 mod wire;
 
 pub use following::Following;

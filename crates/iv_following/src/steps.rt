@@ -66,7 +66,7 @@ fn is_text(
     Ok(step.is_some())
 }
 
-/// The first text, counted from 1, that is none by itself, or a request behind a name.
+/// The first text, counted from 1, that is none by itself, or a request after a name. The last one is none.
 fn first_wrong(
     alloc: Global,
     log: &iv_door::Log,
@@ -76,16 +76,18 @@ fn first_wrong(
     let Some(last) = texts.last() else {
         return Ok(1);
     };
+    let mut place: u64 = 0;
     let mut names = false;
-    for at in 0..texts.len() - 1 {
-        let is_name = texts[at].starts_with(b"\"once\":");
+    for text in texts {
+        place = place.saturating_add(1);
+        let is_name = text.starts_with(b"\"once\":");
         let is_late = names && !is_name;
-        if is_late || !is_text(alloc, log, &texts[at], last, scratch)? {
-            return Ok((at as u64).saturating_add(1));
+        if is_late || !is_text(alloc, log, text, last, scratch)? {
+            return Ok(place);
         }
         names = is_name;
     }
-    Ok(texts.len() as u64)
+    Ok(place)
 }
 
 /// Why a step is not taken, as its keeper is told it.

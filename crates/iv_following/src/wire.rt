@@ -117,12 +117,12 @@ impl Wire {
     pub(crate) fn write(&mut self, poll: &Poll, bytes: &[u8]) -> (Option<usize>, bool) {
         match self {
             Wire::Standard(rt, waits) => {
-                let count = if *waits {
-                    bytes.len().min(PIPED)
+                let piece = if *waits {
+                    bytes.get(..PIPED).unwrap_or(bytes)
                 } else {
-                    bytes.len()
+                    bytes
                 };
-                let taken = match rt.stdout().write(&bytes[..count]) {
+                let taken = match rt.stdout().write(piece) {
                     Ok(0) => None,
                     Ok(count) => Some(count),
                     Err(error) => match error.kind() {

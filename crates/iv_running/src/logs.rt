@@ -25,16 +25,14 @@ pub enum Follows {
 /// The status to exit with, once it was said why.
 pub fn followed_in(rt: &HostRuntime, settings: &Settings, bytes: &[u8]) -> Result<Follows, u8> {
     let audit = read(rt, settings.journal.as_str(), bytes)?;
+    let is_empty = audit.lines.is_empty();
     let (begun, _) = begun_in(rt, &audit.lines)?;
-    match begun.log {
+    let Begun { log, standings } = begun;
+    drop(standings);
+    match log {
         Some(log) => Ok(Follows::Log(log)),
-        None => {
-            if audit.lines.is_empty() {
-                Ok(Follows::Nothing)
-            } else {
-                Ok(Follows::Itself)
-            }
-        }
+        None if is_empty => Ok(Follows::Nothing),
+        None => Ok(Follows::Itself),
     }
 }
 
