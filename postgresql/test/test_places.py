@@ -8,14 +8,13 @@ import unittest
 import unittest.mock
 from typing import Any
 
-from followed import PATIENCE, Followed
-from writers import DESK
-
 import door
 import follow
+from followed import PATIENCE, Followed
 from settings import Settings
 from source import NAME
 from stream import Place
+from writers import DESK
 
 
 class Pieces(unittest.TestCase):
