@@ -15,6 +15,15 @@ use std::{env, io};
 /// The program's version, and the number of the protocol that it speaks.
 const VERSION: &str = "0.1.0 (protocol 1)";
 
+/// Where the keeper of a log is.
+#[derive(Debug, Drop)]
+pub enum KeeperAt {
+    /// At standard input and output.
+    Standard,
+    /// At a port of 127.0.0.1, where it shows the secret in a file.
+    Port(u16, String),
+}
+
 /// What the program is asked to do.
 #[derive(Debug, Drop)]
 pub struct Settings {
@@ -32,6 +41,8 @@ pub struct Settings {
     pub seed: Option<String>,
     /// The file with the secret that grants web tokens, if there is one.
     pub jwt_secret: Option<String>,
+    /// The keeper of the log that is followed, if one is.
+    pub keeper: Option<KeeperAt>,
     /// The number of different rows at most of a table, and of each step of a view that is read.
     pub rows: u32,
     /// The number of sockets at most.
@@ -114,13 +125,30 @@ fn with_files<'a>(alloc: Global, command: Command<'a>) -> Result<Command<'a>, Al
         ))
 }
 
+/// Adds the options of a log.
+fn with_log<'a>(alloc: Global, command: Command<'a>) -> Result<Command<'a>, AllocError> {
+    command
+        .arg(text(
+            alloc,
+            "log",
+            "PORT",
+            "Follow a log, whose keeper comes to this port of 127.0.0.1, or is at standard input and output (-)",
+        ))?
+        .arg(text(
+            alloc,
+            "log-secret-file",
+            "FILE",
+            "The secret that a keeper shows at the port, of 32 bytes or more",
+        ))
+}
+
 /// The command, by which clap reads the words.
 fn command<'a>(alloc: Global) -> Result<Command<'a>, AllocError> {
     let command = Command::new(alloc, "gateway")
         .version(VERSION)
         .about("Serves browsers by WebSocket, with a journal")
         .no_binary_name(true);
-    let command = with_files(alloc, command)?;
+    let command = with_log(alloc, with_files(alloc, command)?)?;
     with_numbers(alloc, command)
 }
 
@@ -179,6 +207,42 @@ fn text_of(
     }
 }
 
+/// The keeper of a log that these words tell, if that can be: a port has a secret, and standard input and output has none.
+fn keeper_at(log: Option<String>, secret: Option<String>) -> Result<Option<KeeperAt>, ()> {
+    match (log, secret) {
+        (None, None) => Ok(None),
+        (Some(log), None) => {
+            if log.as_str() == "-" {
+                Ok(Some(KeeperAt::Standard))
+            } else {
+                Err(())
+            }
+        }
+        (Some(log), Some(secret)) => match log.as_str().parse::<u16>() {
+            Ok(port) if port >= 1 => Ok(Some(KeeperAt::Port(port, secret))),
+            _ => Err(()),
+        },
+        (None, Some(_)) => Err(()),
+    }
+}
+
+/// The keeper of a log that the matched words tell; none if these cannot be.
+fn keeper_of(
+    alloc: Global,
+    matches: &ArgMatches<'_>,
+) -> Result<Option<Option<KeeperAt>>, AllocError> {
+    let log = text_of(alloc, matches, "log")?;
+    let follows = log.is_some();
+    let secret = text_of(alloc, matches, "log-secret-file")?;
+    if follows && matches.get_str("seed").is_some() {
+        return Ok(None);
+    }
+    match keeper_at(log, secret) {
+        Ok(keeper) => Ok(Some(keeper)),
+        Err(()) => Ok(None),
+    }
+}
+
 /// The numbers of settings.
 #[derive(Clone, Copy)]
 struct Numbers {
@@ -217,6 +281,9 @@ fn found(alloc: Global, matches: &ArgMatches<'_>) -> Result<Option<Settings>, Al
     ) else {
         return Ok(None);
     };
+    let Some(keeper) = keeper_of(alloc, matches)? else {
+        return Ok(None);
+    };
     Ok(Some(Settings {
         host: numbers.host,
         port: numbers.port,
@@ -225,6 +292,7 @@ fn found(alloc: Global, matches: &ArgMatches<'_>) -> Result<Option<Settings>, Al
         pages: text_of(alloc, matches, "pages")?,
         seed: text_of(alloc, matches, "seed")?,
         jwt_secret: text_of(alloc, matches, "jwt-secret-file")?,
+        keeper,
         rows: numbers.rows,
         clients: numbers.clients,
     }))

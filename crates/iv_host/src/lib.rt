@@ -15,7 +15,7 @@ mod pages;
 mod tokens;
 
 pub use admins::{ADMIN, Admins, presented_in};
-pub use arguments::{Settings, asked_for};
+pub use arguments::{KeeperAt, Settings, asked_for};
 pub use beginning::head_of;
 pub use counts::{BOUNDS, Counts, Why, raise};
 pub use figures::{Now, figures_now, state_now};

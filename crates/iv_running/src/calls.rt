@@ -3,6 +3,7 @@
 //! So after each of them all holds that `browsers_are_told_their_views` of iv_desk says of runs.
 ghost use Rattle.std.specs.Prelude.{◌≡◌, ℕ, IfOk, OnOk, false, true};
 ghost use Rattle.iv_rows.specs.RowLimit.{IsRowLimit};
+ghost use Rattle.iv_gate.specs.Events.{IsWell, arrived};
 ghost use Rattle.iv_gate.specs.Gate as spec;
 ghost use Rattle.iv_gateway.specs.Views.{IsHead};
 ghost use Rattle.iv_gateway.specs.Waiting.{WaitsWithin};
@@ -11,13 +12,15 @@ ghost use Rattle.iv_desk.specs.Front.{Front, may_tell};
 ghost use Rattle.iv_running.specs.Running.{IsNew, IsRunning, Leads, most_told};
 
 use crate::fault::Fault;
+use iv_arrivals::{Log, Step, read_step};
 use iv_clients::Token;
 use iv_desk::laws::calls_lead_from_runs_to_runs;
 use iv_desk::{Desk, Hearing};
 use iv_engine::{Engine, Seed};
 use iv_gate::laws::events_leave_their_marks;
-use iv_gateway::{Gateway, Head, Journal, RestoreFault};
+use iv_gateway::{Gateway, Head, Journal, RestoreFault, StepFault};
 use iv_journal::Line;
+use json::Scratch;
 use std::alloc::{AllocError, Global};
 
 /// Bytes that wait for the journal, at most, before one more socket is read in a round: 16 MiB.
@@ -116,6 +119,42 @@ pub fn leave(desk: &mut Desk, at: u32) -> Result<(), Fault>
     match desk.leave(at) {
         Ok(()) => Ok(()),
         Err(fault) => Err(Fault::from(fault)),
+    }
+}
+
+/// Takes a step of the log that is followed. Whether it was not taken before.
+fn take(desk: &mut Desk, step: Step) -> Result<bool, StepFault>
+    requires { IsWell (arrived step) }
+    ensures { Leads desk.old desk.new }
+{
+    events_leave_their_marks();
+    match desk.take_step(step) {
+        Ok(is) => Ok(is),
+        Err(fault) => Err(fault),
+    }
+}
+
+/// Takes the step of the log that is followed, from a position, whose record has these lines. Whether they are such a record.
+///
+/// # Errors
+/// As of the desk's `take_step`.
+pub fn follow(
+    alloc: Global,
+    desk: &mut Desk,
+    log: Log,
+    from: u64,
+    lines: &[Line<'_>],
+    scratch: &mut Scratch,
+) -> Result<bool, StepFault>
+    ensures { Leads desk.old desk.new }
+{
+    match read_step(alloc, log, from, lines, scratch) {
+        Err(_) => Err(StepFault::Memory),
+        Ok(None) => Ok(false),
+        Ok(Some(step)) => {
+            take(desk, step)?;
+            Ok(true)
+        }
     }
 }
 

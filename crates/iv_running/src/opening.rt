@@ -55,7 +55,7 @@ fn begins_with(rt: &HostRuntime, epoch: &str, begun: Begun) -> Result<Head, u8>
 }
 
 /// 32 digits that no other journal has.
-fn new_digits(rt: &HostRuntime) -> Result<[u8; 32], u8> {
+pub(crate) fn new_digits(rt: &HostRuntime) -> Result<[u8; 32], u8> {
     match random_digits(rt) {
         Ok(digits) => Ok(digits),
         Err(_) => Err(no_random_bytes(rt)),
@@ -167,7 +167,7 @@ pub fn open_journal(rt: &HostRuntime, settings: &Settings) -> Result<(JournalFil
 // ---- the form of today
 
 /// Reads a journal, or says why it is not read.
-fn read<'a>(rt: &HostRuntime, path: &str, bytes: &'a [u8]) -> Result<Audit<'a>, u8> {
+pub(crate) fn read<'a>(rt: &HostRuntime, path: &str, bytes: &'a [u8]) -> Result<Audit<'a>, u8> {
     match read_audit(rt.alloc(), bytes) {
         Ok(audit) => Ok(audit),
         Err(AuditFault::Damaged(place)) => Err(damaged_at(rt, path, bytes, place)),
@@ -191,7 +191,7 @@ fn epoch_of(
 }
 
 /// What a journal says before its first entry, and in how many lines after its head.
-fn begun_in(rt: &HostRuntime, lines: &[Line<'_>]) -> Result<(Begun, usize), u8> {
+pub(crate) fn begun_in(rt: &HostRuntime, lines: &[Line<'_>]) -> Result<(Begun, usize), u8> {
     let mut scratch = Scratch::new(rt.alloc());
     match read_begun(rt.alloc(), lines, &mut scratch) {
         Ok(found) => Ok(found),

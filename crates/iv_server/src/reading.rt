@@ -74,7 +74,13 @@ impl Server {
                 self.keep_head(at, head);
                 Ok(())
             }
-            Wish::Upgrade => self.upgrade(desk, at, &head),
+            Wish::Upgrade => {
+                if self.open {
+                    return self.upgrade(desk, at, &head);
+                }
+                let answer = refusal(rt, Refusal::Unavailable, false)?;
+                self.answer(rt, at, answer, false)
+            }
             Wish::Page(ask) => {
                 let answer = self.page(rt, desk, journal, &head, &ask)?;
                 self.answer(rt, at, answer, only_head)

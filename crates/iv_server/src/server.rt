@@ -8,7 +8,7 @@ use iv_audit::Share;
 use iv_desk::Desk;
 use iv_host::{Counts, FileJournal, Log, TokenFile, Why, raise};
 use iv_running::Fault;
-use iv_running::calls::settle;
+use iv_running::calls::{close, settle};
 use mio::event::Event;
 use mio::net::{TcpListener, TcpStream};
 use mio::{Events, Interest, Poll, Token};
@@ -58,6 +58,8 @@ pub struct Server {
     pub(crate) inside: usize,
     /// How many clients are there by each token.
     pub(crate) by_token: ByToken,
+    /// Clients may come in.
+    pub(crate) open: bool,
     /// Somebody may wait to be accepted.
     pub(crate) accepting: bool,
     /// The next round is to come at once.
@@ -192,6 +194,7 @@ impl Server {
             shares: Vec::new(alloc),
             inside: 0,
             by_token: ByToken::new(alloc),
+            open: true,
             accepting: false,
             again: false,
             swept: 0,
@@ -451,6 +454,56 @@ impl Server {
         ensures { Leads desk.old desk.new }
     {
         self.admission.look(rt, desk, file)
+    }
+
+    /// Clients may come in.
+    pub fn open(&mut self) {
+        self.open = true;
+    }
+
+    /// The connection of a number is closed, if the desk has it.
+    fn close_at(&mut self, desk: &mut Desk, at: u32) -> Result<(), Fault>
+        ensures { Leads desk.old desk.new }
+    {
+        if self.kind(at) != Kind::Desk {
+            return Ok(());
+        }
+        close(desk, at, 1013, b"The log is not followed now.")?;
+        self.asked.push(at)?;
+        Ok(())
+    }
+
+    /// No client may come in, and who is there is closed.
+    ///
+    /// # Errors
+    /// `Memory` if a growth of memory was refused.
+    pub fn shut(&mut self, desk: &mut Desk) -> Result<(), Fault>
+        ensures { Leads desk.old desk.new }
+    {
+        if !self.open {
+            return Ok(());
+        }
+        self.open = false;
+        for at in 0..self.most {
+            self.close_at(desk, at)?;
+        }
+        Ok(())
+    }
+
+    /// No client may come in until that is said, and none is there.
+    pub fn keep_shut(&mut self) {
+        self.open = false;
+    }
+
+    /// The entries that were made since the last of somebody were made by nobody who is here.
+    ///
+    /// # Errors
+    /// `Memory` if a growth of memory was refused.
+    pub fn share_none(&mut self, desk: &Desk) -> Result<(), Fault> {
+        let end = desk.entered().len();
+        let holder = String::new(self.alloc);
+        self.shares.push(Share { end, holder })?;
+        Ok(())
     }
 
     /// Takes in what the events bring, has the journal keep it, and then sends what may be sent.
