@@ -1,10 +1,11 @@
 """What comes of what a keeper says, written from docs/LOG.md and docs/PROTOCOL.md alone: what is shared, by dictionaries of rows and rights, what each
-client is told of a step, and the words of each fault."""
+client is told of a step, and the words of each fault. And what keepers say, of which some is damaged."""
 import collections
 import copy
 import dataclasses
 import hashlib
 import json
+import random
 import re
 from typing import Any
 
@@ -14,6 +15,13 @@ Request = dict[str, Any]
 PRIVILEGES = ("select", "insert", "update", "delete")
 COLUMNS = [["id", "int"], ["who", "text"]]
 POLICIES = ("true", "who = current_user", "id < 30")
+ROLES = ("ann", "bob", "mia")
+GROUPS = ("crew", "team")
+TABLES, VIEWS = ("notes", "tasks"), ("counts", "sums")
+EPOCH = "0123456789abcdef" * 2
+SECRET = "".join(map(chr, range(35, 92)))  # as it is, with what other forms would escape
+SHOWN = b'{"secret":"%s"}' % SECRET.encode()
+BEGIN, GO_ON = (b'{"%s":"example","epoch":"%s"}' % (word, EPOCH.encode()) for word in (b"begin", b"go_on"))
 MOST_LINE, MOST_LINES, MOST_BYTES = 130_816, 1_048_576, 268_435_456
 
 
@@ -396,3 +404,117 @@ class Door:
 
 def digest_of(request: bytes) -> str:
     return hashlib.sha256(request).hexdigest()
+
+
+# ---- what is said
+
+class Makes:
+    """Entries, of which most are accepted, as texts that the door knows then."""
+
+    def __init__(self, door: Door, dice: random.Random):
+        self.door, self.dice, self.count = door, dice, 0
+
+    def row(self) -> list[int | str]:
+        return [self.dice.choice([self.dice.randrange(60), -(1 << 63), (1 << 63) - 1]), self.dice.choice([*ROLES, "", "é\u2028\U0001f600", '"\\', "x" * 300])]
+
+    def write(self, shared: Shared) -> Request:
+        entries = []
+        for _ in range(self.dice.choice([1, 1, 1, 2, 5, 30])):
+            on = self.dice.choice([name for name, it in shared.relations.items() if not it.over] or ["notes"])
+            rows = shared.relations[on].rows if on in shared.relations else {}
+            there = [[*row] for row in rows] or [self.row()]
+            kind = self.dice.choice(["insert", "insert", "delete", "update"]) if rows else "insert"
+            old = self.dice.choice(there)
+            it: Request = {"on": on, kind: {"insert": self.row(), "delete": old, "update": [old, self.row()]}[kind]}
+            if self.dice.random() < 0.1:
+                it["copies"] = self.dice.randrange(1, 4)
+            entries.append(it)
+        return {"do": "write", "entries": entries}
+
+    def request(self, shared: Shared) -> Request:
+        dice = self.dice
+        on, to, who = dice.choice([*TABLES, *VIEWS]), dice.choice([*ROLES, *GROUPS, "public"]), dice.choice([*ROLES, *GROUPS])
+        table, name = dice.choice(TABLES), f"p{dice.randrange(3)}"
+        choice = dice.random()
+        if choice < 0.55:
+            return self.write(shared)
+        if choice < 0.75:
+            return {"do": dice.choice(["grant", "grant", "revoke"]), "on": on, "privileges": dice.sample(PRIVILEGES, dice.randrange(1, 4)), "to": to}
+        if choice < 0.82:
+            return {"do": dice.choice(["grant_role", "revoke_role"]), "role": dice.choice(GROUPS), "to": who}
+        if choice < 0.88:
+            return {"do": "row_security", "on": table, "enable": dice.random() < 0.6, "force": dice.random() < 0.3}
+        if choice < 0.93:
+            return {"do": "create_policy", "on": table, "name": name, "using": dice.choice(POLICIES)}
+        if choice < 0.95:
+            return {"do": "drop_policy", "on": table, "name": name}
+        if choice < 0.97:
+            return {"do": "create_table", "name": table, "owner": who, "columns": [["id", "int"], ["who", "text"]]}
+        if choice < 0.99:
+            return {"do": "create_view", "name": dice.choice(VIEWS), "owner": who, "query": f"select who, count(*) as n from {table} group by who"}
+        return {"do": "create_role", "name": who}
+
+    def text(self, role: str, request: Request) -> bytes:
+        """Its line, in some form of JSON."""
+        dice, form = self.dice, self.dice.random()
+        items = [*request.items()]
+        if form < 0.2:
+            dice.shuffle(items)
+        said = json.dumps(dict(items), ensure_ascii=form < 0.3, separators=(",", ":") if form < 0.8 else (" ,\t", " : "))
+        line = b'{"as":"%s",%s' % (role.encode(), said[1:].encode())
+        self.door.entries[line] = role, request
+        return line
+
+    def entries(self, count: int, wrong: float) -> list[bytes]:
+        """Lines of entries of which none is refused, but for a few."""
+        after, lines = self.door.shared.copied(), list[bytes]()
+        while len(lines) < count:
+            role, request = self.dice.choice(["admin", "admin", "admin", *ROLES]), self.request(after)
+            trial = after.copied()
+            try:
+                trial.do(role, request)
+                after = trial
+            except Refused:
+                if self.dice.random() > wrong:
+                    continue
+            lines.append(self.text(role, request))
+        return lines
+
+    def named(self, epoch: str) -> list[bytes]:
+        """Lines of names, which have no answer yet."""
+        lines, more = [], dict[str, int]()
+        for _ in range(self.dice.choice([0, 0, 0, 1, 3])):
+            role = self.dice.choice(ROLES)
+            self.count += 1
+            count = self.door.shared.count(role) + more.get(role, 0)
+            more[role] = more.get(role, 0) + 1
+            asked = text_of({"do": "write", "entries": [{"on": "notes", "insert": [self.count, role]}]}).encode()
+            is_done = self.dice.random() < 0.7
+            answer = '{"ok":true}' if is_done else '{"error":13,"on":"notes","privilege":"insert"}'
+            it = Name(f"n{self.count:021}", f"{epoch}.{self.dice.randrange(max(0, count - 64), count + 1)}", digest_of(asked), answer)
+            line = text_of({"once": it.name, "at": it.at, "by": f"{role}/", "digest": it.digest, "done" if is_done else "refused": json.loads(answer)}).encode()
+            self.door.entries[line] = role, it
+            lines.append(line)
+        return lines
+
+
+HUGE = [b"0", b"00", b"1", b"-1", b"01", b"1.0", b"1e3", b"18446744073709551615", b"18446744073709551616", b"9" * 100, b"", b" 1", b"0x1", b"\xd9\xa1"]
+
+
+def damaged(dice: random.Random, lines: list[bytes], position: int) -> list[bytes]:
+    """Lines as nobody would say them. What becomes of an entry whose text is damaged is known: it is none."""
+    at = dice.randrange(len(lines))
+    line, before, behind = lines[at], lines[:at], lines[at + 1:]
+    cut = dice.randrange(len(line))
+    other = dice.choice([b"x" * 5, b"", b"\x00", b"{", b'{"as":"', b'{"as":"admin"}', b'{"once":"', b'{"open": true}', b'{"open":true} ', b'{"Open":true}', b'{"recall":false}',
+                         b'{"recall":true}', BEGIN, GO_ON, GO_ON.replace(b"0", b"1", 1), GO_ON.replace(b"example", b"sample"), SHOWN,
+                         b'{"as":"admin","do":"subscribe","on":"notes"}', b'{"as":"admin","do":"create_role","name":"zoe","id":7}', b'{"as":"admin","id":7,"do":"create_role","name":"zoe"}',
+                         b'{"as":"Admin","do":"create_role","name":"zoe"}', b'{"as":"admin","session":1,"do":"create_role","name":"zoe"}', b'{"as":"admin","do":"begin","role":"ann"}',
+                         b'{"as":"admin",,"do":"create_role","name":"zoe"}', b'{"as":"admin","do":"write","entries":[]}', b'{"as":"admin","do":"create_role","name":"zoe"}x',
+                         b'{"from":%d,"step":%d}' % (position + 1, position + 9), b'{"from":%d,"step":%d}' % (position + 3, position + 2), b'{"step":1,"from":0}',
+                         b'{"from":%s,"step":%s}' % (dice.choice(HUGE), dice.choice(HUGE)), b'{"as":"admin",' + b" " * 130_802, b'{"as":"admin",' + b" " * 130_803, b"y" * 140_000])
+    return {"cut": lambda: [*before, line[:cut], *behind], "doubled": lambda: [*before, line, line, *behind], "lost": lambda: before + behind,
+            "exchanged": lambda: behind[:1] + [line] + behind[1:] if not before else [*before[:-1], line, before[-1], *behind],
+            "in two": lambda: [*before, line[:cut], line[cut:], *behind], "in one": lambda: [*before, line + b"".join(behind[:1]), *behind[1:]],
+            "a byte": lambda: [*before, line[:cut] + dice.choice([b"\xff", b"\x00", b"\x01"]) + line[cut + 1:], *behind],
+            "another": lambda: [*before, other, line, *behind]}[dice.choice(["cut", "doubled", "lost", "exchanged", "in two", "in one", "a byte", "another", "another"])]()

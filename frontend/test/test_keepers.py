@@ -5,7 +5,6 @@ with what the model of `keepers.py` says.
 
 What fails prints its seed, by which KEEPERS makes the same again."""
 import contextlib
-import json
 import os
 import pathlib
 import random
@@ -22,19 +21,12 @@ from collections.abc import Callable, Iterator
 
 import pytest
 
-from keepers import POLICIES, PRIVILEGES, Door, Fault, Name, Request, Seat, Shared, digest_of, text_of
+from keepers import BEGIN, EPOCH, GO_ON, GROUPS, MOST_LINES, ROLES, SECRET, SHOWN, TABLES, VIEWS, Door, Fault, Makes, Seat, damaged, digest_of, text_of
 from ports import free_port
 from wire import PATIENCE, PROGRAM, Ended, Wire, digest, http
 
-EPOCH = "0123456789abcdef" * 2
-SECRET = "".join(map(chr, range(35, 92)))  # as it is, with what other forms would escape
-SHOWN = b'{"secret":"%s"}' % SECRET.encode()
-ROLES = ("ann", "bob", "mia")
-GROUPS = ("crew", "team")
-TABLES, VIEWS = ("notes", "tasks"), ("counts", "sums")
 ON_DISK = re.compile(rb'\{"on_disk":(\d+)\}')
 GONE = b"The log is not followed now."
-BEGIN, GO_ON = (b'{"%s":"example","epoch":"%s"}' % (word, EPOCH.encode()) for word in (b"begin", b"go_on"))
 
 
 class Way:
@@ -148,9 +140,6 @@ def here() -> Iterator[pathlib.Path]:
         yield pathlib.Path(folder)
 
 
-TOLD: dict[str, int] = {}
-
-
 class Viewer:
     """A client, and what the model owes it."""
 
@@ -172,9 +161,6 @@ class Viewer:
             position, owed = self.seat.owed.pop(0)
             assert in_order(self.part) == owed, (position, self.seat.role, [it for it in in_order(self.part) if it not in owed], [it for it in owed if it not in self.part])
             self.part, self.seen = [], position
-            for line in owed:
-                what = "changes ended" if '"ended"' in line else line[2:line.index('"', 2)]
-                TOLD[what] = TOLD.get(what, 0) + 1
 
     def takes_all(self) -> None:
         """All that it is owed comes."""
@@ -212,120 +198,6 @@ def in_order(lines: list[str]) -> list[str]:
     return front + sorted(changes) + rest
 
 
-class Makes:
-    """Entries, of which most are accepted, as texts that the door knows then."""
-
-    def __init__(self, door: Door, dice: random.Random):
-        self.door, self.dice, self.count = door, dice, 0
-
-    def row(self) -> list[int | str]:
-        return [self.dice.choice([self.dice.randrange(60), -(1 << 63), (1 << 63) - 1]), self.dice.choice([*ROLES, "", "é\u2028\U0001f600", '"\\', "x" * 300])]
-
-    def write(self, shared: Shared) -> Request:
-        entries = []
-        for _ in range(self.dice.choice([1, 1, 1, 2, 5, 30])):
-            on = self.dice.choice([name for name, it in shared.relations.items() if not it.over] or ["notes"])
-            rows = shared.relations[on].rows if on in shared.relations else {}
-            there = [[*row] for row in rows] or [self.row()]
-            kind = self.dice.choice(["insert", "insert", "delete", "update"]) if rows else "insert"
-            old = self.dice.choice(there)
-            it: Request = {"on": on, kind: {"insert": self.row(), "delete": old, "update": [old, self.row()]}[kind]}
-            if self.dice.random() < 0.1:
-                it["copies"] = self.dice.randrange(1, 4)
-            entries.append(it)
-        return {"do": "write", "entries": entries}
-
-    def request(self, shared: Shared) -> Request:
-        dice = self.dice
-        on, to, who = dice.choice([*TABLES, *VIEWS]), dice.choice([*ROLES, *GROUPS, "public"]), dice.choice([*ROLES, *GROUPS])
-        table, name = dice.choice(TABLES), f"p{dice.randrange(3)}"
-        choice = dice.random()
-        if choice < 0.55:
-            return self.write(shared)
-        if choice < 0.75:
-            return {"do": dice.choice(["grant", "grant", "revoke"]), "on": on, "privileges": dice.sample(PRIVILEGES, dice.randrange(1, 4)), "to": to}
-        if choice < 0.82:
-            return {"do": dice.choice(["grant_role", "revoke_role"]), "role": dice.choice(GROUPS), "to": who}
-        if choice < 0.88:
-            return {"do": "row_security", "on": table, "enable": dice.random() < 0.6, "force": dice.random() < 0.3}
-        if choice < 0.93:
-            return {"do": "create_policy", "on": table, "name": name, "using": dice.choice(POLICIES)}
-        if choice < 0.95:
-            return {"do": "drop_policy", "on": table, "name": name}
-        if choice < 0.97:
-            return {"do": "create_table", "name": table, "owner": who, "columns": [["id", "int"], ["who", "text"]]}
-        if choice < 0.99:
-            return {"do": "create_view", "name": dice.choice(VIEWS), "owner": who, "query": f"select who, count(*) as n from {table} group by who"}
-        return {"do": "create_role", "name": who}
-
-    def text(self, role: str, request: Request) -> bytes:
-        """Its line, in some form of JSON."""
-        dice, form = self.dice, self.dice.random()
-        items = [*request.items()]
-        if form < 0.2:
-            dice.shuffle(items)
-        said = json.dumps(dict(items), ensure_ascii=form < 0.3, separators=(",", ":") if form < 0.8 else (" ,\t", " : "))
-        line = b'{"as":"%s",%s' % (role.encode(), said[1:].encode())
-        self.door.entries[line] = role, request
-        return line
-
-    def entries(self, count: int, wrong: float) -> list[bytes]:
-        """Lines of entries of which none is refused, but for a few."""
-        after, lines = self.door.shared.copied(), list[bytes]()
-        while len(lines) < count:
-            role, request = self.dice.choice(["admin", "admin", "admin", *ROLES]), self.request(after)
-            trial = after.copied()
-            try:
-                trial.do(role, request)
-                after = trial
-            except (ValueError, KeyError, IndexError):
-                raise
-            except Exception:
-                if self.dice.random() > wrong:
-                    continue
-            lines.append(self.text(role, request))
-        return lines
-
-    def named(self, epoch: str) -> list[bytes]:
-        """Lines of names, which have no answer yet."""
-        lines, more = [], dict[str, int]()
-        for _ in range(self.dice.choice([0, 0, 0, 1, 3])):
-            role = self.dice.choice(ROLES)
-            self.count += 1
-            count = self.door.shared.count(role) + more.get(role, 0)
-            more[role] = more.get(role, 0) + 1
-            asked = text_of({"do": "write", "entries": [{"on": "notes", "insert": [self.count, role]}]}).encode()
-            is_done = self.dice.random() < 0.7
-            answer = '{"ok":true}' if is_done else '{"error":13,"on":"notes","privilege":"insert"}'
-            it = Name(f"n{self.count:021}", f"{epoch}.{self.dice.randrange(max(0, count - 64), count + 1)}", digest_of(asked), answer)
-            line = text_of({"once": it.name, "at": it.at, "by": f"{role}/", "digest": it.digest, "done" if is_done else "refused": json.loads(answer)}).encode()
-            self.door.entries[line] = role, it
-            lines.append(line)
-        return lines
-
-
-HUGE = [b"0", b"00", b"1", b"-1", b"01", b"1.0", b"1e3", b"18446744073709551615", b"18446744073709551616", b"9" * 100, b"", b" 1", b"0x1", b"\xd9\xa1"]
-
-
-def damaged(dice: random.Random, lines: list[bytes], position: int) -> list[bytes]:
-    """Lines as nobody would say them. What becomes of an entry whose text is damaged is known: it is none."""
-    at = dice.randrange(len(lines))
-    line, before, behind = lines[at], lines[:at], lines[at + 1:]
-    cut = dice.randrange(len(line))
-    other = dice.choice([b"x" * 5, b"", b"\x00", b"{", b'{"as":"', b'{"as":"admin"}', b'{"once":"', b'{"open": true}', b'{"open":true} ', b'{"Open":true}', b'{"recall":false}',
-                         b'{"recall":true}', BEGIN, GO_ON, GO_ON.replace(b"0", b"1", 1), GO_ON.replace(b"example", b"sample"), SHOWN,
-                         b'{"as":"admin","do":"subscribe","on":"notes"}', b'{"as":"admin","do":"create_role","name":"zoe","id":7}', b'{"as":"admin","id":7,"do":"create_role","name":"zoe"}',
-                         b'{"as":"Admin","do":"create_role","name":"zoe"}', b'{"as":"admin","session":1,"do":"create_role","name":"zoe"}', b'{"as":"admin","do":"begin","role":"ann"}',
-                         b'{"as":"admin",,"do":"create_role","name":"zoe"}', b'{"as":"admin","do":"write","entries":[]}', b'{"as":"admin","do":"create_role","name":"zoe"}x',
-                         b'{"from":%d,"step":%d}' % (position + 1, position + 9), b'{"from":%d,"step":%d}' % (position + 3, position + 2), b'{"step":1,"from":0}',
-                         b'{"from":%s,"step":%s}' % (dice.choice(HUGE), dice.choice(HUGE)), b'{"as":"admin",' + b" " * 130_802, b'{"as":"admin",' + b" " * 130_803, b"y" * 140_000])
-    return {"cut": lambda: [*before, line[:cut], *behind], "doubled": lambda: [*before, line, line, *behind], "lost": lambda: before + behind,
-            "exchanged": lambda: behind[:1] + [line] + behind[1:] if not before else [*before[:-1], line, before[-1], *behind],
-            "in two": lambda: [*before, line[:cut], line[cut:], *behind], "in one": lambda: [*before, line + b"".join(behind[:1]), *behind[1:]],
-            "a byte": lambda: [*before, line[:cut] + dice.choice([b"\xff", b"\x00", b"\x01", b"\r"][:3]) + line[cut + 1:], *behind],
-            "another": lambda: [*before, other, line, *behind]}[dice.choice(["cut", "doubled", "lost", "exchanged", "in two", "in one", "a byte", "another", "another"])]()
-
-
 class Play:
     """Lives of a gateway, its keepers and its clients, by a seed."""
 
@@ -346,13 +218,15 @@ class Play:
         told, self.way = self.told_disk, self.gate.way()
         line = self.way.line()
         assert line, self.gate.said()
+        self.all_end({1013})
+        assert self.gate.ready() in (503, 0), "clients may come in"
         found = re.search(rb'"position":(\d+)', line)
         position = int(found[1]) if found else 0
         assert position in self.may and position >= told, (position, sorted(self.may), told)
         assert self.seen <= position, (self.seen, position)
         self.door.comes_back(position)
         assert line == self.door.hello()
-        self.told_disk, self.may, self.ends, self.disks = position, {position}, 0, 0
+        self.told_disk, self.may, self.disks = position, {position}, 0
         self.says(self.beginning())
         self.mark()
 
@@ -374,21 +248,16 @@ class Play:
         """Says lines, in some pieces, and hears what the door says of them. Raises Fault, once that was told."""
         words: Fault | None = None
         recalled = list[bytes]()
-        count = 0
         for line in lines:
-            count += 1
             try:
                 kind = self.door.hears(line)
             except Fault as why:
                 words = why
                 break
             self.may.add(self.door.position)
-            self.ends += kind == "ends"
             self.disks += kind == "ends"
             if kind == "recall":
                 recalled += self.door.recalled()
-            if kind == "shut":
-                self.is_shut = True
         self.sends(b"".join(line + b"\n" for line in lines))
         for line in recalled:
             assert self.way.line() == line
@@ -502,7 +371,8 @@ class Play:
     def asks(self) -> None:
         """A client asks something."""
         if not self.viewers:
-            return self.enters()
+            self.enters()
+            return
         self.mark()
         it, dice, shared = self.dice.choice(self.viewers), self.dice, self.door.shared
         seat, self.asked = it.seat, self.asked + 1
@@ -570,12 +440,10 @@ class Play:
             assert self.gate.process.wait(PATIENCE) == 0
             self.all_end({1013, None})
             return False
-        if is_hard and RESETS:
-            self.shows_others(1)
-        else:
+        if not is_hard:  # else the next one is there by the time that this is seen
             self.gate.until(lambda: self.gate.ready() == 503, "clients may come in")
-        self.all_end({1013})
-        self.shows_others(self.dice.choice([0, 1, 5]))
+            self.all_end({1013})
+            self.shows_others(self.dice.choice([0, 1, 5]))
         return True
 
     def shows_others(self, count: int) -> None:
@@ -597,11 +465,13 @@ class Play:
         """A gateway begins, and ends by some way."""
         self.gate = Program(self.here, self.dice.random() < 0.5)
         self.seen = max((it.seen for it in self.viewers), default=self.seen)
+        acts: dict[Callable[[], object], int] = {
+            self.brings: 40, self.brings_again: 4, self.opens: 10, self.shuts: 2, self.enters: 15, self.asks: 30, self.leaves: 3, self.intrudes: 2, self.damages: 1,
+            self.goes: 2, self.dies: 1}
         try:
             self.comes()
             for _ in range(count):
-                act = self.dice.choices([self.brings, self.brings_again, self.opens, self.shuts, self.enters, self.asks, self.leaves, self.intrudes, self.damages, self.goes, self.dies],
-                                        [40, 4, 10, 2, 15, 30, 3, 2, 1, 2, 1])[0]
+                act = self.dice.choices([*acts], [*acts.values()])[0]
                 if act() is False:
                     return
                 if act == self.goes:
@@ -641,13 +511,10 @@ class Play:
 
     def run(self, seconds: float) -> None:
         end = time.monotonic() + seconds
-        self.told_disk, self.may, self.seen, self.is_shut = 0, {0}, 0, False
+        self.told_disk, self.may, self.seen = 0, {0}, 0
         while time.monotonic() < end:
             self.life(self.dice.choice([3, 10, 40, 150]))
             self.counts("lives")
-
-
-RESETS = os.environ.get("RESETS", "yes") == "yes"
 
 
 def test_what_nobody_would_say(here: pathlib.Path, seconds: float) -> None:
@@ -670,3 +537,45 @@ def test_what_nobody_would_say(here: pathlib.Path, seconds: float) -> None:
             tally[what] = tally.get(what, 0) + count
         seed += 1
     print(f"{tally}, to KEEPERS={seed - 1}")
+
+
+def opened(gate: Program) -> tuple[Way, int]:
+    """One whose log has begun, with its keeper, and where it stands."""
+    way = gate.way()
+    way.say(BEGIN + b'\n{"as":"admin","do":"create_role","name":"mia"}\n{"from":0,"step":1}\n')
+    while way.line() != b'{"on_disk":1}':
+        pass
+    return way, 1
+
+
+def test_what_is_said_may_come_in_any_pieces(here: pathlib.Path) -> None:
+    gate = Program(here, True)
+    way, position = opened(gate)
+    at = 0
+    while True:
+        assert way.connection
+        way.connection.shutdown(socket.SHUT_WR)
+        while way.line():
+            pass
+        way.close()
+        entry = b'{"as":"admin","do":"revoke_role","role":"mia","to":"mia"}'
+        said = b"\n".join([SHOWN, GO_ON, entry, b'{"from":%d,"step":%d}' % (position, position + 1), b""])
+        at, position = at + 1, position + 1
+        if at == len(said):
+            break
+        way = connected(gate.door)
+        way.say(said[:at])
+        time.sleep(0.001)
+        way.say(said[at:])
+        assert (way.line() or b"").startswith(b'{"door":1,')
+        assert way.line() == b'{"on_disk":%d}' % position
+    gate.kill()
+
+
+@pytest.mark.parametrize("more, words", [(0, "line 1 of step 2 is no entry"), (1, "a step is too long")])
+def test_a_step_has_so_many_lines_at_most(more: int, words: str, here: pathlib.Path) -> None:
+    gate = Program(here)
+    way, _ = opened(gate)
+    way.say(b'{"as":"\n' * (MOST_LINES + more) + b'{"from":1,"step":2}\n')
+    assert way.line() == b'{"fault":"%s"}' % words.encode()
+    assert gate.process.wait(PATIENCE) == 4
