@@ -1,6 +1,6 @@
-//! The desk's calls as the program makes them: each leads from a run to a run.
+//! The desk's calls as the program makes them: what is behind each goes on from what was before it.
 //!
-//! So after each of them all holds that `browsers_are_told_their_views` of iv_desk says of runs.
+//! So after each of them all holds that `browsers_are_told_their_views` of iv_desk says of runs (`runs_lead_on`).
 ghost use Rattle.std.specs.Prelude.{◌≡◌, ℕ, IfOk, None, OnOk, false, true};
 ghost use Rattle.iv_rows.specs.RowLimit.{IsRowLimit};
 ghost use Rattle.iv_arrivals.specs.Reads.{step_in};
@@ -10,7 +10,7 @@ ghost use Rattle.iv_gateway.specs.Views.{IsHead};
 ghost use Rattle.iv_gateway.specs.Waiting.{WaitsWithin};
 ghost use Rattle.iv_desk.specs.Desks.{IsDesk};
 ghost use Rattle.iv_desk.specs.Front.{Front, by_event, may_tell};
-ghost use Rattle.iv_running.specs.Running.{IsFollowed, IsNew, IsRunning, Leads, most_told};
+ghost use Rattle.iv_running.specs.Running.{IsFollowed, IsNew, IsRunning, Leads, RunsLeadOn, most_told};
 
 use crate::fault::Fault;
 use iv_arrivals::{Log, Step, read_step};
@@ -23,6 +23,13 @@ use iv_gateway::{Gateway, Head, Journal, RestoreFault, StepFault};
 use iv_journal::Line;
 use json::Scratch;
 use std::alloc::{AllocError, Global};
+
+/// What comes of a desk to which a run has led is one to which a run has led.
+pub fn runs_lead_on()
+    ensures { RunsLeadOn }
+{
+    calls_lead_from_runs_to_runs();
+}
 
 /// Bytes that wait for the journal, at most, before one more socket is read in a round: 16 MiB.
 const MOST_TOLD: u64 = 16_777_216;
