@@ -90,7 +90,7 @@ fn example(alloc: Global) -> Result<Log, AllocError> {
 }
 
 /// Appends what is heard by an act.
-fn push_act(alloc: Global, out: &mut Vec<u8>, talk: &mut Talk, act: Act) -> Result<(), AllocError> {
+fn push_act(alloc: Global, out: &mut Vec<u8>, act: &Act) -> Result<(), AllocError> {
     let word = match act {
         Act::Begun => "begun ",
         Act::GoneOn => "gone_on ",
@@ -98,8 +98,8 @@ fn push_act(alloc: Global, out: &mut Vec<u8>, talk: &mut Talk, act: Act) -> Resu
         Act::Brought => "brought ",
         Act::Opened => "opened ",
         Act::Shut => "shut ",
-        Act::Ended(from, to) => {
-            let count = talk.take_texts().len();
+        Act::Ended(from, to, texts) => {
+            let count = texts.len();
             let text = format!(in alloc; "ended {from} {to} {count} ")?;
             out.extend_from_slice(text.as_bytes())?;
             return Ok(());
@@ -114,7 +114,7 @@ fn push_heard(alloc: Global, out: &mut Vec<u8>, talk: &mut Talk) -> Result<bool,
     for _ in 0..64 {
         match talk.hear() {
             Ok(None) => return Ok(true),
-            Ok(Some(act)) => push_act(alloc, out, talk, act)?,
+            Ok(Some(act)) => push_act(alloc, out, &act)?,
             Err(fault) => {
                 push_words(out, &fault)?;
                 return Ok(false);
