@@ -1,14 +1,14 @@
 //! `ByToken`: how many clients are there by each token, so that one who comes costs a look and no walk over all.
-ghost use Rattle.std.specs.Prelude.{◌≡◌, ◌+◌, ◌-◌, ℕ, IfOk, OnOk};
+ghost use Rattle.std.specs.Prelude.{◌≡◌, ◌+◌, ◌-◌, ℕ, IfOk, OnOk, nat_lt};
 ghost use Rattle.std.specs.Global.{Vec};
-ghost use Rattle.iv_server.specs.ByToken.{are_of, with_count};
+ghost use Rattle.iv_admission.specs.ByToken.{are_by, are_of, with_count};
 
 use std::alloc::{AllocError, Global};
 use std::collections::BTreeMap;
 
 /// How many clients are there by each token.
 #[derive(Drop)]
-pub(crate) struct ByToken {
+pub struct ByToken {
     /// The allocator of what it makes.
     alloc: Global,
     /// How many, by the SHA-256 of their token.
@@ -17,7 +17,7 @@ pub(crate) struct ByToken {
 
 impl ByToken {
     /// Nobody.
-    pub(crate) fn new(alloc: Global) -> ByToken
+    pub fn new(alloc: Global) -> ByToken
         ensures { (q : Vec ℕ) → are_of result.counts q ≡ 0 }
     {
         ByToken {
@@ -28,12 +28,20 @@ impl ByToken {
 
     /// How many are there by a token.
     fn by(&self, digest: &[u8]) -> usize
-        ensures { (q : Vec ℕ) → q.items ≡ digest.now → result ≡ are_of self.now.counts q }
+        ensures are { result ≡ are_by self.now.counts digest.now }
+        ensures same { (q : Vec ℕ) → q.items ≡ digest.now → result ≡ are_of self.now.counts q }
     {
         match self.counts.get(digest) {
             Some(count) => *count,
             None => 0,
         }
+    }
+
+    /// Whether one is there by a token.
+    pub fn has(&self, digest: &[u8]) -> bool
+        ensures { result ≡ nat_lt 0 (are_by self.now.counts digest.now) }
+    {
+        self.by(digest) > 0
     }
 
     /// So many are there by a token from now on.
@@ -54,7 +62,7 @@ impl ByToken {
     ///
     /// # Errors
     /// `AllocError` if a growth of memory was refused.
-    pub(crate) fn come(&mut self, digest: &[u8]) -> Result<usize, AllocError>
+    pub fn come(&mut self, digest: &[u8]) -> Result<usize, AllocError>
         ensures count { IfOk result (λ n. (q : Vec ℕ) → are_of self.new.counts q ≡ with_count digest.now n self.old.counts q) }
         ensures more { IfOk result (λ n. (q : Vec ℕ) → q.items ≡ digest.now → n ≡ are_of self.old.counts q + 1) }
     {
@@ -69,7 +77,7 @@ impl ByToken {
     ///
     /// # Errors
     /// As of `come`.
-    pub(crate) fn go(&mut self, digest: &[u8]) -> Result<(), AllocError>
+    pub fn go(&mut self, digest: &[u8]) -> Result<(), AllocError>
         ensures { OnOk result ((q : Vec ℕ) → are_of self.new.counts q ≡ with_count digest.now (are_of self.old.counts q - 1) self.old.counts q) }
     {
         let count = self.by(digest).saturating_sub(1);
