@@ -1,12 +1,14 @@
 //! `Admission`: the tokens that the desk is to know, as far as a second says, and web tokens that are presented.
-ghost use Rattle.std.specs.Prelude.{◌≡◌, ◌⊎◌, ◌≤◌, ℕ, Err, IfOk, List, None, Ok, OnOk, Some, codes, false, filter, if◌then◌else◌, length, map, option_map, true};
+ghost use Rattle.std.specs.Prelude.{◌≡◌, ◌⊎◌, ◌<◌, ◌≤◌, ◌+◌, ℕ, IfOk, List, None, Ok, OnOk, Some, codes, if◌then◌else◌, length, map, slice_get};
+ghost use Rattle.std.specs.List.{remove};
 ghost use Rattle.httparse.specs.Grammar.{ReadsRequest, RequestHead};
 ghost use Rattle.httparse.specs.Spans.{name_and_value};
 ghost use Rattle.iv_pages.specs.Asking.{field_in, most_fields, window};
 ghost use Rattle.iv_peer.specs.Socket.{fresh};
-ghost use Rattle.iv_tokens.specs.Web.{answer_by, handed_on, known_at, told};
+ghost use Rattle.iv_tokens.specs.Web.{handed_on, known_at, told};
+ghost use Rattle.iv_tokens.specs.Web.{Web as Seen};
 ghost use Rattle.iv_running.specs.Running.{Leads};
-ghost use Rattle.iv_admission.specs.Admitting.{IsBegun, IsHanded, IsSameBut, IsToldOf, answer_beside, answer_for, in_use, is_in_use, opens_admin, tokens_of};
+ghost use Rattle.iv_admission.specs.Admitting.{IsBegun, IsHanded, IsSameBut, IsToldOf, answer_for, in_use, is_in_use, opens_admin, tokens_of};
 ghost use Rattle.iv_admission.specs.ByToken.{are_by};
 
 use crate::by_token::ByToken;
@@ -49,8 +51,8 @@ fn first_handed(
     second: u64,
 ) -> Result<Vec<Token>, AllocError>
     requires { known.old.handed ≡ None }
-    ensures tokens { IfOk result (λ ts. ts.items ≡ known_at second known.old) }
-    ensures handed { OnOk result (handed_on known.new ≡ Some (known_at second known.old)) }
+    ensures tokens { IfOk result (λ ts. ts.items ≡ known_at second known.new) }
+    ensures handed { OnOk result (handed_on known.new ≡ Some (known_at second known.new)) }
     ensures keeps { (known.new.entries ≡ known.old.entries) × (known.new.web ≡ known.old.web) }
 {
     match known.at(alloc, second)? {
@@ -162,13 +164,25 @@ impl Admission {
         one.until > self.second && self.by_token.has(&one.token.digest)
     }
 
-    /// Forgets the web token of a place, if it is not in use.
-    fn forget_at(&mut self, at: usize) {
-        let is_kept = match self.known.web().get(at) {
+    /// Whether the web token of a place is in use.
+    fn is_kept(&self, at: usize) -> bool
+        ensures { (w : Seen) → slice_get self.now.known.web at ≡ Some w → result ≡ is_in_use self.now w }
+    {
+        match self.known.web().get(at) {
             None => true,
             Some(one) => self.is_in_use(one),
-        };
-        if !is_kept && at < self.known.web().len() {
+        }
+    }
+
+    /// Forgets the web token of a place, if it is not in use.
+    fn forget_at(&mut self, at: usize)
+        requires { at < length self.old.known.web }
+        ensures web { (w : Seen) → slice_get self.old.known.web at ≡ Some w
+            → self.new.known.web ≡ if is_in_use self.old w then self.old.known.web else remove self.old.known.web at }
+        ensures same { IsSameBut self.old self.new }
+        ensures handed { (self.new.known.handed ≡ None) ⊎ (self.new.known ≡ self.old.known) }
+    {
+        if !self.is_kept(at) {
             self.known.forget(at);
         }
     }

@@ -8,7 +8,7 @@ use std::collections::BTreeMap;
 
 /// How many clients are there by each token.
 #[derive(Drop)]
-pub struct ByToken {
+pub(crate) struct ByToken {
     /// The allocator of what it makes.
     alloc: Global,
     /// How many, by the SHA-256 of their token.
@@ -17,7 +17,7 @@ pub struct ByToken {
 
 impl ByToken {
     /// Nobody.
-    pub fn new(alloc: Global) -> ByToken
+    pub(crate) fn new(alloc: Global) -> ByToken
         ensures { (q : Vec ℕ) → are_of result.counts q ≡ 0 }
     {
         ByToken {
@@ -38,7 +38,7 @@ impl ByToken {
     }
 
     /// Whether one is there by a token.
-    pub fn has(&self, digest: &[u8]) -> bool
+    pub(crate) fn has(&self, digest: &[u8]) -> bool
         ensures { result ≡ nat_lt 0 (are_by self.now.counts digest.now) }
     {
         self.by(digest) > 0
@@ -62,9 +62,9 @@ impl ByToken {
     ///
     /// # Errors
     /// `AllocError` if a growth of memory was refused.
-    pub fn come(&mut self, digest: &[u8]) -> Result<usize, AllocError>
+    pub(crate) fn come(&mut self, digest: &[u8]) -> Result<usize, AllocError>
         ensures count { IfOk result (λ n. (q : Vec ℕ) → are_of self.new.counts q ≡ with_count digest.now n self.old.counts q) }
-        ensures more { IfOk result (λ n. (q : Vec ℕ) → q.items ≡ digest.now → n ≡ are_of self.old.counts q + 1) }
+        ensures more { IfOk result (λ n. n ≡ are_by self.old.counts digest.now + 1) }
     {
         let Some(count) = self.by(digest).checked_add(1) else {
             return Err(AllocError);
@@ -77,7 +77,7 @@ impl ByToken {
     ///
     /// # Errors
     /// As of `come`.
-    pub fn go(&mut self, digest: &[u8]) -> Result<(), AllocError>
+    pub(crate) fn go(&mut self, digest: &[u8]) -> Result<(), AllocError>
         ensures { OnOk result ((q : Vec ℕ) → are_of self.new.counts q ≡ with_count digest.now (are_of self.old.counts q - 1) self.old.counts q) }
     {
         let count = self.by(digest).saturating_sub(1);
