@@ -1,11 +1,13 @@
 -- Who comes to a port as a keeper, and by what it is one.
 use Rattle.std.specs.Prelude.{◌≡◌, ◌⊎◌, ◌<◌, ◌≤◌, ℕ, Bool, true, false, List, ◌++◌, bytes_eq, codes, length, Option, Some, None, option_map}
+use Rattle.iv_rows.specs.Options.{if_some}
 use Rattle.iv_records.specs.Cuts.{cut_at}
 use Rattle.iv_gate.specs.Gate.{Log}
 use Rattle.iv_door.specs.Talk.{at_start}
 use Rattle.iv_following.specs.Following.{said_log}
 use Rattle.iv_following.specs.declared.shown.Shown.{Shown}
 use Rattle.iv_following.specs.declared.shown.Shown.TheVariants.{Other, Part, Secret}
+use Rattle.iv_following.specs.declared.guest.Guest.{Guest}
 use Rattle.iv_following.specs.declared.guest.Stage.{Stage}
 use Rattle.iv_following.specs.declared.guest.Stage.TheVariants.{Known, Unknown}
 
@@ -33,3 +35,11 @@ IsGuest log line bytes (Unknown said until) stays (Known m) = (stays ≡ true) �
 IsGuest log line bytes (Unknown said until) true (Unknown more then) = (cut_at 10 (said.items ++ bytes) ≡ None) × (more.items ≡ said.items ++ bytes) × (then ≡ until)
 IsGuest log line bytes (Unknown said until) false (Unknown more then) = IsShown line (said.items ++ bytes) Other
 IsGuest log line bytes (Known k) stays (Unknown more then) = ⊥
+
+-- a keeper is there
+abbrev pub is_known : Stage → Bool
+is_known (Known k) = true
+is_known (Unknown said until) = false
+
+abbrev pub has_keeper : Option Guest → Bool
+has_keeper o = if_some o false (λ g. is_known g.stage)

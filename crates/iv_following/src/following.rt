@@ -1,5 +1,7 @@
 //! `Following`: the log that is followed, and who has come as its keeper.
+ghost use Rattle.std.specs.Prelude.{◌≡◌, OnOk, false};
 ghost use Rattle.iv_running.specs.Running.{Leads};
+ghost use Rattle.iv_following.specs.Guests.{has_keeper};
 
 use crate::guest::{Guest, Stage};
 use crate::keeper::{Keeper, Means};
@@ -143,7 +145,9 @@ impl Following {
     }
 
     /// Whether a keeper is there.
-    fn has_keeper(&self) -> bool {
+    fn has_keeper(&self) -> bool
+        ensures { result ≡ has_keeper self.now.guest }
+    {
         match &self.guest {
             Some(guest) => guest.is_keeper(),
             None => false,
@@ -152,7 +156,8 @@ impl Following {
 
     /// While no keeper is there, nobody is let in, and who is there goes.
     fn shut_without(&self, desk: &mut Desk, server: &mut Server) -> Result<(), Fault>
-        ensures { Leads desk.old desk.new }
+        ensures leads { Leads desk.old desk.new }
+        ensures shut { has_keeper self.now.guest ≡ false → server.new.open ≡ false }
     {
         if self.has_keeper() {
             return Ok(());
@@ -171,7 +176,9 @@ impl Following {
     }
 
     /// The next round is to come at once if something may be read now.
-    fn hurry(&mut self) {
+    fn hurry(&mut self)
+        ensures { self.new.guest ≡ self.old.guest }
+    {
         if let Some(guest) = &self.guest {
             if guest.is_read() {
                 self.again = true;
@@ -191,7 +198,8 @@ impl Following {
         poll: &Poll,
         events: &Events,
     ) -> Result<bool, Fault>
-        ensures { Leads desk.old desk.new }
+        ensures leads { Leads desk.old desk.new }
+        ensures shut { OnOk result (has_keeper self.new.guest ≡ false → server.new.open ≡ false) }
     {
         self.again = false;
         self.note(events);

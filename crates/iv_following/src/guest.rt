@@ -2,7 +2,7 @@
 ghost use Rattle.std.specs.Prelude.{◌≡◌, ◌++◌, IfOk, OnOk, Some, option_map};
 ghost use Rattle.iv_door.specs.Talk.{at_start};
 ghost use Rattle.iv_following.specs.Following.{said_log};
-ghost use Rattle.iv_following.specs.Guests.{IsGuest};
+ghost use Rattle.iv_following.specs.Guests.{IsGuest, is_known};
 
 use crate::keeper::{Keeper, Means};
 use crate::shown::{Shown, shown_in};
@@ -100,7 +100,9 @@ impl Guest {
     }
 
     /// Whether it is the keeper.
-    pub(crate) fn is_keeper(&self) -> bool {
+    pub(crate) fn is_keeper(&self) -> bool
+        ensures { result ≡ is_known self.now.stage }
+    {
         match &self.stage {
             Stage::Known(_) => true,
             Stage::Unknown(..) => false,

@@ -38,8 +38,8 @@ recalled-texts : (e : Entry) → flat_map recalled_by (texts_of e) ≡ flat_map 
 recalled-texts e =
     flat_map-append recalled_by (map request_text e.requests) (map name_text e.names ++ position_texts e.position)
     ∙ (ap (λ (z : List ℕ). flat_map recalled_by (map request_text e.requests) ++ z)
-        (flat_map-append recalled_by (map name_text e.names) (position_texts e.position)
-        ∙ (ap (λ (z : List ℕ). z ++ flat_map recalled_by (position_texts e.position)) (by_names e.names) ∙ by_position e.position))
+    (flat_map-append recalled_by (map name_text e.names) (position_texts e.position)
+    ∙ (ap (λ (z : List ℕ). z ++ flat_map recalled_by (position_texts e.position)) (by_names e.names) ∙ by_position e.position))
     ∙ (append-nil (flat_map recalled_by (map request_text e.requests)) ∙ by_requests e.requests))
 
 recalled-journal : (es : List Entry) → recalled_in (journal_of es) ≡ flat_map request_line (requests_in es)
