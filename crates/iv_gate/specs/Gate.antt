@@ -10,6 +10,7 @@ use Rattle.iv_rows.specs.Options.{if_some}
 use Rattle.iv_bind.specs.Catalogs.{columns_of, named}
 use Rattle.iv_access.specs.Privileges.{acts_as, has, role_of}
 use Rattle.iv_access.specs.Rights.{Name}
+use Rattle.iv_access.specs.declared.privilege.Privilege.{Privilege}
 use Rattle.iv_access.specs.declared.privilege.Privilege.TheVariants.{Select, Insert, Update, Delete}
 use Rattle.iv_machine.specs.Act.{Act, begin, finish, create_table, create_view, grant, grant_role, subscribe, unsubscribe, Command, Line, reply, Reply, done, subscribed, refused, limit, no_session, too_many, unknown_subscription}
 use Rattle.iv_machine.specs.Machine.{Outcome, step}
@@ -70,10 +71,16 @@ is_accepted done = true
 is_accepted (subscribed k) = true
 is_accepted (refused r) = false
 
+abbrev pub privileges : List Privilege
+privileges = Select ∷ Insert ∷ Update ∷ Delete ∷ []
+
+-- the role has the privilege on the relation
+abbrev pub has_on : Frame → Name → Privilege → Name → Bool
+has_on f role p rel = if_some (role_of f.rights role) false (λ r. if_some (named f.catalog rel) false (λ e. has f.rights r p e.rel))
+
 -- the role has some privilege on the relation
 abbrev pub has_some : Frame → Name → Name → Bool
-has_some f role rel = if_some (role_of f.rights role) false (λ r. if_some (named f.catalog rel) false (λ e.
-    list_any (λ p. has f.rights r p e.rel) (Select ∷ Insert ∷ Update ∷ Delete ∷ [])))
+has_some f role rel = if_some (role_of f.rights role) false (λ r. if_some (named f.catalog rel) false (λ e. list_any (λ p. has f.rights r p e.rel) privileges))
 
 -- the role is the other, or a member of it
 abbrev pub is_member : Frame → Name → Name → Bool

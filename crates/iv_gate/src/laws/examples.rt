@@ -2,16 +2,17 @@
 ghost use Rattle.std.specs.Prelude.{◌≡◌, ◌∷◌, [], None, Some, codes, true};
 ghost use Rattle.iv_machine.specs.Act.{not_administrator};
 ghost use Rattle.iv_machine.specs.declared.Cause.TheVariants as cause;
-ghost use Rattle.iv_message.specs.Told.{denied, over, settled, undecided};
+ghost use Rattle.iv_message.specs.Told.{denied, granted, over, settled, undecided};
 ghost use Rattle.iv_gate.specs.Arriving.{fault_of, gap, not_accepted, other_log, position, takes};
 ghost use Rattle.iv_gate.specs.Gate.{decides};
-ghost use Rattle.iv_gate.specs.Worked.{asks, both_rows, by_ann, done_and_told, foreign_step, is_done, later, notes, put, puts, reads_notes, reads_of, sums_made, taken, taken_and_given, taken_before, told_more, too_large, total, without_right, writes, wrote};
+ghost use Rattle.iv_gate.specs.Worked.{asks, both_rows, by_ann, done_and_told, foreign_step, given_again, is_done, later, notes, put, puts, reads_notes, reads_of, sums_made, taken, taken_and_given, taken_before, told_more, too_large, total, without_right, writes, wrote};
 
 /// By a step that takes a right, brings rows and gives it again, who reads is told the rows, once, and no end; where the right is not given
-/// again, the end, and no row.
+/// again, the end, and no row. If a later step gives it, that is told, though ann had the right to write.
 pub fn steps_are_told_once()
     ensures given { told_more reads_notes (takes reads_notes taken_and_given) ≡ both_rows }
     ensures taken { told_more reads_notes (takes reads_notes taken) ≡ over 1 notes cause.Privilege [] ∷ settled ∷ [] }
+    ensures given_again { told_more (takes reads_notes taken) (takes (takes reads_notes taken) given_again) ≡ granted notes ∷ settled ∷ [] }
 {}
 
 /// A view beyond the limits ends, and refuses nothing.
