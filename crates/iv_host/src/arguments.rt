@@ -218,8 +218,8 @@ fn port_in(text: &str) -> Option<u16>
     ensures none { result ≡ None → (n : ℕ) → ParsesUnsigned {E = Unit {0}} 16 10 text.now (Ok n) → 1 ≤ n → ⊥ }
 {
     match text.parse::<u16>() {
-        Ok(port) if port >= 1 => Some(port),
-        _ => None,
+        Ok(number) => { if number >= 1 { Some(number) } else { None } }
+        Err(_) => None,
     }
 }
 
