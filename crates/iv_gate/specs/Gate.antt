@@ -71,8 +71,8 @@ is_accepted done = true
 is_accepted (subscribed k) = true
 is_accepted (refused r) = false
 
-abbrev pub privileges : List Privilege
-privileges = Select ∷ Insert ∷ Update ∷ Delete ∷ []
+abbrev pub each_privilege : List Privilege
+each_privilege = Select ∷ Insert ∷ Update ∷ Delete ∷ []
 
 -- the role has the privilege on the relation
 abbrev pub has_on : Frame → Name → Privilege → Name → Bool
@@ -80,7 +80,7 @@ has_on f role p rel = if_some (role_of f.rights role) false (λ r. if_some (name
 
 -- the role has some privilege on the relation
 abbrev pub has_some : Frame → Name → Name → Bool
-has_some f role rel = if_some (role_of f.rights role) false (λ r. if_some (named f.catalog rel) false (λ e. list_any (λ p. has f.rights r p e.rel) privileges))
+has_some f role rel = if_some (role_of f.rights role) false (λ r. if_some (named f.catalog rel) false (λ e. list_any (λ p. has f.rights r p e.rel) each_privilege))
 
 -- the role is the other, or a member of it
 abbrev pub is_member : Frame → Name → Name → Bool
