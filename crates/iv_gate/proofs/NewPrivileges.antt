@@ -14,7 +14,7 @@ use Rattle.iv_access.specs.declared.privilege.Privilege.TheVariants.{Select, Ins
 use Rattle.iv_machine.specs.State.{Frame}
 use Rattle.iv_message.specs.Told.{Told, granted}
 use Rattle.iv_gate.specs.Arriving.{gains}
-use Rattle.iv_gate.specs.Gate.{has_on, has_some, privileges}
+use Rattle.iv_gate.specs.Gate.{each_privilege, has_on, has_some}
 use Rattle.iv_gate.proofs.FollowedNumbers.{AllByRecursion-Contains}
 
 -- ---- lists
@@ -96,11 +96,11 @@ pub has_some-gains : (before after : Frame) (role rel : Name) → gains before a
 has_some-gains before after role rel h = by (role_of after.rights role) (named after.catalog rel) (λ p. has_on before role p rel) h
   where
     by : (r : Option ℕ) (o : Option CatalogEntry) (had : Privilege → Bool)
-        → list_any (λ p. if_some r false (λ r. if_some o false (λ e. has after.rights r p e.rel)) && not (had p)) privileges ≡ true
-        → if_some r false (λ r. if_some o false (λ e. list_any (λ p. has after.rights r p e.rel) privileges)) ≡ true
+        → list_any (λ p. if_some r false (λ r. if_some o false (λ e. has after.rights r p e.rel)) && not (had p)) each_privilege ≡ true
+        → if_some r false (λ r. if_some o false (λ e. list_any (λ p. has after.rights r p e.rel) each_privilege)) ≡ true
     by None o had h = absurd (false≢true h)
     by (Some r) None had h = absurd (false≢true h)
-    by (Some r) (Some e) had h = any_more (λ p. has after.rights r p e.rel) had privileges h
+    by (Some r) (Some e) had h = any_more (λ p. has after.rights r p e.rel) had each_privilege h
 
 -- whichever it is
 pub gains-has_on : (before after : Frame) (role : Name) (p : Privilege) (rel : Name) → has_on before role p rel ≡ false → has_on after role p rel ≡ true

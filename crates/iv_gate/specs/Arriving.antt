@@ -13,7 +13,7 @@ use Rattle.iv_records.specs.Names.{limits}
 use Rattle.iv_once.specs.Names as once
 use Rattle.iv_once.specs.Names.{Ask, Known, Named, learned, named}
 use Rattle.iv_steps.specs.Steps.{Fact, first_refused, shared, stepped}
-use Rattle.iv_gate.specs.Gate.{Gate, Log, entered, has_on, informs, known_of, privileges, settles, went_on}
+use Rattle.iv_gate.specs.Gate.{Gate, Log, each_privilege, entered, has_on, informs, known_of, settles, went_on}
 
 -- a step: which log it is of, from which position to which it leads, what was done there, and the names that have an answer by it
 pub record Step : Type 0 where
@@ -70,7 +70,7 @@ entry_of s = record { requests = s.requests; names = s.names; position = Some s.
 
 -- the role has some privilege on the relation after it that it had not before
 abbrev pub gains : Frame → Frame → Name → Name → Bool
-gains before after role rel = list_any (λ p. has_on after role p rel && not (has_on before role p rel)) privileges
+gains before after role rel = list_any (λ p. has_on after role p rel && not (has_on before role p rel)) each_privilege
 
 -- the relations on which it has one
 abbrev pub newly : Frame → Frame → Name → List Name

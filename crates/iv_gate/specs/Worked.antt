@@ -144,3 +144,10 @@ is_done again = answered None again (place_text (record { epoch = codes "e"; cou
 
 abbrev pub done_and_told : List Told
 done_and_told = is_done false ∷ changed 1 ((row 7, pos 1) ∷ []) ∷ []
+
+-- she asks by a place of another journal, and by one that is ahead
+abbrev pub foreign_ask : Ask
+foreign_ask = record (asks 0 (codes "d")) { at = record { epoch = codes "f"; count = 0 } }
+
+abbrev pub ahead_ask : Ask
+ahead_ask = asks 1 (codes "d")

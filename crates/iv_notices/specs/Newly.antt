@@ -10,7 +10,7 @@ use Rattle.iv_engine.specs.Known.{has_on, relations_with}
 use Rattle.iv_clients.specs.Clients.{client_at}
 use Rattle.iv_clients.specs.Kept.{Kept, Places, holding}
 use Rattle.iv_gate.specs.Arriving.{newly}
-use Rattle.iv_gate.specs.Gate.{privileges}
+use Rattle.iv_gate.specs.Gate.{each_privilege}
 use Rattle.iv_notices.specs.Granting.{text_granted}
 use Rattle.iv_notices.specs.declared.newly.Allowed.{Allowed}
 
@@ -35,7 +35,7 @@ nothing = record { select = false; insert = false; update = false; delete = fals
 
 -- something that it might not do before
 abbrev pub is_more : (before after : Allowed) → Bool
-is_more before after = list_any (λ p. allows after p && not (allows before p)) privileges
+is_more before after = list_any (λ p. allows after p && not (allows before p)) each_privilege
 
 -- ---- what roles might do before
 
