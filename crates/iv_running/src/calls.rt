@@ -4,13 +4,14 @@
 ghost use Rattle.std.specs.Prelude.{◌≡◌, ℕ, IfErr, IfOk, None, OnOk, false, true};
 ghost use Rattle.iv_rows.specs.RowLimit.{IsRowLimit};
 ghost use Rattle.iv_arrivals.specs.Reads.{step_in};
-ghost use Rattle.iv_gate.specs.Events.{IsWell, arrived};
+ghost use Rattle.iv_gate.specs.Events.{IsWell, arrived, known};
 ghost use Rattle.iv_gate.specs.Gate as spec;
 ghost use Rattle.iv_gateway.specs.Arriving.{IsFaultOf};
 ghost use Rattle.iv_gateway.specs.Views.{IsHead};
 ghost use Rattle.iv_gateway.specs.Waiting.{WaitsWithin};
-ghost use Rattle.iv_desk.specs.Desks.{IsDesk};
-ghost use Rattle.iv_desk.specs.Front.{Front, by_event, may_tell};
+ghost use Rattle.iv_peer.specs.Socket.{closed};
+ghost use Rattle.iv_desk.specs.Desks.{IsCalledOut, IsDesk};
+ghost use Rattle.iv_desk.specs.Front.{Front, at_socket, by_event, dismissed, may_tell};
 ghost use Rattle.iv_running.specs.Running.{IsFollowed, IsNew, IsRunning, IsUntaken, Leads, RunsLeadOn, most_told};
 
 use crate::fault::Fault;
@@ -192,7 +193,8 @@ pub fn settle<J: Journal>(desk: &mut Desk, journal: &mut J) -> Result<(), Fault>
 /// # Errors
 /// As of `hear`.
 pub fn know(desk: &mut Desk, tokens: Vec<Token>) -> Result<(), Fault>
-    ensures { Leads desk.old desk.new }
+    ensures leads { Leads desk.old desk.new }
+    ensures front { OnOk result ((d : Front) → IsDesk d desk.old → IsCalledOut dismissed (by_event (known tokens.items) d) desk.new) }
 {
     calls_lead_from_runs_to_runs();
     events_leave_their_marks();
@@ -230,7 +232,8 @@ pub fn forgive(desk: &mut Desk)
 /// As of `hear`.
 pub fn close(desk: &mut Desk, at: u32, code: u16, words: &[u8]) -> Result<(), Fault>
     requires { may_tell code words.now ≡ true }
-    ensures { Leads desk.old desk.new }
+    ensures leads { Leads desk.old desk.new }
+    ensures front { OnOk result ((d : Front) → IsDesk d desk.old → IsDesk (at_socket at (closed code words.now) d) desk.new) }
 {
     events_leave_their_marks();
     match desk.close(at, code, words) {

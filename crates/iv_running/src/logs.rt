@@ -1,5 +1,6 @@
 //! `followed_in`: the log that a journal follows; `begin_log`: a new journal follows one; `recalled_in`: the requests that a journal has.
 ghost use Rattle.std.specs.Prelude.{◌≡◌, ◌++◌, ℕ, IfOk, List, OnOk, string_bytes, true};
+ghost use Rattle.iv_audit.specs.Audit.{is_request};
 ghost use Rattle.iv_journal.specs.Journal.{Line as LineSpec};
 ghost use Rattle.iv_records.specs.Names.{is_epoch};
 ghost use Rattle.iv_running.specs.Logs as spec;
@@ -114,15 +115,23 @@ pub fn begin_log(
 
 // ---- what is recalled
 
+/// Whether a text of a journal is a request.
+fn is_request(text: &[u8]) -> bool
+    ensures { result ≡ is_request text.now }
+{
+    text.starts_with(b"\"as\":\"")
+}
+
 /// Appends a text of a journal as a line of its own, if it is a request.
 fn push_request(out: &mut Vec<u8>, text: &[u8]) -> Result<(), AllocError>
     ensures { OnOk result (out.new.items ≡ out.old.items ++ spec.recalled_by text.now) }
 {
-    if text.starts_with(b"\"as\":\"") {
-        out.push(b'{')?;
-        out.extend_from_slice(text)?;
-        out.push(b'\n')?;
+    if !is_request(text) {
+        return Ok(());
     }
+    out.push(b'{')?;
+    out.extend_from_slice(text)?;
+    out.push(b'\n')?;
     Ok(())
 }
 

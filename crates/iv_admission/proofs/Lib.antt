@@ -1,1 +1,2 @@
+pub mod ScoutedEnds
 pub mod TokenCounts
