@@ -336,8 +336,8 @@ def test_a_secret_that_no_keeper_can_show_is_refused(what: str, here: pathlib.Pa
 
 def test_words_that_cannot_be(here: pathlib.Path) -> None:
     secret: tuple[str | pathlib.Path, ...] = ("--log-secret-file", here / "secret")
-    none: tuple[str | pathlib.Path, ...] = ()
-    for words in (("--log", "0", *secret), ("--log", "9000"), ("--log", "-", *secret), (*none, *secret), ("--log", "-", "--seed", here / "seed"),
-                  ("--log", "x", *secret)):
+    wrong: list[tuple[str | pathlib.Path, ...]] = [("--log", "0", *secret), ("--log", "9000"), ("--log", "-", *secret), secret, ("--log", "-", "--seed", here / "seed"),
+                                                   ("--log", "x", *secret)]
+    for words in wrong:
         gate = Keeper(here, words)
         assert gate.process.wait(PATIENCE) == 1, words
