@@ -351,7 +351,7 @@ class Play:
         self.mark()
         role = self.dice.choice(["admin", *ROLES])
         if not self.door.is_open:
-            with pytest.raises(AssertionError, match="503"):
+            with pytest.raises(Ended, match="503"):
                 Wire(self.gate.port, f"{role}-demo")
             return
         seat = Seat(role)
