@@ -105,7 +105,7 @@ impl Guest {
     {
         match &self.stage {
             Stage::Known(_) => true,
-            Stage::Unknown(..) => false,
+            Stage::Unknown(_, _) => false,
         }
     }
 
@@ -121,7 +121,7 @@ impl Guest {
     pub(crate) fn is_read(&self) -> bool {
         match &self.stage {
             Stage::Known(keeper) => self.readable && !keeper.late,
-            Stage::Unknown(..) => self.readable,
+            Stage::Unknown(_, _) => self.readable,
         }
     }
 
@@ -148,7 +148,7 @@ impl Guest {
     pub(crate) fn settle(&mut self, desk: &Desk) -> Result<(), AllocError> {
         match &mut self.stage {
             Stage::Known(keeper) => keeper.told.settle(desk),
-            Stage::Unknown(..) => Ok(()),
+            Stage::Unknown(_, _) => Ok(()),
         }
     }
 
@@ -183,7 +183,7 @@ impl Guest {
     pub(crate) fn is_told(&self) -> bool {
         match &self.stage {
             Stage::Known(keeper) => keeper.told.out.is_empty(),
-            Stage::Unknown(..) => true,
+            Stage::Unknown(_, _) => true,
         }
     }
 }
