@@ -5,8 +5,11 @@ use Rattle.iv_gate.specs.Arriving.{Step}
 use Rattle.iv_gate.specs.Events.{arrived}
 use Rattle.iv_arrivals.specs.Reads.{step_in}
 use Rattle.iv_clients.specs.Tokens.{Token}
-use Rattle.iv_gate.specs.Gate.{Head, Log}
+use Rattle.iv_gate.specs.Gate.{Gate, Head, Log}
 use Rattle.iv_gate.specs.Restoring.{gate_at_start}
+use Rattle.iv_gateway.specs.Arriving.{IsFaultOf}
+use Rattle.iv_gateway.specs.declared.arriving.StepFault.{StepFault}
+use Rattle.iv_gateway.specs.declared.arriving.StepFault.TheVariants.{Memory}
 use Rattle.iv_desk.specs.Front.{Front, FrontRuns, GoesOn, by_event, front_at_start}
 use Rattle.iv_desk.specs.Desks.{IsDesk}
 use Rattle.iv_desk.specs.declared.desk.Desk.{Desk}
@@ -36,6 +39,11 @@ pub record IsFollowed (log : Log) (from : ℕ) (lines : List Line) (x y : Desk) 
   pub step : Step
   pub is : step_in log from lines ≡ Some step
   pub arrives : (d : Front) → IsDesk d x → IsDesk (by_event (arrived step) d) y
+
+-- it is not taken, since the gateway has this fault of it, or memory was refused
+abbrev pub IsUntaken : Log → ℕ → List Line → Gate → StepFault → Type 0
+IsUntaken log from lines g Memory = Unit {0}
+IsUntaken log from lines g fault = (s : Step) × (step_in log from lines ≡ Some s) × IsFaultOf g s fault
 
 -- nobody came yet, and nothing happened
 pub record IsNew (cap : ℕ) (x : Desk) : Type 0 where

@@ -1,17 +1,18 @@
 //! The desk's calls as the program makes them: what is behind each goes on from what was before it.
 //!
 //! So after each of them all holds that `browsers_are_told_their_views` of iv_desk says of runs (`runs_lead_on`).
-ghost use Rattle.std.specs.Prelude.{◌≡◌, ℕ, IfOk, None, OnOk, false, true};
+ghost use Rattle.std.specs.Prelude.{◌≡◌, ℕ, IfErr, IfOk, None, OnOk, false, true};
 ghost use Rattle.iv_rows.specs.RowLimit.{IsRowLimit};
 ghost use Rattle.iv_arrivals.specs.Reads.{step_in};
 ghost use Rattle.iv_gate.specs.Events.{IsWell, arrived, known};
 ghost use Rattle.iv_gate.specs.Gate as spec;
+ghost use Rattle.iv_gateway.specs.Arriving.{IsFaultOf};
 ghost use Rattle.iv_gateway.specs.Views.{IsHead};
 ghost use Rattle.iv_gateway.specs.Waiting.{WaitsWithin};
 ghost use Rattle.iv_peer.specs.Socket.{closed};
 ghost use Rattle.iv_desk.specs.Desks.{IsCalledOut, IsDesk};
 ghost use Rattle.iv_desk.specs.Front.{Front, at_socket, by_event, dismissed, may_tell};
-ghost use Rattle.iv_running.specs.Running.{IsFollowed, IsNew, IsRunning, Leads, RunsLeadOn, most_told};
+ghost use Rattle.iv_running.specs.Running.{IsFollowed, IsNew, IsRunning, IsUntaken, Leads, RunsLeadOn, most_told};
 
 use crate::fault::Fault;
 use iv_arrivals::{Log, Step, read_step};
@@ -136,6 +137,7 @@ fn take(desk: &mut Desk, step: Step) -> Result<bool, StepFault>
     requires { IsWell (arrived step) }
     ensures leads { Leads desk.old desk.new }
     ensures front { OnOk result ((d : Front) → IsDesk d desk.old → IsDesk (by_event (arrived step) d) desk.new) }
+    ensures fault { IfErr result (λ f. (d : Front) → IsDesk d desk.old → d.gate.dead ≡ false → IsFaultOf d.gate step f) }
 {
     events_leave_their_marks();
     match desk.take_step(step) {
@@ -159,14 +161,15 @@ pub fn follow(
     ensures leads { Leads desk.old desk.new }
     ensures taken { IfOk result (λ is. is ≡ true → IsFollowed log from lines.now desk.old desk.new) }
     ensures none { IfOk result (λ is. is ≡ false → (step_in log from lines.now ≡ None) × (desk.new ≡ desk.old)) }
+    ensures fault { IfErr result (λ f. (d : Front) → IsDesk d desk.old → d.gate.dead ≡ false → IsUntaken log from lines.now d.gate f) }
 {
     match read_step(alloc, log, from, lines, scratch) {
         Err(_) => Err(StepFault::Memory),
         Ok(None) => Ok(false),
-        Ok(Some(step)) => {
-            take(desk, step)?;
-            Ok(true)
-        }
+        Ok(Some(step)) => match take(desk, step) {
+            Ok(_) => Ok(true),
+            Err(fault) => Err(fault),
+        },
     }
 }
 
