@@ -1,1 +1,1 @@
-mod Heeded
+pub mod Heeded

@@ -34,12 +34,12 @@ pub(crate) struct Guest {
 }
 
 /// The keeper that has shown the secret, and has said these bytes since. It is told what is held.
-fn welcomed(means: &Means, bytes: &[u8], position: u64) -> Result<Keeper, AllocError>
-    ensures { IfOk result (λ k. k.talk ≡ record (at_start (option_map said_log means.now.log)) { unread = bytes.now }) }
+fn welcomed(means: &Means, rest: &[u8], position: u64) -> Result<Keeper, AllocError>
+    ensures { IfOk result (λ k. k.talk ≡ record (at_start (option_map said_log means.now.log)) { unread = rest.now }) }
 {
     let mut keeper = Keeper::new(means.rt.alloc(), &means.log)?;
     keeper.told.greet(means.rows, keeper.talk.log(), position)?;
-    keeper.talk.take(bytes)?;
+    keeper.talk.take(rest)?;
     Ok(keeper)
 }
 
