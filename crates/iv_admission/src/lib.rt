@@ -2,9 +2,10 @@
 #![tactic(auto)]
 
 mod admission;
+mod by_token;
 mod scout;
 mod tokens;
 
 pub use admission::Admission;
 pub use scout::{Found, Scout};
-pub use tokens::open_tokens;
+pub use tokens::{no_secret, open_tokens};
