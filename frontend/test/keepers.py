@@ -421,7 +421,7 @@ class Makes:
         entries = []
         for _ in range(self.dice.choice([1, 1, 1, 2, 5, 30])):
             on = self.dice.choice([name for name, it in shared.relations.items() if not it.over] or ["notes"])
-            rows = shared.relations[on].rows if on in shared.relations else {}
+            rows = shared.relations[on].rows if on in shared.relations else Rows()
             there = [[*row] for row in rows] or [self.row()]
             kind = self.dice.choice(["insert", "insert", "delete", "update"]) if rows else "insert"
             old = self.dice.choice(there)
@@ -513,8 +513,8 @@ def damaged(dice: random.Random, lines: list[bytes], position: int) -> list[byte
                          b'{"as":"admin",,"do":"create_role","name":"zoe"}', b'{"as":"admin","do":"write","entries":[]}', b'{"as":"admin","do":"create_role","name":"zoe"}x',
                          b'{"from":%d,"step":%d}' % (position + 1, position + 9), b'{"from":%d,"step":%d}' % (position + 3, position + 2), b'{"step":1,"from":0}',
                          b'{"from":%s,"step":%s}' % (dice.choice(HUGE), dice.choice(HUGE)), b'{"as":"admin",' + b" " * 130_802, b'{"as":"admin",' + b" " * 130_803, b"y" * 140_000])
-    return {"cut": lambda: [*before, line[:cut], *behind], "doubled": lambda: [*before, line, line, *behind], "lost": lambda: before + behind,
-            "exchanged": lambda: behind[:1] + [line] + behind[1:] if not before else [*before[:-1], line, before[-1], *behind],
-            "in two": lambda: [*before, line[:cut], line[cut:], *behind], "in one": lambda: [*before, line + b"".join(behind[:1]), *behind[1:]],
-            "a byte": lambda: [*before, line[:cut] + dice.choice([b"\xff", b"\x00", b"\x01"]) + line[cut + 1:], *behind],
-            "another": lambda: [*before, other, line, *behind]}[dice.choice(["cut", "doubled", "lost", "exchanged", "in two", "in one", "a byte", "another", "another"])]()
+    made = {"cut": [*before, line[:cut], *behind], "doubled": [*before, line, line, *behind], "lost": before + behind,
+            "exchanged": behind[:1] + [line] + behind[1:] if not before else [*before[:-1], line, before[-1], *behind],
+            "in two": [*before, line[:cut], line[cut:], *behind], "in one": [*before, line + b"".join(behind[:1]), *behind[1:]],
+            "a byte": [*before, line[:cut] + dice.choice([b"\xff", b"\x00", b"\x01"]) + line[cut + 1:], *behind], "another": [*before, other, line, *behind]}
+    return made[dice.choice([*made, "another"])]

@@ -21,7 +21,7 @@ from collections.abc import Callable, Iterator
 
 import pytest
 
-from keepers import BEGIN, EPOCH, GO_ON, GROUPS, MOST_LINES, ROLES, SECRET, SHOWN, TABLES, VIEWS, Door, Fault, Makes, Seat, damaged, digest_of, text_of
+from keepers import BEGIN, EPOCH, GO_ON, GROUPS, MOST_LINES, ROLES, SECRET, SHOWN, TABLES, VIEWS, Door, Fault, Makes, Request, Seat, damaged, digest_of, text_of
 from ports import free_port
 from wire import PATIENCE, PROGRAM, Ended, Wire, digest, http
 
@@ -206,6 +206,7 @@ class Play:
         self.makes = Makes(self.door, self.dice)
         self.viewers: list[Viewer] = []
         self.epoch, self.asked = "", 0
+        self.told_disk, self.may, self.seen = 0, {0}, 0  # positions: the last that was told to be on disk, those that may be, the last that a client saw
         self.tally = dict[str, int]()
 
     def counts(self, what: str) -> None:
@@ -234,7 +235,7 @@ class Play:
         dice = self.dice
         if not self.door.log[0]:
             self.disks += 1
-            first = [{"do": "create_role", "name": it} for it in (*ROLES, *GROUPS)]
+            first: list[Request] = [{"do": "create_role", "name": it} for it in (*ROLES, *GROUPS)]
             if dice.random() < 0.8:
                 first += [{"do": "create_table", "name": it, "owner": dice.choice(ROLES), "columns": [["id", "int"], ["who", "text"]]} for it in TABLES]
                 first += [{"do": "create_view", "name": it, "owner": "ann", "query": f"select who, count(*) as n from {over} group by who"} for it, over in zip(VIEWS, TABLES)]
@@ -350,7 +351,7 @@ class Play:
         self.mark()
         role = self.dice.choice(["admin", *ROLES])
         if not self.door.is_open:
-            with pytest.raises(AssertionError, match="503"):
+            with pytest.raises(Ended, match="503"):
                 Wire(self.gate.port, f"{role}-demo")
             return
         seat = Seat(role)
@@ -388,8 +389,8 @@ class Play:
             it.asks(['{"error":100,"id":%d}' % self.asked], b'{"id":%d,%s' % (self.asked, write))
         elif choice == 5:
             said = dice.choice([b"{", b"[]", b'{"from":0,"step":1}', GO_ON, b'{"open":false}', b'{"as":"admin",' + write])
-            told = {b"{": ['{"error":1}'], b"[]": ['{"error":2}'], b'{"as":"admin",' + write: ['{"error":2,"key":"as","why":"unknown"}']}
-            it.asks(told.get(said, ['{"error":2,"key":"do","why":"missing"}']), said)
+            answers = {b"{": '{"error":1}', b"[]": '{"error":2}', b'{"as":"admin",' + write: '{"error":2,"key":"as","why":"unknown"}'}
+            it.asks([answers.get(said, '{"error":2,"key":"do","why":"missing"}')], said)
         elif choice == 6 or not names:
             name, asked = f"m{self.asked:021}", b"{" + write
             told = seat.asks(shared, self.asked, name, place, digest_of(asked), self.epoch)
@@ -511,7 +512,6 @@ class Play:
 
     def run(self, seconds: float) -> None:
         end = time.monotonic() + seconds
-        self.told_disk, self.may, self.seen = 0, {0}, 0
         while time.monotonic() < end:
             self.life(self.dice.choice([3, 10, 40, 150]))
             self.counts("lives")

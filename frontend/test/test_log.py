@@ -1,6 +1,7 @@
 """The door for logs: the conversation of docs/LOG.md, word for word, and what a gateway does with keepers who say what cannot be.
 
 GATEWAY names another program than the one that is built."""
+import contextlib
 import json
 import os
 import pathlib
@@ -48,8 +49,10 @@ class Keeper:
         self.running.append(self)
 
     def say(self, *lines: str) -> None:
-        self.taken.write("".join(f"{it}\n" for it in lines).encode())
-        self.taken.flush()
+        """A gateway to which something cannot be said has ended before it was read whole."""
+        with contextlib.suppress(BrokenPipeError):
+            self.taken.write("".join(f"{it}\n" for it in lines).encode())
+            self.taken.flush()
 
     def hear(self) -> str:
         end = time.monotonic() + PATIENCE
@@ -189,7 +192,7 @@ def test_a_journal_of_its_own_follows_none(here: pathlib.Path) -> None:
 
 def test_clients_come_in_when_that_is_said(here: pathlib.Path) -> None:
     keeper = begun(here)
-    with pytest.raises(AssertionError, match="503"):
+    with pytest.raises(Ended, match="503"):
         Wire(keeper.port, "mia-demo")
     keeper.say('{"open":true}')
     end = time.monotonic() + PATIENCE
@@ -197,12 +200,12 @@ def test_clients_come_in_when_that_is_said(here: pathlib.Path) -> None:
         try:
             mia = keeper.enter()
             break
-        except AssertionError:
+        except Ended:
             assert time.monotonic() < end
     keeper.say('{"open":false}')
     with pytest.raises(Ended, match="1013"):
         mia.line()
-    with pytest.raises(AssertionError, match="503"):
+    with pytest.raises(Ended, match="503"):
         Wire(keeper.port, "mia-demo")
     assert keeper.end() == 0
 
@@ -239,9 +242,11 @@ def test_what_was_not_synced_is_taken_again_after_any_kill(here: pathlib.Path) -
 
 def at_port(port: int, first: str) -> tuple[socket.socket, bytes]:
     """A connection to the door that says this first, and what it is told by then."""
-    it = socket.create_connection(("127.0.0.1", port), PATIENCE)
-    it.sendall(first.encode() + b"\n")
-    return it, it.recv(1 << 16)
+    it, told = socket.create_connection(("127.0.0.1", port), PATIENCE), b""
+    with contextlib.suppress(ConnectionError):  # one that is let go with bytes unread is reset
+        it.sendall(first.encode() + b"\n")
+        told = it.recv(1 << 16)
+    return it, told
 
 
 def reached(port: int, first: str) -> tuple[socket.socket, bytes]:
@@ -267,7 +272,7 @@ def test_a_port_lets_in_one_keeper_with_the_secret(here: pathlib.Path) -> None:
         try:
             mia = gate.enter()
             break
-        except (AssertionError, OSError):
+        except (Ended, OSError):
             assert time.monotonic() < end
     first.sendall(ROLE.encode() + b"\n")  # of a step that has no end
     first.close()
@@ -336,8 +341,8 @@ def test_a_secret_that_no_keeper_can_show_is_refused(what: str, here: pathlib.Pa
 
 def test_words_that_cannot_be(here: pathlib.Path) -> None:
     secret: tuple[str | pathlib.Path, ...] = ("--log-secret-file", here / "secret")
-    none: tuple[str | pathlib.Path, ...] = ()
-    for words in (("--log", "0", *secret), ("--log", "9000"), ("--log", "-", *secret), (*none, *secret), ("--log", "-", "--seed", here / "seed"),
-                  ("--log", "x", *secret)):
+    wrong: list[tuple[str | pathlib.Path, ...]] = [("--log", "0", *secret), ("--log", "9000"), ("--log", "-", *secret), secret, ("--log", "-", "--seed", here / "seed"),
+                                                   ("--log", "x", *secret)]
+    for words in wrong:
         gate = Keeper(here, words)
         assert gate.process.wait(PATIENCE) == 1, words

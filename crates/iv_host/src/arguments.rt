@@ -16,7 +16,7 @@ use std::process::ExitCode;
 use std::{env, io};
 
 /// The program's version, and the number of the protocol that it speaks.
-const VERSION: &str = "0.1.0 (protocol 1)";
+const VERSION: &str = "1.0.0 (protocol 1)";
 
 /// Where the keeper of a log is.
 #[derive(Debug, Drop)]

@@ -1,16 +1,18 @@
-//! The desk's calls as the program makes them: each leads from a run to a run.
+//! The desk's calls as the program makes them: what is behind each goes on from what was before it.
 //!
-//! So after each of them all holds that `browsers_are_told_their_views` of iv_desk says of runs.
-ghost use Rattle.std.specs.Prelude.{◌≡◌, ℕ, IfOk, None, OnOk, false, true};
+//! So after each of them all holds that `browsers_are_told_their_views` of iv_desk says of runs (`runs_lead_on`).
+ghost use Rattle.std.specs.Prelude.{◌≡◌, ℕ, IfErr, IfOk, None, OnOk, false, true};
 ghost use Rattle.iv_rows.specs.RowLimit.{IsRowLimit};
 ghost use Rattle.iv_arrivals.specs.Reads.{step_in};
-ghost use Rattle.iv_gate.specs.Events.{IsWell, arrived};
+ghost use Rattle.iv_gate.specs.Events.{IsWell, arrived, known};
 ghost use Rattle.iv_gate.specs.Gate as spec;
+ghost use Rattle.iv_gateway.specs.Arriving.{IsFaultOf};
 ghost use Rattle.iv_gateway.specs.Views.{IsHead};
 ghost use Rattle.iv_gateway.specs.Waiting.{WaitsWithin};
-ghost use Rattle.iv_desk.specs.Desks.{IsDesk};
-ghost use Rattle.iv_desk.specs.Front.{Front, by_event, may_tell};
-ghost use Rattle.iv_running.specs.Running.{IsFollowed, IsNew, IsRunning, Leads, most_told};
+ghost use Rattle.iv_peer.specs.Socket.{closed};
+ghost use Rattle.iv_desk.specs.Desks.{IsCalledOut, IsDesk};
+ghost use Rattle.iv_desk.specs.Front.{Front, at_socket, by_event, dismissed, may_tell};
+ghost use Rattle.iv_running.specs.Running.{IsFollowed, IsNew, IsRunning, IsUntaken, Leads, RunsLeadOn, most_told};
 
 use crate::fault::Fault;
 use iv_arrivals::{Log, Step, read_step};
@@ -23,6 +25,13 @@ use iv_gateway::{Gateway, Head, Journal, RestoreFault, StepFault};
 use iv_journal::Line;
 use json::Scratch;
 use std::alloc::{AllocError, Global};
+
+/// What comes of a desk to which a run has led is one to which a run has led.
+pub fn runs_lead_on()
+    ensures { RunsLeadOn }
+{
+    calls_lead_from_runs_to_runs();
+}
 
 /// Bytes that wait for the journal, at most, before one more socket is read in a round: 16 MiB.
 const MOST_TOLD: u64 = 16_777_216;
@@ -128,6 +137,7 @@ fn take(desk: &mut Desk, step: Step) -> Result<bool, StepFault>
     requires { IsWell (arrived step) }
     ensures leads { Leads desk.old desk.new }
     ensures front { OnOk result ((d : Front) → IsDesk d desk.old → IsDesk (by_event (arrived step) d) desk.new) }
+    ensures fault { IfErr result (λ f. (d : Front) → IsDesk d desk.old → d.gate.dead ≡ false → IsFaultOf d.gate step f) }
 {
     events_leave_their_marks();
     match desk.take_step(step) {
@@ -151,14 +161,15 @@ pub fn follow(
     ensures leads { Leads desk.old desk.new }
     ensures taken { IfOk result (λ is. is ≡ true → IsFollowed log from lines.now desk.old desk.new) }
     ensures none { IfOk result (λ is. is ≡ false → (step_in log from lines.now ≡ None) × (desk.new ≡ desk.old)) }
+    ensures fault { IfErr result (λ f. (d : Front) → IsDesk d desk.old → d.gate.dead ≡ false → IsUntaken log from lines.now d.gate f) }
 {
     match read_step(alloc, log, from, lines, scratch) {
         Err(_) => Err(StepFault::Memory),
         Ok(None) => Ok(false),
-        Ok(Some(step)) => {
-            take(desk, step)?;
-            Ok(true)
-        }
+        Ok(Some(step)) => match take(desk, step) {
+            Ok(_) => Ok(true),
+            Err(fault) => Err(fault),
+        },
     }
 }
 
@@ -182,7 +193,8 @@ pub fn settle<J: Journal>(desk: &mut Desk, journal: &mut J) -> Result<(), Fault>
 /// # Errors
 /// As of `hear`.
 pub fn know(desk: &mut Desk, tokens: Vec<Token>) -> Result<(), Fault>
-    ensures { Leads desk.old desk.new }
+    ensures leads { Leads desk.old desk.new }
+    ensures front { OnOk result ((d : Front) → IsDesk d desk.old → IsCalledOut dismissed (by_event (known tokens.items) d) desk.new) }
 {
     calls_lead_from_runs_to_runs();
     events_leave_their_marks();
@@ -220,7 +232,8 @@ pub fn forgive(desk: &mut Desk)
 /// As of `hear`.
 pub fn close(desk: &mut Desk, at: u32, code: u16, words: &[u8]) -> Result<(), Fault>
     requires { may_tell code words.now ≡ true }
-    ensures { Leads desk.old desk.new }
+    ensures leads { Leads desk.old desk.new }
+    ensures front { OnOk result ((d : Front) → IsDesk d desk.old → IsDesk (at_socket at (closed code words.now) d) desk.new) }
 {
     events_leave_their_marks();
     match desk.close(at, code, words) {

@@ -1,7 +1,9 @@
 //! `open_journal`: the journal's file, in the form of today; `come_back`: a desk that is where it leads.
-ghost use Rattle.std.specs.Prelude.{ℕ, IfOk, OnOk};
+ghost use Rattle.std.specs.Prelude.{◌≡◌, ℕ, IfOk, OnOk, drop};
+ghost use Rattle.iv_audit.specs.Reading.{IsAudit};
 ghost use Rattle.iv_gate.specs.Gate as spec;
 ghost use Rattle.iv_gateway.specs.Views.{IsHead};
+ghost use Rattle.iv_head.specs.Begun.{begun_in};
 ghost use Rattle.iv_host.specs.Settings.{AreValid};
 ghost use Rattle.iv_running.specs.Running.{IsNew, IsRunning};
 
@@ -167,7 +169,9 @@ pub fn open_journal(rt: &HostRuntime, settings: &Settings) -> Result<(JournalFil
 // ---- the form of today
 
 /// Reads a journal, or says why it is not read.
-pub(crate) fn read<'a>(rt: &HostRuntime, path: &str, bytes: &'a [u8]) -> Result<Audit<'a>, u8> {
+pub(crate) fn read<'a>(rt: &HostRuntime, path: &str, bytes: &'a [u8]) -> Result<Audit<'a>, u8>
+    ensures { IfOk result (λ a. IsAudit bytes.now a) }
+{
     match read_audit(rt.alloc(), bytes) {
         Ok(audit) => Ok(audit),
         Err(AuditFault::Damaged(place)) => Err(damaged_at(rt, path, bytes, place)),
@@ -191,7 +195,9 @@ fn epoch_of(
 }
 
 /// What a journal says before its first entry, and in how many lines after its head.
-pub(crate) fn begun_in(rt: &HostRuntime, lines: &[Line<'_>]) -> Result<(Begun, usize), u8> {
+pub(crate) fn begun_in(rt: &HostRuntime, lines: &[Line<'_>]) -> Result<(Begun, usize), u8>
+    ensures { IfOk result (λ p. (p.0, drop p.1 lines.now) ≡ begun_in lines.now) }
+{
     let mut scratch = Scratch::new(rt.alloc());
     match read_begun(rt.alloc(), lines, &mut scratch) {
         Ok(found) => Ok(found),

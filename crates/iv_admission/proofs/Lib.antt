@@ -1,0 +1,2 @@
+pub mod ScoutedEnds
+pub mod TokenCounts
