@@ -57,10 +57,12 @@ IsSameBut old new = (new.known.entries ≡ old.known.entries) × (new.known.secr
 
 -- ---- a text that is presented
 
-abbrev pub is_full : Result Web Judged → Bool
-is_full (Ok w) = false
-is_full (Err answer.Full) = true
-is_full (Err _) = false
+-- it is granted, but too many are known
+abbrev pub is_beyond : Judged → Bool
+is_beyond answer.Full = true
+is_beyond answer.Known = false
+is_beyond answer.Granted = false
+is_beyond (answer.Refused why) = false
 
 -- what becomes of a text beside these web tokens
 abbrev pub answer_beside : List Web → Admission → (text : List ℕ) → Result Web Judged
@@ -68,7 +70,7 @@ answer_beside web a text = answer_to a.known.entries a.known.secret web a.second
 
 -- if too many are known, it is judged beside those that are in use, unless it was looked at these in this second
 abbrev pub answer_for : Admission → (text : List ℕ) → Result Web Judged
-answer_for a text = if is_full (answer_beside a.known.web a text) && not a.looked then answer_beside (in_use a) a text else answer_beside a.known.web a text
+answer_for a text = if is_beyond (told (answer_beside a.known.web a text)) && not a.looked then answer_beside (in_use a) a text else answer_beside a.known.web a text
 
 -- ---- administrators
 

@@ -1,5 +1,5 @@
 //! `Admission`: the tokens that the desk is to know, as far as a second says, and web tokens that are presented.
-ghost use Rattle.std.specs.Prelude.{◌≡◌, ◌⊎◌, ◌<◌, ◌≤◌, ◌+◌, ℕ, IfOk, List, None, Ok, OnOk, Some, codes, if◌then◌else◌, length, map, slice_get};
+ghost use Rattle.std.specs.Prelude.{◌≡◌, ◌⊎◌, ◌<◌, ◌≤◌, ◌+◌, ◌-◌, ℕ, IfOk, List, None, Ok, OnOk, Some, codes, if◌then◌else◌, length, map, slice_get};
 ghost use Rattle.std.specs.List.{remove};
 ghost use Rattle.httparse.specs.Grammar.{ReadsRequest, RequestHead};
 ghost use Rattle.httparse.specs.Spans.{name_and_value};
@@ -8,8 +8,9 @@ ghost use Rattle.iv_peer.specs.Socket.{fresh};
 ghost use Rattle.iv_tokens.specs.Web.{handed_on, known_at, told};
 ghost use Rattle.iv_tokens.specs.Web.{Web as Seen};
 ghost use Rattle.iv_running.specs.Running.{Leads};
-ghost use Rattle.iv_admission.specs.Admitting.{IsBegun, IsHanded, IsSameBut, IsToldOf, answer_for, in_use, is_in_use, opens_admin, tokens_of};
-ghost use Rattle.iv_admission.specs.ByToken.{are_by};
+ghost use Rattle.iv_admission.specs.Admitting.{IsBegun, IsHanded, IsSameBut, IsToldOf, answer_beside, answer_for, in_use, is_beyond, is_in_use, opens_admin, tokens_of};
+ghost use Rattle.iv_admission.specs.ByToken.{are_by, are_of, with_count};
+ghost use Rattle.std.specs.Global.{Vec};
 
 use crate::by_token::ByToken;
 use crate::scout::Scout;
@@ -42,6 +43,16 @@ pub struct Admission {
     second: u64,
     /// It was looked in this second at which web tokens no client has.
     looked: bool,
+}
+
+/// Whether a text is granted, but too many are known.
+fn is_beyond(judged: &Judged) -> bool
+    ensures { result ≡ is_beyond judged.now }
+{
+    match judged {
+        Judged::Full => true,
+        Judged::Known | Judged::Granted | Judged::Refused(_) => false,
+    }
 }
 
 /// The tokens that are known at a second, of which none was handed on.
@@ -200,6 +211,16 @@ impl Admission {
         }
     }
 
+    /// Judges a text once more, beside web tokens that are in use alone.
+    fn judge_again(&mut self, text: &[u8]) -> Result<Judged, Fault>
+        ensures judged { IfOk result (λ j. j ≡ told (answer_beside (in_use self.old) self.old text.now)) }
+        ensures same { OnOk result (IsSameBut self.old self.new) }
+        ensures granted { result ≡ Ok Judged.Granted → self.new.known.handed ≡ None }
+    {
+        self.forget_unused();
+        Ok(self.known.judge(self.alloc, self.second, text)?)
+    }
+
     /// Judges a text; if too many are known, once more without those that no client has.
     fn judge(&mut self, text: &[u8]) -> Result<Judged, Fault>
         ensures judged { IfOk result (λ j. j ≡ told (answer_for self.old text.now)) }
@@ -207,11 +228,10 @@ impl Admission {
         ensures granted { result ≡ Ok Judged.Granted → self.new.known.handed ≡ None }
     {
         let judged = self.known.judge(self.alloc, self.second, text)?;
-        if judged != Judged::Full || self.looked {
-            return Ok(judged);
+        if is_beyond(&judged) && !self.looked {
+            return self.judge_again(text);
         }
-        self.forget_unused();
-        Ok(self.known.judge(self.alloc, self.second, text)?)
+        Ok(judged)
     }
 
     /// A client presents a text. A web token that is granted is known to the desk from now on.
@@ -225,10 +245,13 @@ impl Admission {
         ensures others { IfOk result (λ j. (j ≡ Judged.Granted → ⊥) → desk.new ≡ desk.old) }
     {
         let judged = self.judge(text)?;
-        if judged == Judged::Granted {
-            self.open(desk)?;
+        match judged {
+            Judged::Granted => {
+                self.open(desk)?;
+                Ok(judged)
+            }
+            Judged::Known | Judged::Full | Judged::Refused(_) => Ok(judged),
         }
-        Ok(judged)
     }
 
     /// A client has come in by the token of a digest. How many are there by it.
@@ -236,7 +259,8 @@ impl Admission {
     /// # Errors
     /// `AllocError` if a growth of memory was refused.
     pub fn come(&mut self, digest: &[u8]) -> Result<usize, AllocError>
-        ensures { IfOk result (λ n. n ≡ are_by self.old.by_token.counts digest.now + 1) }
+        ensures count { IfOk result (λ n. (q : Vec ℕ) → are_of self.new.by_token.counts q ≡ with_count digest.now n self.old.by_token.counts q) }
+        ensures more { IfOk result (λ n. n ≡ are_by self.old.by_token.counts digest.now + 1) }
     {
         self.by_token.come(digest)
     }
@@ -245,7 +269,10 @@ impl Admission {
     ///
     /// # Errors
     /// As of `come`.
-    pub fn go(&mut self, digest: &[u8]) -> Result<(), AllocError> {
+    pub fn go(&mut self, digest: &[u8]) -> Result<(), AllocError>
+        ensures { OnOk result ((q : Vec ℕ) → are_of self.new.by_token.counts q
+            ≡ with_count digest.now (are_of self.old.by_token.counts q - 1) self.old.by_token.counts q) }
+    {
         self.by_token.go(digest)
     }
 

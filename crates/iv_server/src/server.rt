@@ -4,7 +4,7 @@ ghost use Rattle.iv_desk.specs.Front.{Front};
 ghost use Rattle.iv_desk.specs.Desks.{IsDesk};
 ghost use Rattle.iv_running.specs.Running.{Leads};
 ghost use Rattle.iv_admission.specs.Admitting.{IsHanded, tokens_of};
-ghost use Rattle.iv_server.specs.Shutting.{closed_at, closed_below};
+ghost use Rattle.iv_server.specs.Shutting.{ClosedAreOver, closed_at, closed_below};
 ghost use Rattle.iv_server.specs.Sharing.{HasShare, waiting_lines};
 
 use crate::socket::{Socket, Stage};
@@ -491,6 +491,7 @@ impl Server {
         ensures leads { Leads desk.old desk.new }
         ensures shut { self.new.open ≡ false }
         ensures all { self.old.open ≡ true → OnOk result ((d : Front) → IsDesk d desk.old → IsDesk (closed_below self.old.most d) desk.new) }
+        ensures over { ClosedAreOver }
         ensures none { self.old.open ≡ false → desk.new ≡ desk.old }
     {
         if !self.open {
@@ -508,7 +509,9 @@ impl Server {
     /// # Errors
     /// `Memory` if a growth of memory was refused.
     pub fn share_none(&mut self, desk: &Desk) -> Result<(), Fault>
-        ensures { OnOk result ((d : Front) → IsDesk d desk.now → d.gate.dead ≡ false → HasShare (waiting_lines d) [] self.old.shares.items self.new.shares.items) }
+        ensures share { OnOk result ((d : Front) → IsDesk d desk.now → d.gate.dead ≡ false
+            → HasShare (waiting_lines d) [] self.old.shares.items self.new.shares.items) }
+        ensures same { self.new.open ≡ self.old.open }
     {
         let end = desk.entered().len();
         let holder = String::new(self.alloc);
