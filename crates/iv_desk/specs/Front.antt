@@ -149,3 +149,10 @@ pub data FrontRuns (cap : ℕ) : Front → Type 0 where
   goes_on : (d e : Front) → FrontRuns cap d → d.gate.dead ≡ false → Happens d e → FrontRuns cap e
   closes : (d : Front) (m code : ℕ) (words : List ℕ) → FrontRuns cap d → d.gate.dead ≡ false → may_tell code words ≡ true
       → FrontRuns cap (at_socket m (closed code words) d)
+
+-- where a front goes on to: nowhere, or while it is alive anything happens, and sockets are closed from outside
+pub data GoesOn (d : Front) : Front → Type 0 where
+  stays : GoesOn d d
+  then_happens : (e f : Front) → GoesOn d e → e.gate.dead ≡ false → Happens e f → GoesOn d f
+  then_closes : (e : Front) (m code : ℕ) (words : List ℕ) → GoesOn d e → e.gate.dead ≡ false → may_tell code words ≡ true
+      → GoesOn d (at_socket m (closed code words) e)

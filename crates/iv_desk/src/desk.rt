@@ -2,7 +2,7 @@
 ghost use Rattle.std.specs.Prelude.{◌≡◌, ◌++◌, ℕ, [], Err, IfErr, IfOk, OnErr, OnOk, drop, false, option_map, take, true};
 ghost use Rattle.iv_clients.specs.Clients.{client_at, is_free};
 ghost use Rattle.iv_records.specs.Journal.{journal_of};
-ghost use Rattle.iv_gate.specs.Arriving.{position, settled_at};
+ghost use Rattle.iv_gate.specs.Arriving.{settled_at};
 ghost use Rattle.iv_gate.specs.Events.{IsWell, arrived, failed, forgave, known, synced, ticked};
 ghost use Rattle.iv_gate.specs.Gate.{Gate};
 ghost use Rattle.iv_gate.specs.Restoring.{IsDamagedAt};
@@ -331,13 +331,6 @@ impl Desk {
         ensures { (d : Front) → IsDesk d self.now → d.gate.dead ≡ false → WaitsWithin d.gate result }
     {
         self.gateway.waiting()
-    }
-
-    /// Where the log stands that is followed.
-    pub fn position(&self) -> u64
-        ensures { (d : Front) → IsDesk d self.now → d.gate.dead ≡ false → result ≡ position d.gate }
-    {
-        self.gateway.position()
     }
 
     /// Up to where the log that is followed is on disk: what its source is to be told, and nothing beyond it.

@@ -1,5 +1,5 @@
 -- For contracts of the code: what its values are to the definitions.
-use Rattle.std.specs.Prelude.{◌≡◌, ℕ, ◌+◌, List, ◌∷◌, ◌++◌, false, true, Option, None, Some}
+use Rattle.std.specs.Prelude.{◌≡◌, ℕ, ◌+◌, List, ◌∷◌, ◌++◌, false, map, true, Option, None, Some}
 use Rattle.iv_door.specs.Answers.{Fault, too_long, no_line, wrong_time, no_log, other_log, no_room, gap, no_entry, not_accepted, not_new}
 use Rattle.iv_door.specs.Said as spec
 use Rattle.iv_door.specs.Talk.{Act, Heard, Talk, acts, fails, has_newline, nothing, begun, gone_on, recalled, brought, ended, opened, shut}
@@ -21,7 +21,7 @@ said_of said.Shut = spec.shuts
 
 -- a log's line
 abbrev pub IsLogIn : (line front : List ℕ) → spec.Log → Type 0
-IsLogIn line front l = (spec.is_log l ≡ true) × (spec.log_line front l ≡ line)
+IsLogIn line front l = (spec.has_form l ≡ true) × (spec.log_line front l ≡ line)
 
 -- what is said by a line that has no parts
 abbrev pub IsWord : spec.Said → Type 0
@@ -35,7 +35,7 @@ act_of act.Begun = begun
 act_of act.GoneOn = gone_on
 act_of act.Recall = recalled
 act_of act.Brought = brought
-act_of (act.Ended from to) = ended from to
+act_of (act.Ended from to texts) = ended from to (map (λ v. v.items) texts.items)
 act_of act.Opened = opened
 act_of act.Shut = shut
 

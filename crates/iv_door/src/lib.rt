@@ -1,8 +1,8 @@
 //! The door for a log that others keep: what its keeper says, line by line, and what a gateway answers.
 //!
 //! A program begins a `Talk` with the log that the gateway follows, if it follows one. It gives it the bytes that come by `take`, and then
-//! asks `hear` until that answers nothing; what a line asks is an `Act`. At `Act::Ended` the texts of the step are `texts`, which `take_texts`
-//! takes. Behind a fault nothing more is heard: its words are told, and the program ends.
+//! asks `hear` until that answers nothing; what a line asks is an `Act`. Behind a fault nothing more is heard: its words are told, and the
+//! program ends.
 #![tactic(auto)]
 
 mod answers;

@@ -1,9 +1,9 @@
 //! `Talk`: how what a keeper says is heard, line by line.
-ghost use Rattle.std.specs.Prelude.{◌≡◌, ◌≤◌, ◌++◌, false, true, Some, length, IfErr, IfOk, IfSome, OnOk, map, option_map};
+ghost use Rattle.std.specs.Prelude.{◌≡◌, ◌≤◌, ◌++◌, false, true, Some, length, IfErr, IfOk, IfSome, OnOk, option_map};
 ghost use Rattle.iv_door.specs.Said.{begins, brings, ends, goes_on, recalls};
 ghost use Rattle.iv_door.specs.Answers.{other_log};
 ghost use Rattle.iv_door.specs.Talk as spec;
-ghost use Rattle.iv_door.specs.Talk.{Hears, HearsLine, IsSaidBy, acts, at_start, fails, has_newline, has_room, is_same, most_line, stepped};
+ghost use Rattle.iv_door.specs.Talk.{Hears, HearsLine, IsSaidBy, acts, at_start, fails, has_newline, has_room, is_same, most_line};
 ghost use Rattle.iv_door.specs.Views.{IsFailingBy, IsPassed, act_of, fault_of, heard_of, said_of};
 ghost use Rattle.iv_door.specs.declared.answers.Fault.TheVariants.{WrongTime};
 
@@ -23,7 +23,7 @@ const MOST_LINES: usize = 1_048_576;
 const MOST_BYTES: usize = 268_435_456;
 
 /// What a line asks.
-#[derive(Clone, Copy, Debug, PartialEq, Eq)]
+#[derive(Drop)]
 pub enum Act {
     /// The gateway is to follow the talk's log from its beginning on.
     Begun,
@@ -33,8 +33,8 @@ pub enum Act {
     Recall,
     /// Nothing yet: it is of the step that is under way.
     Brought,
-    /// The step is from one position to another, and all its texts were brought.
-    Ended(u64, u64),
+    /// The step from one position to another has these texts, of which the last one ends it.
+    Ended(u64, u64, Vec<Vec<u8>>),
     /// Clients may come in.
     Opened,
     /// Nobody may.
@@ -128,15 +128,6 @@ impl Talk {
         self.bytes = all;
         self.passed = 0;
         Ok(())
-    }
-
-    /// The texts of the step that has ended, which the talk has no more.
-    pub fn take_texts(&mut self) -> Vec<Vec<u8>>
-        ensures texts { map (λ v. v.items) result.items ≡ self.old.texts }
-        ensures talk { self.new ≡ stepped self.old }
-    {
-        self.size = 0;
-        mem::replace(&mut self.texts, Vec::new(self.alloc))
     }
 }
 
@@ -263,7 +254,9 @@ impl Talk {
         let mut text = Vec::new(self.alloc);
         push_step(&mut text, to)?;
         self.texts.push(text)?;
-        Ok(Act::Ended(from, to))
+        self.size = 0;
+        let texts = mem::replace(&mut self.texts, Vec::new(self.alloc));
+        Ok(Act::Ended(from, to, texts))
     }
 
     /// It says an act that is one as it is said.

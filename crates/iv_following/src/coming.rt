@@ -1,81 +1,53 @@
-//! Who comes as a keeper and goes, and the bytes that it says.
+//! Who comes as a keeper and goes, and the bytes that it says and is told.
 use crate::following::Following;
-use crate::steps::copied;
-use crate::ways::is_same;
+use crate::guest::Guest;
 use crate::wire::{COMING, Got, PIECE, SAID, TOLD, Wire};
-use iv_door::{Log, Talk};
 use iv_running::Fault;
 use mio::{Events, Poll};
-use std::alloc::AllocError;
+use std::time::Duration;
 
 /// Reads in a round, at most: 65,536 bytes.
 const READS: u32 = 4;
 
-/// Bytes of a first line that may be the secret, at most.
-const MOST_SHOWN: usize = 4_096;
-
 /// Milliseconds in which a keeper shows the secret.
 const SHOWING: u64 = 10_000;
 
+/// How often it is looked whether last words are taken, and whether the other end has closed: each time ten milliseconds at most.
+const LAST: u32 = 100;
+
 impl Following {
-    /// The keeper has gone, and what it had begun is forgotten.
-    pub(crate) fn drop_wire(&mut self) {
-        self.wire = None;
-        self.shown = None;
-        self.sent = 0;
-        self.out.truncate(0);
-        self.readable = false;
-        self.owes = false;
-        self.late = false;
-    }
-
-    /// The log that is followed, for one more talk.
-    pub(crate) fn log(&self) -> Result<Option<Log>, AllocError> {
-        match self.talk.log() {
-            None => Ok(None),
-            Some(log) => Ok(Some(copied(self.alloc, log)?)),
-        }
-    }
-
-    /// A talk begins.
-    fn talk_anew(&mut self) -> Result<(), Fault> {
-        let log = self.log()?;
-        self.talk = Talk::new(self.alloc, log);
-        Ok(())
-    }
-
     /// Who waits comes, if nobody is there; who else waits is let go.
-    pub(crate) fn accept(&mut self, poll: &Poll) -> Result<(), Fault> {
+    pub(crate) fn accept(&mut self, poll: &Poll) {
         if !self.coming {
-            return Ok(());
+            return;
         }
         self.coming = false;
+        let until = self.now().saturating_add(SHOWING);
         for _ in 0..u32::MAX {
             let Some(listener) = &self.listener else {
-                return Ok(());
+                return;
             };
             let Ok((stream, _)) = listener.accept() else {
-                return Ok(());
+                return;
             };
-            if self.wire.is_none() {
+            if self.guest.is_none() {
                 if let Ok(wire) = Wire::socket(stream, poll) {
-                    self.wire = Some(wire);
-                    self.shown = Some(Vec::new(self.alloc));
-                    self.until = self.now().saturating_add(SHOWING);
-                    self.writable = true;
-                    self.readable = false;
-                    self.talk_anew()?;
+                    self.guest = Some(Guest::unknown(self.means.rt.alloc(), wire, until));
                 }
             }
         }
-        Ok(())
     }
 
     /// Who has not shown the secret in time is let go.
     pub(crate) fn look_at_clock(&mut self) {
-        if self.shown.is_some() && self.now() > self.until {
-            let _ = eprintln!(self.rt; "gateway: the log: a keeper has shown no secret");
-            self.drop_wire();
+        let now = self.now();
+        let is_late = match &self.guest {
+            Some(guest) => guest.is_late(now),
+            None => false,
+        };
+        if is_late {
+            let _ = eprintln!(self.means.rt; "gateway: the log: a keeper has shown no secret");
+            self.guest = None;
         }
     }
 
@@ -83,78 +55,64 @@ impl Following {
     pub(crate) fn note(&mut self, events: &Events) {
         for event in events.iter() {
             let number = event.token();
+            let is_readable = event.is_readable() || event.is_read_closed() || event.is_error();
+            let is_writable = event.is_writable() || event.is_write_closed() || event.is_error();
             if number == COMING {
                 self.coming = true;
             }
-            if number == SAID
-                && (event.is_readable() || event.is_read_closed() || event.is_error())
-            {
-                self.readable = true;
-            }
-            if (number == SAID || number == TOLD)
-                && (event.is_writable() || event.is_write_closed() || event.is_error())
-            {
-                self.writable = true;
+            if let Some(guest) = &mut self.guest {
+                if number == SAID && is_readable {
+                    guest.readable = true;
+                }
+                if (number == SAID || number == TOLD) && is_writable {
+                    guest.writable = true;
+                }
             }
         }
     }
 
     // ---- what is said
 
-    /// Takes in bytes of a first line. Who shows another is let go.
-    fn show(&mut self, shown: Vec<u8>, bytes: &[u8], position: u64) -> Result<(), Fault> {
-        let mut line = shown;
-        line.extend_from_slice(bytes)?;
-        let Some(end) = line.iter().position(|byte| *byte == b'\n') else {
-            if line.len() > MOST_SHOWN {
-                self.drop_wire();
-            } else {
-                self.shown = Some(line);
-            }
-            return Ok(());
+    /// Takes in bytes. Who shows another secret is let go.
+    fn take(&mut self, bytes: &[u8], position: u64) -> Result<(), Fault> {
+        let stays = match &mut self.guest {
+            None => true,
+            Some(guest) => guest.take(&self.means, &self.secret, bytes, position)?,
         };
-        if !is_same(line.get(..end).unwrap_or(&[]), &self.secret) {
-            let _ = eprintln!(self.rt; "gateway: the log: a keeper has shown another secret");
-            self.drop_wire();
-            return Ok(());
-        }
-        self.greet(position)?;
-        if let Some(rest) = line.get(end.saturating_add(1)..) {
-            self.talk.take(rest)?;
+        if !stays {
+            let _ = eprintln!(self.means.rt; "gateway: the log: a keeper has shown another secret");
+            self.guest = None;
         }
         Ok(())
     }
 
-    /// Takes in bytes.
-    fn take(&mut self, bytes: &[u8], position: u64) -> Result<(), Fault> {
-        match self.shown.take() {
-            Some(shown) => self.show(shown, bytes, position),
-            None => {
-                self.talk.take(bytes)?;
-                Ok(())
-            }
-        }
-    }
-
     /// Reads once. Whether it may be read on.
     fn read_once(&mut self, poll: &Poll, position: u64) -> Result<bool, Fault> {
-        let Some(wire) = &mut self.wire else {
+        let Some(guest) = &mut self.guest else {
             return Ok(false);
         };
         let mut buffer = [0u8; PIECE];
-        let (got, again) = wire.read(poll, &mut buffer);
-        self.readable = again;
+        let (got, again) = guest.wire.read(poll, &mut buffer);
+        guest.readable = again;
         match got {
             Got::Nothing => {}
-            Got::End => self.drop_wire(),
+            Got::End => self.guest = None,
             Got::Bytes(count) => self.take(buffer.get(..count).unwrap_or(&[]), position)?,
         }
-        Ok(again && self.wire.is_some())
+        Ok(again && self.guest.is_some())
+    }
+
+    /// Whether something may be read of who is there.
+    fn is_read(&self) -> bool {
+        match &self.guest {
+            Some(guest) => guest.is_read(),
+            None => false,
+        }
     }
 
     /// Reads what has come, so much at most.
     pub(crate) fn read(&mut self, poll: &Poll, position: u64) -> Result<(), Fault> {
-        if !self.readable || self.late {
+        if !self.is_read() {
             return Ok(());
         }
         'reads: for _ in 0..READS {
@@ -164,5 +122,50 @@ impl Following {
         }
         self.again = true;
         Ok(())
+    }
+
+    // ---- what is told
+
+    /// Sends what the system takes, to a guest who goes if the way is broken.
+    pub(crate) fn send_out(&mut self, poll: &Poll) {
+        let is_whole = match &mut self.guest {
+            None => true,
+            Some(guest) => guest.send(poll),
+        };
+        if !is_whole {
+            self.guest = None;
+        }
+    }
+
+    /// Looks once whether a guest has taken its last words, and, at a port, has closed. Whether there is no more to wait for.
+    fn has_heard_all(&mut self, poll: &Poll) -> bool {
+        let Some(guest) = &mut self.guest else {
+            return true;
+        };
+        if !guest.is_told() {
+            return false;
+        }
+        if self.listener.is_none() {
+            return true;
+        }
+        guest.wire.finish();
+        let mut buffer = [0u8; PIECE];
+        let (got, _) = guest.wire.read(poll, &mut buffer);
+        got == Got::End
+    }
+
+    /// What was not told yet is told, and it is waited a second at most until the other end has closed.
+    pub fn last_words(&mut self, poll: &mut Poll) {
+        let Ok(mut events) = Events::with_capacity(self.means.rt.alloc(), 16) else {
+            return;
+        };
+        'looks: for _ in 0..LAST {
+            self.send_out(poll);
+            if self.has_heard_all(poll) {
+                return;
+            }
+            let _ = poll.poll(&mut events, Some(Duration::from_millis(10)));
+            self.note(&events);
+        }
     }
 }

@@ -1,105 +1,94 @@
-//! `Following`: a keeper's connection, what was heard of it, and what it is still to be told; and what is done with what it says.
+//! `Following`: the log that is followed, and who has come as its keeper.
+ghost use Rattle.std.specs.Prelude.{◌≡◌, OnOk, false};
 ghost use Rattle.iv_running.specs.Running.{Leads};
+ghost use Rattle.iv_following.specs.Guests.{has_keeper};
 
-use crate::steps::take_step;
-use crate::ways::{listener_at, no_way, secret_of};
+use crate::guest::{Guest, Stage};
+use crate::keeper::{Keeper, Means};
+use crate::shown::secret_of;
+use crate::ways::{listener_at, no_way};
 use crate::wire::Wire;
 use iv_desk::Desk;
-use iv_door::{Act, Talk};
 use iv_host::{KeeperAt, Settings};
-use iv_running::calls::may_read;
 use iv_running::{Fault, UNUSABLE, out_of_memory};
 use iv_server::Server;
 use json::Scratch;
 use mio::net::TcpListener;
 use mio::{Events, Poll};
-use std::alloc::Global;
 use std::time::Instant;
-
-/// Bytes that a keeper is to be told, beyond which nothing more is heard of it.
-const MOST_OUT: usize = 1_048_576;
 
 /// The log that is followed, and its keeper.
 #[derive(Drop)]
 pub struct Following {
-    /// The right to ask the system.
-    pub(crate) rt: HostRuntime,
-    /// The allocator of what it makes.
-    pub(crate) alloc: Global,
+    /// What the keeper is served with.
+    pub(crate) means: Means,
     /// Since when it is there.
     pub(crate) start: Instant,
-    /// How many rows a table may have.
-    pub(crate) rows: u32,
-    /// The file of the journal.
-    pub(crate) journal: String,
     /// Where keepers come in, if they do.
     pub(crate) listener: Option<TcpListener>,
     /// A keeper may wait there.
     pub(crate) coming: bool,
     /// The first line of who is a keeper: nothing if none is needed.
     pub(crate) secret: Vec<u8>,
-    /// The way to the keeper that is there.
-    pub(crate) wire: Option<Wire>,
-    /// The bytes of its first line, until it has shown the secret.
-    pub(crate) shown: Option<Vec<u8>>,
-    /// Until when it has to, in milliseconds.
-    pub(crate) until: u64,
-    /// What it says.
-    pub(crate) talk: Talk,
-    /// What it is to be told, of which so many bytes were.
-    pub(crate) out: Vec<u8>,
-    pub(crate) sent: usize,
-    /// It may have said something.
-    pub(crate) readable: bool,
-    /// The system may take bytes for it.
-    pub(crate) writable: bool,
-    /// It is to be told what is on disk.
-    pub(crate) owes: bool,
-    /// Lines that have come may be unheard: nothing more is read.
-    pub(crate) late: bool,
+    /// Who has come.
+    pub(crate) guest: Option<Guest>,
     /// The next round is to come at once.
     pub(crate) again: bool,
-    /// What JSON is read with.
-    pub(crate) scratch: Scratch,
+}
+
+/// The keeper at standard input and output.
+fn keeper_by(rt: &HostRuntime, wire: Wire) -> Result<Guest, u8> {
+    match Keeper::new(rt.alloc(), &None) {
+        Ok(keeper) => Ok(Guest::keeper(wire, keeper)),
+        Err(_) => Err(out_of_memory(rt)),
+    }
+}
+
+/// Hears what a guest has said, if it is the keeper. Whether the next round is to come at once.
+fn hear_guest(
+    means: &mut Means,
+    desk: &mut Desk,
+    server: &mut Server,
+    guest: &mut Guest,
+) -> Result<bool, Fault>
+    ensures { Leads desk.old desk.new }
+{
+    match &mut guest.stage {
+        Stage::Unknown(_, _) => Ok(false),
+        Stage::Known(keeper) => keeper.hear_lines(means, desk, server),
+    }
 }
 
 impl Following {
-    /// One to which nobody has come.
+    /// One to which this guest has come.
     fn new(
         rt: &HostRuntime,
         settings: &Settings,
         listener: Option<TcpListener>,
         secret: Vec<u8>,
-        wire: Option<Wire>,
+        guest: Option<Guest>,
     ) -> Result<Following, u8> {
-        let alloc = rt.alloc();
         let Ok(start) = Instant::now(rt) else {
             return Err(no_way(rt, "the system has no clock"));
         };
         let Ok(journal) = settings.journal.clone() else {
             return Err(out_of_memory(rt));
         };
-        Ok(Following {
+        let means = Means {
             rt: *rt,
-            alloc,
-            start,
             rows: settings.rows,
             journal,
+            log: None,
+            scratch: Scratch::new(rt.alloc()),
+        };
+        Ok(Following {
+            means,
+            start,
             coming: listener.is_some(),
             listener,
             secret,
-            wire,
-            shown: None,
-            until: 0,
-            talk: Talk::new(alloc, None),
-            out: Vec::new(alloc),
-            sent: 0,
-            readable: false,
-            writable: true,
-            owes: false,
-            late: false,
+            guest,
             again: false,
-            scratch: Scratch::new(alloc),
         })
     }
 
@@ -115,7 +104,10 @@ impl Following {
     ) -> Result<Following, u8> {
         match keeper {
             KeeperAt::Standard => match Wire::standard(rt, poll) {
-                Ok(wire) => { Following::new(rt, settings, None, Vec::new(rt.alloc()), Some(wire)) }
+                Ok(wire) => {
+                    let guest = keeper_by(rt, wire)?;
+                    Following::new(rt, settings, None, Vec::new(rt.alloc()), Some(guest))
+                }
                 Err(_) => {
                     no_way(rt, "standard input is neither a pipe nor a socket");
                     Err(UNUSABLE)
@@ -133,7 +125,7 @@ impl Following {
 
     /// Milliseconds since it is there.
     pub(crate) fn now(&self) -> u64 {
-        match self.start.elapsed(&self.rt) {
+        match self.start.elapsed(&self.means.rt) {
             Ok(time) => time
                 .as_secs()
                 .saturating_mul(1000)
@@ -149,87 +141,49 @@ impl Following {
 
     /// Whether it ends with its keeper, who has gone.
     pub(crate) fn has_ended(&self) -> bool {
-        self.listener.is_none() && self.wire.is_none()
-    }
-    /// A step has ended.
-    fn end_step(
-        &mut self,
-        desk: &mut Desk,
-        server: &mut Server,
-        from: u64,
-        to: u64,
-    ) -> Result<(), Fault>
-        ensures { Leads desk.old desk.new }
-    {
-        let texts = self.talk.take_texts();
-        let Some(log) = self.log()? else {
-            return Err(Fault::Desk);
-        };
-        self.owes = true;
-        match take_step(self.alloc, desk, &log, from, to, &texts, &mut self.scratch) {
-            Ok(()) => server.share_none(desk),
-            Err(fault) => Err(self.fail(&fault)),
-        }
+        self.listener.is_none() && self.guest.is_none()
     }
 
-    /// Does what a line asks.
-    fn heed(&mut self, desk: &mut Desk, server: &mut Server, act: Act) -> Result<(), Fault>
-        ensures { Leads desk.old desk.new }
+    /// Whether a keeper is there.
+    fn has_keeper(&self) -> bool
+        ensures { result ≡ has_keeper self.now.guest }
     {
-        match act {
-            Act::Begun | Act::GoneOn | Act::Brought => Ok(()),
-            Act::Recall => self.recall(desk.settled_at()),
-            Act::Ended(from, to) => self.end_step(desk, server, from, to),
-            Act::Opened => {
-                server.open();
-                Ok(())
-            }
-            Act::Shut => server.shut(desk),
+        match &self.guest {
+            Some(guest) => guest.is_keeper(),
+            None => false,
         }
-    }
-
-    /// Hears a line, if one has come. Whether it has.
-    fn hear_line(&mut self, desk: &mut Desk, server: &mut Server) -> Result<bool, Fault>
-        ensures { Leads desk.old desk.new }
-    {
-        match self.talk.hear() {
-            Ok(None) => Ok(false),
-            Ok(Some(act)) => {
-                self.heed(desk, server, act)?;
-                Ok(true)
-            }
-            Err(fault) => Err(self.fail(&fault)),
-        }
-    }
-
-    /// Hears the lines that have come, until much waits for the journal.
-    fn hear_lines(&mut self, desk: &mut Desk, server: &mut Server) -> Result<(), Fault>
-        ensures { Leads desk.old desk.new }
-    {
-        'lines: for _ in 0..u32::MAX {
-            if self.out.len() > MOST_OUT {
-                return Ok(());
-            }
-            if !may_read(desk) {
-                self.again = true;
-                return Ok(());
-            }
-            if !self.hear_line(desk, server)? {
-                self.late = false;
-                return Ok(());
-            }
-        }
-        Ok(())
     }
 
     /// While no keeper is there, nobody is let in, and who is there goes.
     fn shut_without(&self, desk: &mut Desk, server: &mut Server) -> Result<(), Fault>
-        ensures { Leads desk.old desk.new }
+        ensures leads { Leads desk.old desk.new }
+        ensures shut { has_keeper self.now.guest ≡ false → server.new.open ≡ false }
     {
-        if self.wire.is_some() {
+        if self.has_keeper() {
             return Ok(());
         }
         server.shut(desk)
+    }
+
+    /// Hears what has come of a keeper. Whether the next round is to come at once.
+    fn hear_keeper(&mut self, desk: &mut Desk, server: &mut Server) -> Result<bool, Fault>
+        ensures { Leads desk.old desk.new }
+    {
+        match &mut self.guest {
+            None => Ok(false),
+            Some(guest) => hear_guest(&mut self.means, desk, server, guest),
+        }
+    }
+
+    /// The next round is to come at once if something may be read now.
+    fn hurry(&mut self)
+        ensures { self.new.guest ≡ self.old.guest }
+    {
+        if let Some(guest) = &self.guest {
+            if guest.is_read() {
+                self.again = true;
+            }
+        }
     }
 
     /// Takes in what has come of a keeper, and does what that says. Whether the gateway ends with its keeper, who has gone. With a keeper
@@ -244,20 +198,32 @@ impl Following {
         poll: &Poll,
         events: &Events,
     ) -> Result<bool, Fault>
-        ensures { Leads desk.old desk.new }
+        ensures leads { Leads desk.old desk.new }
+        ensures shut { OnOk result (has_keeper self.new.guest ≡ false → server.new.open ≡ false) }
     {
         self.again = false;
         self.note(events);
         self.look_at_clock();
         self.shut_without(desk, server)?;
-        self.accept(poll)?;
+        self.accept(poll);
         self.read(poll, desk.settled_at())?;
-        self.late = true;
-        self.hear_lines(desk, server)?;
-        self.shut_without(desk, server)?;
-        if self.readable && !self.late {
+        if self.hear_keeper(desk, server)? {
             self.again = true;
         }
+        self.shut_without(desk, server)?;
+        self.hurry();
         Ok(self.has_ended())
+    }
+
+    /// The keeper is told up to where the journal has the log, if it ended a step since it was told so.
+    ///
+    /// # Errors
+    /// `Memory` if a growth of memory was refused.
+    pub fn tell(&mut self, desk: &Desk, poll: &Poll) -> Result<(), Fault> {
+        if let Some(guest) = &mut self.guest {
+            guest.settle(desk)?;
+        }
+        self.send_out(poll);
+        Ok(())
     }
 }

@@ -7,7 +7,10 @@
 mod beginning;
 mod coming;
 mod following;
-mod refusals;
+mod guest;
+mod keeper;
+mod logs;
+mod shown;
 mod steps;
 mod telling;
 mod ways;

@@ -1,84 +1,110 @@
-//! What a keeper is told: what is held, what is on disk, and why nothing more is taken.
-ghost use Rattle.std.specs.Prelude.{◌≡◌, ◌++◌, ◌∷◌, [], OnOk, false, if◌then◌else◌};
+//! `Told`: what a keeper is told: what is held, what is on disk, what was recalled, and why nothing more is taken.
+ghost use Rattle.std.specs.Prelude.{◌≡◌, ◌++◌, ◌∷◌, [], OnOk, Some, false, if◌then◌else◌, option_map};
 ghost use Rattle.iv_gate.specs.Arriving.{settled_at};
 ghost use Rattle.iv_desk.specs.Desks.{IsDesk};
 ghost use Rattle.iv_desk.specs.Front.{Front};
-ghost use Rattle.iv_door.specs.Answers.{on_disk};
+ghost use Rattle.iv_door.specs.Answers as answer;
+ghost use Rattle.iv_door.specs.Answers.{fault_line, hello, on_disk};
+ghost use Rattle.iv_door.specs.Views.{fault_of};
+ghost use Rattle.iv_following.specs.Following.{IsRecalled};
+ghost use Rattle.iv_running.specs.declared.fault.Fault.TheVariants.{Log as AtLog};
 
-use crate::following::Following;
-use crate::wire::{Got, PIECE};
 use iv_desk::Desk;
-use iv_door::{push_fault, push_hello, push_on_disk, push_recalled, push_words};
+use iv_door::{Log, push_fault, push_hello, push_on_disk, push_recalled, push_words};
 use iv_running::{Fault, recalled_in};
-use mio::{Events, Poll};
+use std::alloc::{AllocError, Global};
 use std::fs;
-use std::time::Duration;
 
-/// How often it is looked whether last words are taken, and whether the other end has closed: each time ten milliseconds at most.
-const LAST: u32 = 100;
+/// What a keeper is to be told.
+#[derive(Drop)]
+pub(crate) struct Told {
+    /// The bytes, of which so many were sent.
+    pub(crate) out: Vec<u8>,
+    pub(crate) sent: usize,
+    /// It is to be told what is on disk.
+    pub(crate) owes: bool,
+}
 
-impl Following {
-    /// Sends what the system takes. Whether the way is whole.
-    fn send(&mut self, poll: &Poll) -> bool {
-        let Some(wire) = &mut self.wire else {
-            return true;
-        };
-        for _ in 0..u32::MAX {
-            if !self.writable || self.sent >= self.out.len() {
-                return true;
-            }
-            let (count, again) = wire.write(poll, self.out.get(self.sent..).unwrap_or(&[]));
-            self.writable = again;
-            match count {
-                None => return false,
-                Some(count) => self.sent = self.sent.saturating_add(count),
-            }
-        }
-        true
+/// Says why nothing more is taken.
+fn say(rt: &HostRuntime, fault: &iv_door::Fault) -> Result<(), AllocError> {
+    let mut words = Vec::new(rt.alloc());
+    push_words(&mut words, fault)?;
+    if let Ok(words) = str::from_utf8(&words) {
+        let _ = eprintln!(rt; "gateway: the log: {words}");
     }
+    Ok(())
+}
 
-    /// Sends what the system takes, to a keeper who goes if the way is broken.
-    pub(crate) fn send_out(&mut self, poll: &Poll) {
-        if !self.send(poll) {
-            self.drop_wire();
-        }
-        if self.sent >= self.out.len() {
-            self.sent = 0;
-            self.out.truncate(0);
+impl Told {
+    /// Nothing.
+    pub(crate) fn new(alloc: Global) -> Told
+        ensures { (result.out.items ≡ []) × (result.owes ≡ false) }
+    {
+        Told {
+            out: Vec::new(alloc),
+            sent: 0,
+            owes: false,
         }
     }
 
-    /// The keeper is told a line.
-    pub(crate) fn end_line(&mut self) -> Result<(), Fault> {
+    /// Appends what is held: the log that is followed, up to a position.
+    ///
+    /// # Errors
+    /// `AllocError` if a growth of memory was refused.
+    pub(crate) fn greet(
+        &mut self,
+        rows: u32,
+        log: &Option<Log>,
+        position: u64,
+    ) -> Result<(), AllocError>
+        ensures { OnOk result (self.new.out.items
+            ≡ self.old.out.items ++ (hello rows (option_map (λ l. record { log = l; position = position }) log.now) ++ 10 ∷ [])) }
+    {
+        push_hello(&mut self.out, rows, log, position)?;
         self.out.push(b'\n')?;
         Ok(())
     }
 
-    /// It is told what is held.
-    pub(crate) fn greet(&mut self, position: u64) -> Result<(), Fault> {
-        push_hello(&mut self.out, self.rows, self.talk.log(), position)?;
-        self.end_line()
+    /// Appends the line at the end of what was recalled.
+    fn end_recall(&mut self, position: u64) -> Result<(), AllocError>
+        ensures { OnOk result (self.new.out.items ≡ self.old.out.items ++ (answer.recalled position ++ 10 ∷ [])) }
+    {
+        push_recalled(&mut self.out, position)?;
+        self.out.push(b'\n')?;
+        Ok(())
     }
 
-    /// It is told what the journal has, which is all on disk.
-    pub(crate) fn recall(&mut self, position: u64) -> Result<(), Fault> {
-        let Ok(bytes) = fs::read(&self.rt, self.journal.as_str()) else {
+    /// Appends what the journal has, which is all on disk, up to a position.
+    ///
+    /// # Errors
+    /// `Journal` if the journal cannot be read, `Memory` if a growth of memory was refused.
+    pub(crate) fn recall(
+        &mut self,
+        rt: &HostRuntime,
+        path: &str,
+        position: u64,
+    ) -> Result<(), Fault>
+        ensures { OnOk result (IsRecalled position self.old.out.items self.new.out.items) }
+    {
+        let Ok(bytes) = fs::read(rt, path) else {
             return Err(Fault::Journal);
         };
-        match recalled_in(&self.rt, self.journal.as_str(), &bytes) {
-            Err(_) => Err(Fault::Journal),
-            Ok(requests) => {
-                self.out.extend_from_slice(&requests)?;
-                push_recalled(&mut self.out, position)?;
-                self.end_line()
-            }
-        }
+        let Ok(requests) = recalled_in(rt, path, &bytes) else {
+            return Err(Fault::Journal);
+        };
+        self.out.extend_from_slice(&requests)?;
+        self.end_recall(position)?;
+        Ok(())
     }
 
     /// Appends up to where the journal has the log, if that is owed.
-    fn push_owed(&mut self, desk: &Desk) -> Result<(), Fault>
-        ensures { OnOk result ((d : Front) → IsDesk d desk.now → d.gate.dead ≡ false
+    ///
+    /// # Errors
+    /// `AllocError` if a growth of memory was refused.
+    pub(crate) fn settle(&mut self, desk: &Desk) -> Result<(), AllocError>
+        ensures told { OnOk result ((d : Front) → IsDesk d desk.now → d.gate.dead ≡ false
             → self.new.out.items ≡ self.old.out.items ++ (if self.old.owes then on_disk (settled_at d.gate) ++ 10 ∷ [] else [])) }
+        ensures owes { OnOk result (self.new.owes ≡ false) }
     {
         if !self.owes {
             return Ok(());
@@ -89,63 +115,26 @@ impl Following {
         Ok(())
     }
 
-    /// The keeper is told up to where the journal has the log, if it ended a step since it was told so.
-    ///
-    /// # Errors
-    /// `Memory` if a growth of memory was refused.
-    pub fn tell(&mut self, desk: &Desk, poll: &Poll) -> Result<(), Fault> {
-        if self.wire.is_none() {
-            self.owes = false;
-        }
-        self.push_owed(desk)?;
-        self.send_out(poll);
+    /// Appends the line of a fault.
+    fn push_fault(&mut self, fault: &iv_door::Fault) -> Result<(), AllocError>
+        ensures { OnOk result ((f : answer.Fault) → fault_of fault.now ≡ Some f → self.new.out.items ≡ self.old.out.items ++ (fault_line f ++ 10 ∷ [])) }
+    {
+        push_fault(&mut self.out, fault)?;
+        self.out.push(b'\n')?;
         Ok(())
     }
 
     /// Why nothing more is taken: the keeper is to be told, and it is said.
-    pub(crate) fn fail(&mut self, fault: &iv_door::Fault) -> Fault {
-        let mut words = Vec::new(self.alloc);
-        let is_told = push_fault(&mut self.out, fault).is_ok()
-            && self.out.push(b'\n').is_ok()
-            && push_words(&mut words, fault).is_ok();
-        if !is_told || words.is_empty() {
+    pub(crate) fn fail(&mut self, rt: &HostRuntime, fault: &iv_door::Fault) -> Fault
+        ensures { result ≡ AtLog
+            → (f : answer.Fault) × (fault_of fault.now ≡ Some f) × (self.new.out.items ≡ self.old.out.items ++ (fault_line f ++ 10 ∷ [])) }
+    {
+        if matches!(fault, iv_door::Fault::Memory) {
             return Fault::Memory;
         }
-        if let Ok(words) = str::from_utf8(&words) {
-            let _ = eprintln!(self.rt; "gateway: the log: {words}");
+        if self.push_fault(fault).is_err() || say(rt, fault).is_err() {
+            return Fault::Memory;
         }
         Fault::Log
-    }
-
-    /// What was not told yet is told, and it is waited a second at most until the other end has closed.
-    pub fn last_words(&mut self, poll: &mut Poll) {
-        let Ok(mut events) = Events::with_capacity(self.alloc, 16) else {
-            return;
-        };
-        let mut is_finished = false;
-        'looks: for _ in 0..LAST {
-            if !self.send(poll) {
-                return;
-            }
-            let Some(wire) = &mut self.wire else {
-                return;
-            };
-            if self.sent >= self.out.len() {
-                if self.listener.is_none() {
-                    return;
-                }
-                if !is_finished {
-                    wire.finish();
-                    is_finished = true;
-                }
-                let mut buffer = [0u8; PIECE];
-                let (got, _) = wire.read(poll, &mut buffer);
-                if got == Got::End {
-                    return;
-                }
-            }
-            let _ = poll.poll(&mut events, Some(Duration::from_millis(10)));
-            self.note(&events);
-        }
     }
 }

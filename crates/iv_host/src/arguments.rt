@@ -1,9 +1,12 @@
 //! `asked_for`: the words after the program's name as settings, with help, version and errors.
 //!
-//! Ranges alone are promised. Which words give which settings is shown by tests.
-ghost use Rattle.std.specs.Prelude.{◌≤◌, IfOk, IfSome};
+//! Ranges are promised, and the keeper of a log by its three options. Which words give which of the other settings is shown by tests.
+ghost use Rattle.std.specs.Prelude.{◌≡◌, ◌≤◌, ℕ, IfOk, IfSome, None, Ok, Option, Some, codes, option_map, string_bytes};
+ghost use Rattle.std.specs.Str.Parse.{ParsesUnsigned};
+ghost use Rattle.clap.specs.Words.{first_value, found_of};
 ghost use Rattle.iv_rows.specs.RowLimit.{IsRowLimit};
-ghost use Rattle.iv_host.specs.Settings.{AreValid};
+ghost use Rattle.iv_host.specs.Settings.{AreValid, IsKeeper};
+ghost use Rattle.iv_host.specs.declared.arguments.KeeperAt.{KeeperAt};
 
 use clap::error::ErrorKind;
 use clap::{Arg, ArgMatches, Command, Error, value_parser};
@@ -13,7 +16,7 @@ use std::process::ExitCode;
 use std::{env, io};
 
 /// The program's version, and the number of the protocol that it speaks.
-const VERSION: &str = "0.1.0 (protocol 1)";
+const VERSION: &str = "1.0.0 (protocol 1)";
 
 /// Where the keeper of a log is.
 #[derive(Debug, Drop)]
@@ -200,47 +203,78 @@ fn text_of(
     alloc: Global,
     matches: &ArgMatches<'_>,
     name: &str,
-) -> Result<Option<String>, AllocError> {
+) -> Result<Option<String>, AllocError>
+    ensures { IfOk result (λ o. option_map string_bytes o ≡ first_value (found_of matches.now) name.now) }
+{
     match matches.get_str(name) {
         None => Ok(None),
         Some(text) => Ok(Some(String::from_str(alloc, text)?)),
     }
 }
 
-/// The keeper of a log that these words tell, if that can be: a port has a secret, and standard input and output has none.
-fn keeper_at(log: Option<String>, secret: Option<String>) -> Result<Option<KeeperAt>, ()> {
-    match (log, secret) {
-        (None, None) => Ok(None),
-        (Some(log), None) => {
-            if log.as_str() == "-" {
-                Ok(Some(KeeperAt::Standard))
-            } else {
-                Err(())
-            }
-        }
-        (Some(log), Some(secret)) => match log.as_str().parse::<u16>() {
-            Ok(port) if port >= 1 => Ok(Some(KeeperAt::Port(port, secret))),
-            _ => Err(()),
-        },
-        (None, Some(_)) => Err(()),
+/// The port that a text writes, if it is from 1 on.
+fn port_in(text: &str) -> Option<u16>
+    ensures some { IfSome result (λ n. ParsesUnsigned {E = Unit {0}} 16 10 text.now (Ok n) × (1 ≤ n)) }
+    ensures none { result ≡ None → (n : ℕ) → ParsesUnsigned {E = Unit {0}} 16 10 text.now (Ok n) → 1 ≤ n → ⊥ }
+{
+    match text.parse::<u16>() {
+        Ok(number) => { if number >= 1 { Some(number) } else { None } }
+        Err(_) => None,
     }
 }
 
-/// The keeper of a log that the matched words tell; none if these cannot be.
+/// The keeper at a port, or at standard input and output.
+fn keeper_by(log: &str, secret: Option<String>) -> Option<KeeperAt>
+    ensures some { IfSome result (λ k. IsKeeper (Some log.now) (option_map string_bytes secret) None (Some k)) }
+    ensures none { result ≡ None → (k : Option KeeperAt) → IsKeeper (Some log.now) (option_map string_bytes secret) None k → ⊥ }
+{
+    match secret {
+        Some(file) => Some(KeeperAt::Port(port_in(log)?, file)),
+        None => {
+            if log == "-" {
+                Some(KeeperAt::Standard)
+            } else {
+                None
+            }
+        }
+    }
+}
+
+/// The keeper of a log by the texts of its options and whether there is a seed; none if these cannot be.
+fn keeper_at(
+    log: Option<String>,
+    secret: Option<String>,
+    seed: &Option<String>,
+) -> Option<Option<KeeperAt>>
+    ensures some { IfSome result (IsKeeper (option_map string_bytes log) (option_map string_bytes secret) (option_map string_bytes seed.now)) }
+    ensures none { result ≡ None → (k : Option KeeperAt)
+        → IsKeeper (option_map string_bytes log) (option_map string_bytes secret) (option_map string_bytes seed.now) k → ⊥ }
+{
+    match log {
+        None => { if secret.is_none() { Some(None) } else { None } }
+        Some(log) => {
+            if seed.is_some() {
+                return None;
+            }
+            Some(Some(keeper_by(log.as_str(), secret)?))
+        }
+    }
+}
+
+/// The keeper of a log by the matched words; none if these cannot be.
 fn keeper_of(
     alloc: Global,
     matches: &ArgMatches<'_>,
-) -> Result<Option<Option<KeeperAt>>, AllocError> {
+    seed: &Option<String>,
+) -> Result<Option<Option<KeeperAt>>, AllocError>
+    ensures some { IfOk result (λ o. IfSome o (IsKeeper (first_value (found_of matches.now) (codes "log"))
+        (first_value (found_of matches.now) (codes "log-secret-file")) (option_map string_bytes seed.now))) }
+    ensures none { IfOk result (λ o. o ≡ None → (k : Option KeeperAt) → IsKeeper (first_value (found_of matches.now) (codes "log"))
+        (first_value (found_of matches.now) (codes "log-secret-file")) (option_map string_bytes seed.now) k → ⊥) }
+{
     let log = text_of(alloc, matches, "log")?;
-    let follows = log.is_some();
     let secret = text_of(alloc, matches, "log-secret-file")?;
-    if follows && matches.get_str("seed").is_some() {
-        return Ok(None);
-    }
-    match keeper_at(log, secret) {
-        Ok(keeper) => Ok(Some(keeper)),
-        Err(()) => Ok(None),
-    }
+    Ok(keeper_at(log, secret, seed))
 }
 
 /// The numbers of settings.
@@ -268,9 +302,11 @@ fn numbers_of(matches: &ArgMatches<'_>) -> Option<Numbers>
     })
 }
 
-/// The settings that the matched words ask for; none if a number or the address is not valid.
+/// The settings that the matched words ask for; none if a number, the address or the keeper is not valid.
 fn found(alloc: Global, matches: &ArgMatches<'_>) -> Result<Option<Settings>, AllocError>
-    ensures { IfOk result (λ o. IfSome o AreValid) }
+    ensures valid { IfOk result (λ o. IfSome o AreValid) }
+    ensures keeper { IfOk result (λ o. IfSome o (λ s. IsKeeper (first_value (found_of matches.now) (codes "log"))
+        (first_value (found_of matches.now) (codes "log-secret-file")) (first_value (found_of matches.now) (codes "seed")) s.keeper)) }
 {
     let Some(numbers) = numbers_of(matches) else {
         return Ok(None);
@@ -281,7 +317,8 @@ fn found(alloc: Global, matches: &ArgMatches<'_>) -> Result<Option<Settings>, Al
     ) else {
         return Ok(None);
     };
-    let Some(keeper) = keeper_of(alloc, matches)? else {
+    let seed = text_of(alloc, matches, "seed")?;
+    let Some(keeper) = keeper_of(alloc, matches, &seed)? else {
         return Ok(None);
     };
     Ok(Some(Settings {
@@ -290,7 +327,7 @@ fn found(alloc: Global, matches: &ArgMatches<'_>) -> Result<Option<Settings>, Al
         journal,
         tokens,
         pages: text_of(alloc, matches, "pages")?,
-        seed: text_of(alloc, matches, "seed")?,
+        seed,
         jwt_secret: text_of(alloc, matches, "jwt-secret-file")?,
         keeper,
         rows: numbers.rows,

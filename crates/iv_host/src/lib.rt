@@ -20,7 +20,7 @@ pub use beginning::head_of;
 pub use counts::{BOUNDS, Counts, Why, raise};
 pub use figures::{Now, figures_now, state_now};
 pub use journal::{
-    DiskJournal, FileJournal, JournalFile, OpenFault, Syncs, is_plain, random_digits,
+    DiskJournal, FileJournal, JournalFile, OpenFault, Syncs, is_plain, lines_of, random_digits,
 };
 pub use log::Log;
 pub use pages::{answer, page_in, refusal};

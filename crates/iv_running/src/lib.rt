@@ -10,6 +10,6 @@ mod opening;
 mod said;
 
 pub use fault::Fault;
-pub use logs::{Follows, begin_log, followed_in, recalled_in};
+pub use logs::{Follows, begin_log, followed_in, recalled_in, requests_are_recalled};
 pub use opening::{come_back, open_journal};
 pub use said::{KEEPER, SYSTEM, UNUSABLE, failed, no_log_in, out_of_memory};

@@ -1,1 +1,1 @@
-pub mod TokenCounts
+pub mod ClosedSockets

@@ -2,7 +2,6 @@
 #![tactic(auto)]
 
 mod answering;
-mod by_token;
 mod reading;
 mod sending;
 mod server;

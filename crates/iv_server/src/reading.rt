@@ -1,9 +1,12 @@
 //! What a round reads: heads of requests, and what clients say, at most so much of each, until much is told.
-ghost use Rattle.std.specs.Prelude.{◌≡◌, ◌++◌, OnOk};
+ghost use Rattle.std.specs.Prelude.{◌≡◌, ◌++◌, OnOk, false};
+ghost use Rattle.iv_desk.specs.Front.{Front};
+ghost use Rattle.iv_desk.specs.Desks.{IsDesk};
 ghost use Rattle.iv_running.specs.Running.{Leads};
+ghost use Rattle.iv_server.specs.Sharing.{IsShared, last_end, user_at, waiting_lines};
 
 use crate::server::{COMING, Kind, Server};
-use crate::socket::{Got, Stage, listen_at, read_at};
+use crate::socket::{Got, Stage, listen_at, read_at, read_head_at};
 use iv_audit::Share;
 use iv_desk::{Desk, Hearing};
 use iv_host::{ADMIN, FileJournal, Why, raise, refusal};
@@ -33,8 +36,28 @@ const MOST_BY_TOKEN: usize = 64;
 /// Numbers that are kept for administrators.
 const KEPT: usize = 16;
 
+/// The end of the last share.
+fn last_end(shares: &[Share]) -> usize
+    ensures { result ≡ last_end shares.now }
+{
+    match shares.last() {
+        Some(share) => share.end,
+        None => 0,
+    }
+}
+
+/// Who holds the token by which the client of a number came in: no text if that is not said.
+fn user_of<'a>(desk: &'a Desk, at: u32) -> &'a str
+    ensures { (d : Front) → IsDesk d desk.now → d.gate.dead ≡ false → result.now ≡ user_at d at }
+{
+    match desk.user_of(at) {
+        Some(user) => user,
+        None => "",
+    }
+}
+
 impl Server {
-    /// Reads of the head of a request.
+    /// Reads of the head of a request. Nothing happens to the desk while nobody may come in.
     fn read_head(
         &mut self,
         rt: &HostRuntime,
@@ -42,22 +65,17 @@ impl Server {
         journal: &FileJournal,
         at: u32,
     ) -> Result<(), Fault>
-        ensures { Leads desk.old desk.new }
+        ensures leads { Leads desk.old desk.new }
+        ensures shut { self.old.open ≡ false → desk.new ≡ desk.old }
     {
-        let Some(socket) = self.socket(at) else {
-            return Ok(());
-        };
-        match socket.read_head()? {
-            Got::Nothing => {
-                socket.readable = false;
-                Ok(())
-            }
+        match read_head_at(&mut self.sockets, at)? {
+            Got::Nothing => Ok(()),
             Got::End => self.go(at, Why::Closed),
             Got::Bytes(_) => self.ask(rt, desk, journal, at),
         }
     }
 
-    /// Does what the head of a request asks for, if it is whole.
+    /// Does what the head of a request asks for, if it is whole. Nothing happens to the desk while nobody may come in.
     fn ask(
         &mut self,
         rt: &HostRuntime,
@@ -65,8 +83,10 @@ impl Server {
         journal: &FileJournal,
         at: u32,
     ) -> Result<(), Fault>
-        ensures { Leads desk.old desk.new }
+        ensures leads { Leads desk.old desk.new }
+        ensures shut { self.old.open ≡ false → desk.new ≡ desk.old }
     {
+        let open = self.open;
         let head = self.head_of(at);
         let only_head = head.starts_with(b"HEAD ");
         match asked(&head) {
@@ -75,7 +95,7 @@ impl Server {
                 Ok(())
             }
             Wish::Upgrade => {
-                if self.open {
+                if open {
                     return self.upgrade(desk, at, &head);
                 }
                 let answer = refusal(rt, Refusal::Unavailable, false)?;
@@ -179,16 +199,14 @@ impl Server {
     }
 
     /// The entries that were made since this was last called were made at a number, by who holds its token.
-    fn share(&mut self, desk: &Desk, at: u32) -> Result<(), Fault> {
+    fn share(&mut self, desk: &Desk, at: u32) -> Result<(), Fault>
+        ensures { OnOk result ((d : Front) → IsDesk d desk.now → d.gate.dead ≡ false → IsShared (waiting_lines d) (user_at d at) self.old.shares.items self.new.shares.items) }
+    {
         let end = desk.entered().len();
-        let before = match self.shares.last() {
-            Some(share) => share.end,
-            None => 0,
-        };
-        if end == before {
+        if end == last_end(&self.shares) {
             return Ok(());
         }
-        let holder = String::from_str(self.alloc, desk.user_of(at).unwrap_or(""))?;
+        let holder = String::from_str(self.alloc, user_of(desk, at))?;
         self.shares.push(Share { end, holder })?;
         Ok(())
     }
@@ -316,7 +334,7 @@ impl Server {
         let Some(digest) = desk.digest_of(at) else {
             return Ok(true);
         };
-        let count = self.by_token.come(digest)?;
+        let count = self.admission.come(digest)?;
         let most = self.sockets.len();
         if role != ADMIN && most > 4 * KEPT && self.inside.saturating_add(KEPT) > most {
             return Ok(false);

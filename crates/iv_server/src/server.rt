@@ -1,7 +1,12 @@
 //! `Server`: the sockets by their numbers, which are the desk's and the poll's, and what a round does with them.
+ghost use Rattle.std.specs.Prelude.{◌≡◌, OnOk, [], false, true};
+ghost use Rattle.iv_desk.specs.Front.{Front};
+ghost use Rattle.iv_desk.specs.Desks.{IsDesk};
 ghost use Rattle.iv_running.specs.Running.{Leads};
+ghost use Rattle.iv_admission.specs.Admitting.{IsHanded, tokens_of};
+ghost use Rattle.iv_server.specs.Shutting.{ClosedAreOver, closed_at, closed_below};
+ghost use Rattle.iv_server.specs.Sharing.{HasShare, waiting_lines};
 
-use crate::by_token::ByToken;
 use crate::socket::{Socket, Stage};
 use iv_admission::Admission;
 use iv_audit::Share;
@@ -56,8 +61,6 @@ pub struct Server {
     pub(crate) shares: Vec<Share>,
     /// How many that have come in are there.
     pub(crate) inside: usize,
-    /// How many clients are there by each token.
-    pub(crate) by_token: ByToken,
     /// Clients may come in.
     pub(crate) open: bool,
     /// Somebody may wait to be accepted.
@@ -176,7 +179,11 @@ impl Places {
 
 impl Server {
     /// One with these places, in which nobody is. Whether clients may come in.
-    pub fn new(alloc: Global, places: Places, admission: Admission, open: bool) -> Server {
+    pub fn new(alloc: Global, places: Places, admission: Admission, open: bool) -> Server
+        ensures open { result.open ≡ open }
+        ensures shares { result.shares.items ≡ [] }
+        ensures admission { result.admission ≡ admission }
+    {
         let Places {
             most,
             pages,
@@ -193,7 +200,6 @@ impl Server {
             gone: Vec::new(alloc),
             shares: Vec::new(alloc),
             inside: 0,
-            by_token: ByToken::new(alloc),
             open,
             accepting: false,
             again: false,
@@ -451,25 +457,29 @@ impl Server {
         desk: &mut Desk,
         file: &mut TokenFile,
     ) -> Result<(), Fault>
-        ensures { Leads desk.old desk.new }
+        ensures leads { Leads desk.old desk.new }
+        ensures handed { OnOk result (IsHanded self.old.admission.known (tokens_of self.new.admission) desk.old desk.new) }
     {
         self.admission.look(rt, desk, file)
     }
 
     /// Clients may come in.
-    pub fn open(&mut self) {
+    pub fn open(&mut self)
+        ensures { self.new ≡ record self.old { open = true } }
+    {
         self.open = true;
     }
 
     /// The connection of a number is closed, if the desk has it.
     fn close_at(&mut self, desk: &mut Desk, at: u32) -> Result<(), Fault>
-        ensures { Leads desk.old desk.new }
+        ensures leads { Leads desk.old desk.new }
+        ensures closed { OnOk result ((d : Front) → IsDesk d desk.old → IsDesk (closed_at at d) desk.new) }
+        ensures same { self.new.open ≡ self.old.open }
     {
-        if self.kind(at) != Kind::Desk {
-            return Ok(());
-        }
         close(desk, at, 1013, b"The log is not followed now.")?;
-        self.asked.push(at)?;
+        if self.kind(at) == Kind::Desk {
+            self.asked.push(at)?;
+        }
         Ok(())
     }
 
@@ -478,7 +488,11 @@ impl Server {
     /// # Errors
     /// `Memory` if a growth of memory was refused.
     pub fn shut(&mut self, desk: &mut Desk) -> Result<(), Fault>
-        ensures { Leads desk.old desk.new }
+        ensures leads { Leads desk.old desk.new }
+        ensures shut { self.new.open ≡ false }
+        ensures all { self.old.open ≡ true → OnOk result ((d : Front) → IsDesk d desk.old → IsDesk (closed_below self.old.most d) desk.new) }
+        ensures over { ClosedAreOver }
+        ensures none { self.old.open ≡ false → desk.new ≡ desk.old }
     {
         if !self.open {
             return Ok(());
@@ -494,7 +508,11 @@ impl Server {
     ///
     /// # Errors
     /// `Memory` if a growth of memory was refused.
-    pub fn share_none(&mut self, desk: &Desk) -> Result<(), Fault> {
+    pub fn share_none(&mut self, desk: &Desk) -> Result<(), Fault>
+        ensures share { OnOk result ((d : Front) → IsDesk d desk.now → d.gate.dead ≡ false
+            → HasShare (waiting_lines d) [] self.old.shares.items self.new.shares.items) }
+        ensures same { self.new.open ≡ self.old.open }
+    {
         let end = desk.entered().len();
         let holder = String::new(self.alloc);
         self.shares.push(Share { end, holder })?;

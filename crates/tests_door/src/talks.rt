@@ -15,7 +15,7 @@ const NEW: [(&str, &str); 6] = [
 {\"from\":12,\"step\":18446744073709551615}
 {\"open\":false}
 ",
-        "begun brought brought ended 0 12 3 opened ended 12 18446744073709551615 1 shut ",
+        "begun brought brought ended 0 12 [\"as\":\"admin\",\"do\":\"create_role\",\"name\":\"mia\"}] [\"once\":\"x\"}] [\"step\":12}] opened ended 12 18446744073709551615 [\"step\":18446744073709551615}] shut ",
     ),
     ("{\"recall\":true}\n", "no log is followed yet: begin one"),
     (
@@ -39,7 +39,7 @@ const OLD: [(&str, &str); 12] = [
 {\"go_on\":\"example\",\"epoch\":\"0123456789abcdef0123456789abcdef\"}
 {\"from\":3,\"step\":4}
 ",
-        "recall gone_on ended 3 4 1 ",
+        "recall gone_on ended 3 4 [\"step\":4}] ",
     ),
     (
         "{\"begin\":\"example\",\"epoch\":\"0123456789abcdef0123456789abcdef\"}\n",
@@ -89,8 +89,26 @@ fn example(alloc: Global) -> Result<Log, AllocError> {
     })
 }
 
+/// Appends where a step begins and ends, and its texts.
+fn push_step(
+    alloc: Global,
+    out: &mut Vec<u8>,
+    from: u64,
+    to: u64,
+    texts: &[Vec<u8>],
+) -> Result<(), AllocError> {
+    let ended = format!(in alloc; "ended {from} {to} ")?;
+    out.extend_from_slice(ended.as_bytes())?;
+    for text in texts {
+        out.extend_from_slice(b"[")?;
+        out.extend_from_slice(text)?;
+        out.extend_from_slice(b"] ")?;
+    }
+    Ok(())
+}
+
 /// Appends what is heard by an act.
-fn push_act(alloc: Global, out: &mut Vec<u8>, talk: &mut Talk, act: Act) -> Result<(), AllocError> {
+fn push_act(alloc: Global, out: &mut Vec<u8>, act: &Act) -> Result<(), AllocError> {
     let word = match act {
         Act::Begun => "begun ",
         Act::GoneOn => "gone_on ",
@@ -98,12 +116,7 @@ fn push_act(alloc: Global, out: &mut Vec<u8>, talk: &mut Talk, act: Act) -> Resu
         Act::Brought => "brought ",
         Act::Opened => "opened ",
         Act::Shut => "shut ",
-        Act::Ended(from, to) => {
-            let count = talk.take_texts().len();
-            let text = format!(in alloc; "ended {from} {to} {count} ")?;
-            out.extend_from_slice(text.as_bytes())?;
-            return Ok(());
-        }
+        Act::Ended(from, to, texts) => return push_step(alloc, out, *from, *to, texts),
     };
     out.extend_from_slice(word.as_bytes())?;
     Ok(())
@@ -114,7 +127,7 @@ fn push_heard(alloc: Global, out: &mut Vec<u8>, talk: &mut Talk) -> Result<bool,
     for _ in 0..64 {
         match talk.hear() {
             Ok(None) => return Ok(true),
-            Ok(Some(act)) => push_act(alloc, out, talk, act)?,
+            Ok(Some(act)) => push_act(alloc, out, &act)?,
             Err(fault) => {
                 push_words(out, &fault)?;
                 return Ok(false);
