@@ -108,8 +108,9 @@ class Beside:
             for it in following.processes():
                 os.kill(it, signal.SIGKILL)
             following.end()
-            self.session.ask("select pg_terminate_backend(active_pid) from pg_replication_slots where active;", "select pg_sleep(0.5);",
-                             "select pg_drop_replication_slot(slot_name) from pg_replication_slots;")
+            while self.session.ask("select pg_terminate_backend(active_pid) from pg_replication_slots where active;"):
+                time.sleep(0.1)
+            self.session.ask("select pg_drop_replication_slot(slot_name) from pg_replication_slots;")
 
     def postgresql(self) -> float:
         """Seconds of its processor."""
