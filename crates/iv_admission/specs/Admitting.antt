@@ -30,12 +30,12 @@ abbrev pub IsHanded : Known → List Token → (x y : Desk) → Type 0
 IsHanded k tokens x y = IsToldOf tokens x y ⊎ ((y ≡ x) × (handed_on k ≡ Some tokens))
 
 -- these tokens of a file are known, and no web token, and they were handed on
-pub record IsBegun (entries : List Entry) (a : Admission) (tokens : List Token) : Type 0 where
-  pub entries : a.known.entries ≡ entries
+pub record IsBegun (es : List Entry) (a : Admission) (ts : List Token) : Type 0 where
+  pub entries : a.known.entries ≡ es
   pub web : a.known.web ≡ []
-  pub tokens : tokens ≡ tokens_of a
-  pub handed : handed_on a.known ≡ Some tokens
-  pub admins : a.admins.tokens.items ≡ admins_among tokens
+  pub tokens : ts ≡ tokens_of a
+  pub handed : handed_on a.known ≡ Some ts
+  pub admins : a.admins.tokens.items ≡ admins_among ts
 
 -- the tokens are those of some file, which has some
 abbrev pub AreOfFile : List Entry → Type 0
