@@ -111,6 +111,7 @@ impl Following {
             if self.hear_begun()? {
                 return Ok(true);
             }
+            self.let_go();
             if self.has_ended() {
                 return Ok(false);
             }
