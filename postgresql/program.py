@@ -84,7 +84,10 @@ def init(found: State, settings: Settings, path: pathlib.Path | None) -> int:
     if path is None:
         print(text, end="")
     else:
-        kept = os.open(path, os.O_WRONLY | os.O_CREAT | os.O_EXCL, 0o600)  # a DSN may have a password
+        try:
+            kept = os.open(path, os.O_WRONLY | os.O_CREAT | os.O_EXCL, 0o600)  # a DSN may have a password
+        except FileExistsError:
+            raise Wrong(f"{path} is there already") from None
         with open(kept, "w", encoding="utf-8") as file:
             file.write(text)
     left = [it.name for it in found.made.values() if it.faults]

@@ -48,6 +48,8 @@ MADE = [f'{{"do":"create_role","name":"{role}"}}' for role in ROLES] + [
 class Server:
     """A gateway on a port of its own, with the processes that it has. Each token opens its role to some clients."""
 
+    patience = 60.0  # seconds until it listens
+
     def __init__(self, name: str, words: list[str | pathlib.Path], size: int) -> None:
         self.name, self.room = name, tempfile.TemporaryDirectory(prefix="bench-")
         folder = pathlib.Path(self.room.name)
@@ -62,7 +64,7 @@ class Server:
         self.log = folder / "log"
         with self.log.open("wb") as log:
             self.process = subprocess.Popen([*words, *own], stdin=subprocess.DEVNULL, stdout=log, stderr=log)
-        end = time.monotonic() + 60
+        end = time.monotonic() + self.patience
         while not self.listens():
             if self.process.poll() is not None or time.monotonic() > end:
                 raise SystemExit(f"bench: {name} does not listen: {self.log.read_text()}")
@@ -116,7 +118,7 @@ class Bench:
         due, replied, wall = writer.write(rate, self.given.seconds)
         told = crowd.told(len(due))
         used = [now - then for now, then in zip(server.processor(), before)]
-        lines, wanted = told.lines, len(due) * crowd.size
+        lines, wanted = told.rows, len(due) * crowd.size
         short = sum(told.count[it] != crowd.size for it in due)
         row = {
             "gateway": server.name, "readers": f"{crowd.size:,}", "writes a second": number(len(due) / wall) + ("" if rate else " (most)"),

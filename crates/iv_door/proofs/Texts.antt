@@ -7,7 +7,8 @@ use Rattle.std.specs.Str.Parse.{AllDigits}
 use Rattle.std.proofs.Math.Seq.{drop-append_seam, take-append_seam}
 use Rattle.std.proofs.lemmas.Bool.{eqb-true, false≢true, ltb-true}
 use Rattle.std.proofs.lemmas.Fmt.{decimal_is_IsNumeral}
-use Rattle.iv_door.specs.Said.{Log, ends, is_digit, is_epoch, is_log, is_name, is_well, line_of, log_line}
+use Rattle.iv_records.specs.Names.{is_between, is_epoch}
+use Rattle.iv_door.specs.Said.{Log, ends, has_form, is_name, is_well, line_of, log_line}
 
 -- ---- tests
 
@@ -162,10 +163,10 @@ pub to_line : (to : ℕ) → codes "\"step\":" ++ (decimal to ++ []) ≡ codes "
 to_line to = ap (λ z. codes "\"step\":" ++ z) (append-nil (decimal to))
 
 -- the parts of a log's line
-epoch_fits : (l : Log) → is_log l ≡ true → length l.epoch ≡ 32
-epoch_fits l h = eqb-true (length l.epoch) 32 (both_true (length l.epoch == 32) (list_all is_digit l.epoch) (both_true (is_name l.name) (is_epoch l.epoch) h).1).0
+epoch_fits : (l : Log) → has_form l ≡ true → length l.epoch ≡ 32
+epoch_fits l h = eqb-true (length l.epoch) 32 (both_true (length l.epoch == 32) (list_all (λ b. is_between 48 57 b || is_between 97 102 b) l.epoch) (both_true (is_name l.name) (is_epoch l.epoch) h).1).0
 
-pub log_parts : (front line m b e : List ℕ) (l : Log) → front ++ (m ++ codes "\"}") ≡ line → (b ++ e ≡ m) × (length e ≡ 32) → (is_log l ≡ true) × (log_line front l ≡ line)
+pub log_parts : (front line m b e : List ℕ) (l : Log) → front ++ (m ++ codes "\"}") ≡ line → (b ++ e ≡ m) × (length e ≡ 32) → (has_form l ≡ true) × (log_line front l ≡ line)
     → Parts b e (l.name ++ codes "\",\"epoch\":\"") l.epoch
 log_parts front line m b e l h c k =
     same_ends b e (l.name ++ codes "\",\"epoch\":\"") l.epoch

@@ -1,6 +1,8 @@
 -- What a keeper of a log says to a gateway that follows it: lines, byte for byte.
-use Rattle.std.specs.Prelude.{ℕ, ◌==◌, ◌^◌, ◌&&◌, ◌||◌, not, Bool, true, List, ◌∷◌, ◌++◌, bytes_eq, codes, decimal, length, nat_le, nat_lt, take}
+use Rattle.std.specs.Prelude.{ℕ, ◌==◌, ◌&&◌, ◌||◌, not, Bool, true, List, ◌∷◌, ◌++◌, bytes_eq, codes, decimal, length, nat_le, nat_lt, take}
 use Rattle.std.specs.List.{list_all}
+use Rattle.iv_records.specs.Journal.{position_text}
+use Rattle.iv_records.specs.Names.{is_count, is_epoch}
 
 -- a log by its name, and which beginning of it
 pub record Log : Type 0 where
@@ -23,16 +25,12 @@ pub data Said : Type 0 where
 abbrev pub log_line : (front : List ℕ) → Log → List ℕ
 log_line front l = front ++ (l.name ++ (codes "\",\"epoch\":\"" ++ (l.epoch ++ codes "\"}")))
 
--- the text by which a journal ends a step
-abbrev pub step_text : ℕ → List ℕ
-step_text to = codes "\"step\":" ++ (decimal to ++ codes "}")
-
 abbrev pub line_of : Said → List ℕ
 line_of (begins l) = log_line (codes "{\"begin\":\"") l
 line_of (goes_on l) = log_line (codes "{\"go_on\":\"") l
 line_of recalls = codes "{\"recall\":true}"
 line_of (brings text) = 123 ∷ text
-line_of (ends from to) = codes "{\"from\":" ++ (decimal from ++ 44 ∷ step_text to)
+line_of (ends from to) = codes "{\"from\":" ++ (decimal from ++ 44 ∷ position_text to)
 line_of opens = codes "{\"open\":true}"
 line_of shuts = codes "{\"open\":false}"
 
@@ -42,26 +40,19 @@ line_of shuts = codes "{\"open\":false}"
 abbrev pub is_letter : ℕ → Bool
 is_letter b = (nat_le 32 b && nat_lt b 127) && not ((b == 34) || (b == 92))
 
--- a hexadecimal digit, of small letters
-abbrev pub is_digit : ℕ → Bool
-is_digit b = (nat_le 48 b && nat_le b 57) || (nat_le 97 b && nat_le b 102)
-
 abbrev pub is_name : List ℕ → Bool
 is_name name = (nat_le 1 (length name) && nat_le (length name) 128) && list_all is_letter name
 
-abbrev pub is_epoch : List ℕ → Bool
-is_epoch epoch = (length epoch == 32) && list_all is_digit epoch
-
-abbrev pub is_log : Log → Bool
-is_log l = is_name l.name && is_epoch l.epoch
+abbrev pub has_form : Log → Bool
+has_form l = is_name l.name && is_epoch l.epoch
 
 -- it begins as a request in a journal does, or as a name
 abbrev pub is_brought : List ℕ → Bool
 is_brought text = bytes_eq (take 6 text) (codes "\"as\":\"") || bytes_eq (take 8 text) (codes "\"once\":\"")
 
 abbrev pub is_well : Said → Bool
-is_well (begins l) = is_log l
-is_well (goes_on l) = is_log l
+is_well (begins l) = has_form l
+is_well (goes_on l) = has_form l
 is_well (brings text) = is_brought text
-is_well (ends from to) = nat_lt from (2 ^ 64) && nat_lt to (2 ^ 64)
+is_well (ends from to) = is_count from && is_count to
 is_well _ = true

@@ -2,7 +2,8 @@
 use Rattle.std.specs.Prelude.{◌≡◌, ◌≢◌, ◌<◌, ◌≤◌, ℕ, ◌+◌, ◌==◌, ◌&&◌, Bool, true, false, if◌then◌else◌, List, [], ◌∷◌, ◌++◌, bytes_eq, length, nat_le, nat_lt, Option, None, Some}
 use Rattle.std.specs.List.{list_any}
 use Rattle.iv_rows.specs.Options.{if_some}
-use Rattle.iv_door.specs.Said.{Log, Said, begins, goes_on, recalls, brings, ends, opens, shuts, is_well, line_of, step_text}
+use Rattle.iv_records.specs.Journal.{position_text}
+use Rattle.iv_door.specs.Said.{Log, Said, begins, goes_on, recalls, brings, ends, opens, shuts, is_well, line_of}
 use Rattle.iv_door.specs.Answers.{Fault, too_long, no_line, wrong_time, no_log, other_log, no_room}
 
 -- bytes of a line without its newline, and lines and bytes of a step before its last line, at most
@@ -73,7 +74,7 @@ says t (begins l) = before t (if_some t.log (acts begun, record t { log = Some l
 says t (goes_on l) = before t (if_some t.log (fails no_log, t) (λ k. if is_same k l then (acts gone_on, record t { follows = true }) else (fails (other_log k), t)))
 says t recalls = before t (if_some t.log (fails no_log, t) (λ k. (acts recalled, t)))
 says t (brings text) = behind t (if has_room t text then (acts brought, with_text text t) else (fails no_room, t))
-says t (ends from to) = behind t (acts (ended from to (t.texts ++ step_text to ∷ [])), stepped t)
+says t (ends from to) = behind t (acts (ended from to (t.texts ++ position_text to ∷ [])), stepped t)
 says t opens = behind t (acts opened, t)
 says t shuts = behind t (acts shut, t)
 

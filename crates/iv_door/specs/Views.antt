@@ -21,7 +21,7 @@ said_of said.Shut = spec.shuts
 
 -- a log's line
 abbrev pub IsLogIn : (line front : List ℕ) → spec.Log → Type 0
-IsLogIn line front l = (spec.is_log l ≡ true) × (spec.log_line front l ≡ line)
+IsLogIn line front l = (spec.has_form l ≡ true) × (spec.log_line front l ≡ line)
 
 -- what is said by a line that has no parts
 abbrev pub IsWord : spec.Said → Type 0

@@ -1,7 +1,7 @@
 //! What a gateway answers a keeper: its first line, what is on disk, what was recalled, and `Fault`, why it takes nothing more.
 ghost use Rattle.std.specs.Prelude.{◌≡◌, ◌++◌, [], OnOk, codes, decimal, option_map};
 ghost use Rattle.iv_rows.specs.Options.{if_some};
-ghost use Rattle.iv_door.specs.Said.{step_text};
+ghost use Rattle.iv_records.specs.Journal.{position_text};
 ghost use Rattle.iv_door.specs.Answers.{gap, held_text, hello, not_accepted, on_disk, other_log, recalled, words_of};
 ghost use Rattle.iv_door.specs.Views.{fault_of};
 
@@ -93,7 +93,7 @@ fn push_both(
 
 /// Appends the text by which a journal ends a step.
 pub(crate) fn push_step(out: &mut Vec<u8>, to: u64) -> Result<(), AllocError>
-    ensures { OnOk result (out.new.items ≡ out.old.items ++ step_text to) }
+    ensures { OnOk result (out.new.items ≡ out.old.items ++ position_text to) }
 {
     push_with(out, b"\"step\":", to, b"}")
 }

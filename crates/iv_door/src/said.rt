@@ -1,8 +1,9 @@
 //! `Said`: what a keeper says; `read_said` reads a line of it.
-ghost use Rattle.std.specs.Prelude.{◌≡◌, ◌≢◌, ◌<◌, ◌^◌, ◌==◌, ◌++◌, ◌∷◌, ℕ, List, None, IfOk, IfSome, decimal, false, length, option_map, true};
+ghost use Rattle.std.specs.Prelude.{◌≡◌, ◌≢◌, ◌<◌, ◌^◌, ◌==◌, ◌||◌, ◌++◌, ◌∷◌, ℕ, List, None, IfOk, IfSome, decimal, false, length, option_map, true};
 ghost use Rattle.std.specs.List.{list_all, list_any};
 ghost use Rattle.iv_door.specs.Said as spec;
-ghost use Rattle.iv_door.specs.Said.{ends, is_brought, is_digit, is_epoch, is_letter, is_log, is_name, is_well, line_of};
+ghost use Rattle.iv_records.specs.Names.{is_between, is_epoch};
+ghost use Rattle.iv_door.specs.Said.{ends, has_form, is_brought, is_letter, is_name, is_well, line_of};
 ghost use Rattle.iv_door.specs.Talk.{IsSaidBy};
 ghost use Rattle.iv_door.specs.Views.{IsLogIn, IsWord, said_of};
 
@@ -91,13 +92,13 @@ fn are_letters(text: &[u8]) -> bool
 }
 
 fn is_digit(byte: u8) -> bool
-    ensures { result ≡ is_digit byte }
+    ensures { result ≡ (is_between 48 57 byte || is_between 97 102 byte) }
 {
     (48 <= byte && byte <= 57) || (97 <= byte && byte <= 102)
 }
 
 fn are_digits(text: &[u8]) -> bool
-    ensures { result ≡ list_all is_digit text.now }
+    ensures { result ≡ list_all (λ b. is_between 48 57 b || is_between 97 102 b) text.now }
 {
     text.iter().all(|byte| is_digit(*byte))
 }
@@ -117,8 +118,8 @@ fn is_epoch(epoch: &[u8]) -> bool
 }
 
 /// Whether it is the name and the epoch of a log.
-fn is_log(name: &[u8], epoch: &[u8]) -> bool
-    ensures { result ≡ is_log (record { name = name.now; epoch = epoch.now }) }
+fn has_form(name: &[u8], epoch: &[u8]) -> bool
+    ensures { result ≡ has_form (record { name = name.now; epoch = epoch.now }) }
 {
     is_name(name) && is_epoch(epoch)
 }
@@ -168,7 +169,7 @@ fn log_in<'a>(line: &'a [u8], front: &[u8]) -> Option<(&'a [u8], &'a [u8])>
     let middle = within(line, front, b"\"}")?;
     let (before, epoch) = cut_epoch(middle)?;
     let name = within(before, b"", b"\",\"epoch\":\"")?;
-    if is_log(name, epoch) {
+    if has_form(name, epoch) {
         Some((name, epoch))
     } else {
         None

@@ -14,7 +14,7 @@ use Rattle.iv_arrivals.specs.Reads.{step_in}
 use Rattle.iv_desk.specs.declared.desk.Desk.{Desk}
 use Rattle.iv_door.specs.Said as door
 use Rattle.iv_door.specs.Answers.{Fault, gap, no_entry, not_accepted, not_new, other_log, recalled}
-use Rattle.iv_door.specs.Talk.{Act, Hears, Talk, acts, ended, nothing, shut}
+use Rattle.iv_door.specs.Talk.{Act, Hears, Talk, acts, ended, nothing, opened, shut}
 use Rattle.iv_running.specs.Logs.{HasLines, recalled_in}
 use Rattle.iv_running.specs.Running.{IsFollowed, Leads}
 
@@ -43,21 +43,23 @@ pub data IsTold (log : Log) (from to : ℕ) (lines : List Line) (g : Gate) : Fau
 
 -- ---- acts
 
--- what an act does to the desk: the texts of a step are followed as one record, and clients are closed; else nothing
-abbrev pub IsHeeded : Option Log → Act → Desk → Desk → Type 0
-IsHeeded log (ended from to texts) x y = (l : Log) × (log ≡ Some l) × IsFollowed l from (record_of texts) x y
-IsHeeded log shut x y = Leads x y
-IsHeeded log _ x y = y ≡ x
+-- what an act does to the desk, and to whether clients may come in: the texts of a step are followed as one record; clients may come in; nobody
+-- may, and all are closed; else nothing
+abbrev pub IsHeeded : Option Log → Act → Desk → (may : Bool) → Desk → (may : Bool) → Type 0
+IsHeeded log (ended from to texts) x o y p = (l : Log) × (log ≡ Some l) × IsFollowed l from (record_of texts) x y × (p ≡ o)
+IsHeeded log opened x o y p = (y ≡ x) × (p ≡ true)
+IsHeeded log shut x o y p = Leads x y × (p ≡ false)
+IsHeeded log _ x o y p = (y ≡ x) × (p ≡ o)
 
 -- no line is there to be heard, or one was heard and heeded
-abbrev pub IsHeard : Option Log → Bool → Talk → Talk → Desk → Desk → Type 0
-IsHeard log false t u x y = Hears t (nothing, u) × (y ≡ x)
-IsHeard log true t u x y = (a : Act) × Hears t (acts a, u) × IsHeeded log a x y
+abbrev pub IsHeard : Option Log → Bool → Talk → Talk → Desk → Bool → Desk → Bool → Type 0
+IsHeard log false t u x o y p = Hears t (nothing, u) × (y ≡ x) × (p ≡ o)
+IsHeard log true t u x o y p = (a : Act) × Hears t (acts a, u) × IsHeeded log a x o y p
 
 -- lines are heard and heeded, one after another, and nothing else is done
-pub data HeedsAll (log : Option Log) (t : Talk) (x : Desk) : Talk → Desk → Type 0 where
-  none_yet : HeedsAll log t x t x
-  one_more : (is : Bool) (u v : Talk) (y z : Desk) → HeedsAll log t x u y → IsHeard log is u v y z → HeedsAll log t x v z
+pub data HeedsAll (log : Option Log) (t : Talk) (x : Desk) (o : Bool) : Talk → Desk → Bool → Type 0 where
+  none_yet : HeedsAll log t x o t x o
+  one_more : (is : Bool) (u v : Talk) (y z : Desk) (p q : Bool) → HeedsAll log t x o u y p → IsHeard log is u v y p z q → HeedsAll log t x o v z q
 
 -- ---- what is told
 

@@ -54,7 +54,7 @@ fn hear_guest(
     ensures { Leads desk.old desk.new }
 {
     match &mut guest.stage {
-        Stage::Unknown(..) => Ok(false),
+        Stage::Unknown(_, _) => Ok(false),
         Stage::Known(keeper) => keeper.hear_lines(means, desk, server),
     }
 }

@@ -34,12 +34,12 @@ pub(crate) struct Guest {
 }
 
 /// The keeper that has shown the secret, and has said these bytes since. It is told what is held.
-fn welcomed(means: &Means, bytes: &[u8], position: u64) -> Result<Keeper, AllocError>
-    ensures { IfOk result (λ k. k.talk ≡ record (at_start (option_map said_log means.now.log)) { unread = bytes.now }) }
+fn welcomed(means: &Means, rest: &[u8], position: u64) -> Result<Keeper, AllocError>
+    ensures { IfOk result (λ k. k.talk ≡ record (at_start (option_map said_log means.now.log)) { unread = rest.now }) }
 {
     let mut keeper = Keeper::new(means.rt.alloc(), &means.log)?;
     keeper.told.greet(means.rows, keeper.talk.log(), position)?;
-    keeper.talk.take(bytes)?;
+    keeper.talk.take(rest)?;
     Ok(keeper)
 }
 
@@ -105,7 +105,7 @@ impl Guest {
     {
         match &self.stage {
             Stage::Known(_) => true,
-            Stage::Unknown(..) => false,
+            Stage::Unknown(_, _) => false,
         }
     }
 
@@ -121,7 +121,7 @@ impl Guest {
     pub(crate) fn is_read(&self) -> bool {
         match &self.stage {
             Stage::Known(keeper) => self.readable && !keeper.late,
-            Stage::Unknown(..) => self.readable,
+            Stage::Unknown(_, _) => self.readable,
         }
     }
 
@@ -148,7 +148,7 @@ impl Guest {
     pub(crate) fn settle(&mut self, desk: &Desk) -> Result<(), AllocError> {
         match &mut self.stage {
             Stage::Known(keeper) => keeper.told.settle(desk),
-            Stage::Unknown(..) => Ok(()),
+            Stage::Unknown(_, _) => Ok(()),
         }
     }
 
@@ -183,7 +183,7 @@ impl Guest {
     pub(crate) fn is_told(&self) -> bool {
         match &self.stage {
             Stage::Known(keeper) => keeper.told.out.is_empty(),
-            Stage::Unknown(..) => true,
+            Stage::Unknown(_, _) => true,
         }
     }
 }

@@ -57,7 +57,7 @@ fn end_step(
     texts: &[Vec<u8>],
 ) -> Result<(), Fault>
     ensures leads { Leads desk.old desk.new }
-    ensures heeded { OnOk result (IsHeeded means.old.log (ended from to (map (λ v. v.items) texts.now)) desk.old desk.new) }
+    ensures heeded { OnOk result (IsHeeded means.old.log (ended from to (map (λ v. v.items) texts.now)) desk.old server.old.open desk.new server.new.open) }
     ensures owed { OnOk result (told.new.owes ≡ true) }
     ensures same { means.new.log ≡ means.old.log }
 {
@@ -88,7 +88,7 @@ fn heed(
     act: Act,
 ) -> Result<(), Fault>
     ensures leads { Leads desk.old desk.new }
-    ensures heeded { OnOk result (IsHeeded means.old.log (act_of act) desk.old desk.new) }
+    ensures heeded { OnOk result (IsHeeded means.old.log (act_of act) desk.old server.old.open desk.new server.new.open) }
     ensures same { means.new.log ≡ means.old.log }
 {
     match act {
@@ -128,7 +128,7 @@ impl Keeper {
         server: &mut Server,
     ) -> Result<bool, Fault>
         ensures leads { Leads desk.old desk.new }
-        ensures heard { IfOk result (λ is. IsHeard means.old.log is self.old.talk self.new.talk desk.old desk.new) }
+        ensures heard { IfOk result (λ is. IsHeard means.old.log is self.old.talk self.new.talk desk.old server.old.open desk.new server.new.open) }
         ensures same { means.new.log ≡ means.old.log }
     {
         match self.talk.hear() {
@@ -152,7 +152,7 @@ impl Keeper {
         server: &mut Server,
     ) -> Result<bool, Fault>
         ensures leads { Leads desk.old desk.new }
-        ensures heeds { OnOk result (HeedsAll means.old.log self.old.talk desk.old self.new.talk desk.new) }
+        ensures heeds { OnOk result (HeedsAll means.old.log self.old.talk desk.old server.old.open self.new.talk desk.new server.new.open) }
     {
         self.late = true;
         'lines: for _ in 0..u32::MAX {

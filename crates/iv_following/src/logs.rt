@@ -1,4 +1,4 @@
-//! `followed`: the log that is followed, by what a keeper or a journal says of it; `said_log`: as a keeper says it.
+//! `said_log`: the log that is followed, as a keeper says it; `copied`: a copy of it.
 ghost use Rattle.std.specs.Prelude.{◌≡◌, IfOk, option_map};
 ghost use Rattle.iv_following.specs.Following.{said_log};
 

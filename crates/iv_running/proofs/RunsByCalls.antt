@@ -18,7 +18,7 @@ use Rattle.iv_desk.specs.Front.{then_closes, then_happens}
 use Rattle.iv_desk.specs.Desks.{IsCalledOut, IsDesk, IsHeard, IsHeardBy, IsRestored, at_each}
 use Rattle.iv_desk.specs.declared.desk.Desk.{Desk}
 use Rattle.iv_desk.specs.declared.place.Hearing.{Hearing}
-use Rattle.iv_running.specs.Running.{HasCome, IsNew, IsRunning, Leads}
+use Rattle.iv_running.specs.Running.{HasCome, IsBack, IsNew, IsRunning, Leads}
 
 -- ---- as an order
 
@@ -127,13 +127,21 @@ Leads-called law f calls e v same happens x y lives h = Leads-each x y (λ d s. 
 
 -- ---- it begins
 
-pub IsRunning-IsRestored : ((cap most places : ℕ) (tokens : List Token) (head : Head) (sent : List Shown) (journal : List Line) (g : Gate) → Restores (gate_at_start cap tokens most head sent) journal g
+pub IsBack-IsRestored : (cap : ℕ) (tokens : List Token) (head : Head) (journal : List Line) (x y : Desk) → IsNew cap tokens head x
+    → ((d : Front) → is.IsNew d.gate → IsDesk d x → IsRestored d journal y) → IsBack cap tokens head journal y
+IsBack-IsRestored cap tokens head journal x y new h = record {
+  most = new.most;
+  places = new.places;
+  back = h (front_at_start (gate_at_start cap tokens new.most head []) new.places) (record { entries = refl; kept = refl; forgiven = refl }) new.stands;
+}
+
+pub IsRunning-IsBack : ((cap most places : ℕ) (tokens : List Token) (head : Head) (sent : List Shown) (journal : List Line) (g : Gate) → Restores (gate_at_start cap tokens most head sent) journal g
     → Runs cap g → FrontRuns cap (front_at_start g places))
-    → (cap : ℕ) (journal : List Line) (x y : Desk) → IsNew cap x → ((d : Front) → is.IsNew d.gate → IsDesk d x → IsRestored d journal y) → IsRunning cap y
-IsRunning-IsRestored law cap journal x y new h =
-    let w = h (front_at_start (gate_at_start cap new.tokens new.most new.head []) new.places) (record { entries = refl; kept = refl; forgiven = refl }) new.stands in
+    → (cap : ℕ) (tokens : List Token) (head : Head) (journal : List Line) (x : Desk) → IsBack cap tokens head journal x → IsRunning cap x
+IsRunning-IsBack law cap tokens head journal x h =
+    let w = h.back in
     record {
-      front = front_at_start w.now new.places;
-      runs = law cap new.most new.places new.tokens new.head [] journal w.now w.restores (run.begins new.tokens new.most new.head journal w.now w.restores);
+      front = front_at_start w.now h.places;
+      runs = law cap h.most h.places tokens head [] journal w.now w.restores (run.begins tokens h.most head journal w.now w.restores);
       stands = w.stands;
     }

@@ -7,6 +7,10 @@ use Rattle.iv_journal.specs.Reading.{IsReading}
 use Rattle.iv_audit.specs.Audit.{is_request}
 use Rattle.iv_audit.specs.Reading.{given_in, lines_in}
 use Rattle.iv_head.specs.Begun.{Begun, begun_in, lines_of, log_in}
+use Rattle.iv_clients.specs.Tokens.{Token}
+use Rattle.iv_host.specs.Beginning.{head_with}
+use Rattle.iv_desk.specs.declared.desk.Desk.{Desk}
+use Rattle.iv_running.specs.Running.{IsBack}
 use Rattle.iv_records.specs.Journal.{Entry, IsEntry, Request, journal_of, request_text, requests_in}
 use Rattle.iv_running.specs.declared.logs.Follows.{Follows}
 use Rattle.iv_running.specs.declared.logs.Follows.TheVariants.{Itself, Log, Nothing}
@@ -16,6 +20,13 @@ pub record HasLines (bytes : List ℕ) (given : List Line) : Type 0 where
   pub lines : List Line
   pub reading : IsReading bytes (record { lines = lines; fault = None })
   pub given : given ≡ given_in lines
+
+-- a desk is where the journal that bytes are leads, with what that says before its first entry at its head
+pub record IsComeBack (cap : ℕ) (tokens : List Token) (bytes : List ℕ) (x : Desk) : Type 0 where
+  pub given : List Line
+  pub lines : HasLines bytes given
+  pub epoch : List ℕ
+  pub back : IsBack cap tokens (head_with epoch (begun_in given).0) (begun_in given).1 x
 
 -- they follow the log that the first of them says; else nothing, if there is none, or themselves
 abbrev pub follows_of : List Line → Follows

@@ -11,7 +11,7 @@ use Rattle.iv_gateway.specs.Arriving.{IsFaultOf}
 use Rattle.iv_gateway.specs.declared.arriving.StepFault.{StepFault}
 use Rattle.iv_gateway.specs.declared.arriving.StepFault.TheVariants.{Memory}
 use Rattle.iv_desk.specs.Front.{Front, FrontRuns, GoesOn, by_event, front_at_start}
-use Rattle.iv_desk.specs.Desks.{IsDesk}
+use Rattle.iv_desk.specs.Desks.{IsDesk, IsRestored}
 use Rattle.iv_desk.specs.declared.desk.Desk.{Desk}
 
 -- a front to which some run leads stands behind the desk
@@ -45,13 +45,17 @@ abbrev pub IsUntaken : Log → ℕ → List Line → Gate → StepFault → Type
 IsUntaken log from lines g Memory = Unit {0}
 IsUntaken log from lines g fault = (s : Step) × (step_in log from lines ≡ Some s) × IsFaultOf g s fault
 
--- nobody came yet, and nothing happened
-pub record IsNew (cap : ℕ) (x : Desk) : Type 0 where
-  pub tokens : List Token
+-- nobody came yet, and nothing happened: these tokens are known, and the journal says this at its head
+pub record IsNew (cap : ℕ) (tokens : List Token) (head : Head) (x : Desk) : Type 0 where
   pub most : ℕ
-  pub head : Head
   pub places : ℕ
   pub stands : IsDesk (front_at_start (gate_at_start cap tokens most head []) places) x
+
+-- nobody came yet, and the journal has led there
+pub record IsBack (cap : ℕ) (tokens : List Token) (head : Head) (journal : List Line) (x : Desk) : Type 0 where
+  pub most : ℕ
+  pub places : ℕ
+  pub back : IsRestored (front_at_start (gate_at_start cap tokens most head []) places) journal x
 
 -- bytes that wait for the journal, beyond which no further socket is read in a round
 abbrev pub most_told : ℕ

@@ -1,18 +1,21 @@
 //! The desk's calls as the program makes them: what is behind each goes on from what was before it.
 //!
 //! So after each of them all holds that `browsers_are_told_their_views` of iv_desk says of runs (`runs_lead_on`).
-ghost use Rattle.std.specs.Prelude.{◌≡◌, ℕ, IfErr, IfOk, None, OnOk, false, true};
+ghost use Rattle.std.specs.Prelude.{◌≡◌, ◌++◌, ℕ, IfErr, IfOk, List, None, OnOk, drop, false, option_map, true};
 ghost use Rattle.iv_rows.specs.RowLimit.{IsRowLimit};
 ghost use Rattle.iv_arrivals.specs.Reads.{step_in};
-ghost use Rattle.iv_gate.specs.Events.{IsWell, arrived, known};
+ghost use Rattle.iv_clients.specs.Clients.{is_free};
+ghost use Rattle.iv_clients.specs.Tokens.{Token as Holder};
+ghost use Rattle.iv_records.specs.Journal.{journal_of};
+ghost use Rattle.iv_gate.specs.Events.{IsWell, arrived, forgave, known, synced, ticked};
 ghost use Rattle.iv_gate.specs.Gate as spec;
 ghost use Rattle.iv_gateway.specs.Arriving.{IsFaultOf};
 ghost use Rattle.iv_gateway.specs.Views.{IsHead};
 ghost use Rattle.iv_gateway.specs.Waiting.{WaitsWithin};
-ghost use Rattle.iv_peer.specs.Socket.{closed};
-ghost use Rattle.iv_desk.specs.Desks.{IsCalledOut, IsDesk};
-ghost use Rattle.iv_desk.specs.Front.{Front, at_socket, by_event, dismissed, may_tell};
-ghost use Rattle.iv_running.specs.Running.{IsFollowed, IsNew, IsRunning, IsUntaken, Leads, RunsLeadOn, most_told};
+ghost use Rattle.iv_peer.specs.Socket.{closed, passing, took};
+ghost use Rattle.iv_desk.specs.Desks.{IsCalledOut, IsDesk, IsHeard};
+ghost use Rattle.iv_desk.specs.Front.{Front, at_socket, begun, by_event, dismissed, left, may_tell, offered};
+ghost use Rattle.iv_running.specs.Running.{IsBack, IsFollowed, IsNew, IsRunning, IsUntaken, Leads, RunsLeadOn, most_told};
 
 use crate::fault::Fault;
 use iv_arrivals::{Log, Step, read_step};
@@ -50,7 +53,7 @@ pub fn new_desk(
 ) -> Result<Desk, AllocError>
     requires head { (h : spec.Head) × IsHead h head }
     requires rows { IsRowLimit rows }
-    ensures { IfOk result (IsNew rows) }
+    ensures { IfOk result (λ x. (h : spec.Head) → IsHead h head → IsNew rows tokens.items h x) }
 {
     let engine = Engine::with_seed(alloc, seed, rows)?;
     let gateway = Gateway::new(alloc, engine, tokens, clients, head)?;
@@ -65,7 +68,9 @@ pub fn new_desk(
 /// # Errors
 /// As of the desk's `restore`.
 pub fn restore(desk: &mut Desk, journal: &[Line<'_>]) -> Result<(), RestoreFault>
-    ensures { OnOk result ((cap : ℕ) → IsNew cap desk.old → IsRunning cap desk.new) }
+    ensures runs { OnOk result ((cap : ℕ) (tokens : List Holder) (head : spec.Head) → IsNew cap tokens head desk.old → IsRunning cap desk.new) }
+    ensures back { OnOk result ((cap : ℕ) (tokens : List Holder) (head : spec.Head) → IsNew cap tokens head desk.old
+        → IsBack cap tokens head journal.now desk.new) }
 {
     calls_lead_from_runs_to_runs();
     match desk.restore(journal) {
@@ -76,7 +81,9 @@ pub fn restore(desk: &mut Desk, journal: &[Line<'_>]) -> Result<(), RestoreFault
 
 /// A connection begins at a number, if none has it.
 pub fn accept(desk: &mut Desk, at: u32) -> bool
-    ensures { Leads desk.old desk.new }
+    ensures leads { Leads desk.old desk.new }
+    ensures front { (d : Front) → IsDesk d desk.old → IsDesk (begun at d) desk.new }
+    ensures answer { (d : Front) → IsDesk d desk.old → d.gate.dead ≡ false → result ≡ is_free at d.sockets }
 {
     desk.accept(at)
 }
@@ -93,7 +100,8 @@ pub fn may_read(desk: &Desk) -> bool
 /// # Errors
 /// As of the desk's `read`.
 pub fn hear(desk: &mut Desk, at: u32, bytes: &[u8]) -> Result<Hearing, Fault>
-    ensures { Leads desk.old desk.new }
+    ensures leads { Leads desk.old desk.new }
+    ensures heard { IfOk result (λ hearing. (d : Front) → IsDesk d desk.old → IsHeard (at_socket at (took bytes.now) d) at hearing desk.new) }
 {
     calls_lead_from_runs_to_runs();
     events_leave_their_marks();
@@ -108,7 +116,8 @@ pub fn hear(desk: &mut Desk, at: u32, bytes: &[u8]) -> Result<Hearing, Fault>
 /// # Errors
 /// As of `hear`.
 pub fn hear_on(desk: &mut Desk, at: u32) -> Result<Hearing, Fault>
-    ensures { Leads desk.old desk.new }
+    ensures leads { Leads desk.old desk.new }
+    ensures heard { IfOk result (λ hearing. (d : Front) → IsDesk d desk.old → IsHeard d at hearing desk.new) }
 {
     calls_lead_from_runs_to_runs();
     events_leave_their_marks();
@@ -123,7 +132,8 @@ pub fn hear_on(desk: &mut Desk, at: u32) -> Result<Hearing, Fault>
 /// # Errors
 /// As of `hear`.
 pub fn leave(desk: &mut Desk, at: u32) -> Result<(), Fault>
-    ensures { Leads desk.old desk.new }
+    ensures leads { Leads desk.old desk.new }
+    ensures front { OnOk result ((d : Front) → IsDesk d desk.old → IsDesk (left at d) desk.new) }
 {
     events_leave_their_marks();
     match desk.leave(at) {
@@ -178,7 +188,10 @@ pub fn follow(
 /// # Errors
 /// `Journal` if the journal fails; else as of `hear`.
 pub fn settle<J: Journal>(desk: &mut Desk, journal: &mut J) -> Result<(), Fault>
-    ensures { Leads desk.old desk.new }
+    ensures leads { Leads desk.old desk.new }
+    ensures kept { OnOk result ((d : Front) → IsDesk d desk.old → d.gate.dead ≡ false
+        → J.kept journal.new ≡ option_map (λ ls. ls ++ journal_of (drop d.gate.kept d.gate.entries)) (J.kept journal.old)) }
+    ensures front { OnOk result ((d : Front) → IsDesk d desk.old → IsCalledOut offered (by_event synced d) desk.new) }
 {
     calls_lead_from_runs_to_runs();
     events_leave_their_marks();
@@ -209,7 +222,8 @@ pub fn know(desk: &mut Desk, tokens: Vec<Token>) -> Result<(), Fault>
 /// # Errors
 /// As of `hear`.
 pub fn tick(desk: &mut Desk) -> Result<(), Fault>
-    ensures { Leads desk.old desk.new }
+    ensures leads { Leads desk.old desk.new }
+    ensures front { OnOk result ((d : Front) → IsDesk d desk.old → IsDesk (by_event ticked d) desk.new) }
 {
     events_leave_their_marks();
     match desk.tick() {
@@ -220,7 +234,8 @@ pub fn tick(desk: &mut Desk) -> Result<(), Fault>
 
 /// Forgives names that were refused.
 pub fn forgive(desk: &mut Desk)
-    ensures { Leads desk.old desk.new }
+    ensures leads { Leads desk.old desk.new }
+    ensures front { (d : Front) → IsDesk d desk.old → IsDesk (by_event forgave d) desk.new }
 {
     events_leave_their_marks();
     desk.forgive();
@@ -244,7 +259,8 @@ pub fn close(desk: &mut Desk, at: u32, code: u16, words: &[u8]) -> Result<(), Fa
 
 /// The first bytes of what was pending at a number were sent, as many as that.
 pub fn pass(desk: &mut Desk, at: u32, count: usize)
-    ensures { Leads desk.old desk.new }
+    ensures leads { Leads desk.old desk.new }
+    ensures front { (d : Front) → IsDesk d desk.old → IsDesk (at_socket at (passing count) d) desk.new }
 {
     desk.sent(at, count);
 }

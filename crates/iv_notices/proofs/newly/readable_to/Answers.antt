@@ -1,4 +1,4 @@
-use Rattle.std.proofs.Common.{Bor, ◌≡◌, ◌∙◌, ap, map, rules, sym}
+use Rattle.std.proofs.Common.{Bor, List, ◌≡◌, ◌∙◌, ap, map, rules, sym}
 use Rattle.std.specs.Prelude.{string_bytes}
 use Rattle.iv_access.specs.Rights.{Name}
 use Rattle.iv_engine.specs.Known.{relations_with}

@@ -1,0 +1,2 @@
+pub mod Heeded
+pub mod StepLines
