@@ -464,7 +464,7 @@ impl Server {
 
     /// Clients may come in.
     pub fn open(&mut self)
-        ensures { self.new ≡ record self.old { open = true } }
+        ensures { self.new ≡ record self.old { «open» = true } }
     {
         self.open = true;
     }
