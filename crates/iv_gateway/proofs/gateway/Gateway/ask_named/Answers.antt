@@ -37,16 +37,16 @@ pub returns-in_ok-leave-in-Foreign : goal.returns-in_ok-leave-in-Foreign
 returns-in_ok-leave-in-Foreign c = λ g b.
     IsAlive-by_verdict g c.args.asked.now.client (asked_id c.args.asked.now) (request_of c.args.asked.now (act_of c.args.act)) c.args.ask foreign _
     (verdict_of-IsAlive g c.args.ask _ _ c.args.self.now c.in-Foreign.is c.in_ok-verdict.ensures b)
-    (IsAlive-left g c.args.asked.now.client (asked_id c.args.asked.now) _ _ _ (c.number_here-in-Foreign-number.ensures g b) (c.in_ok-leave-in-Foreign.ensures g b))
+    (IsAlive-left g c.args.asked.now.client (asked_id c.args.asked.now) _ _ _ (c.number_here-number.ensures g b) (c.in_ok-leave-in-Foreign.ensures g b))
 
 pub returns-in_ok-leave-in-Ahead : goal.returns-in_ok-leave-in-Ahead
 returns-in_ok-leave-in-Ahead c = λ g b.
     IsAlive-by_verdict g c.args.asked.now.client (asked_id c.args.asked.now) (request_of c.args.asked.now (act_of c.args.act)) c.args.ask ahead _
     (verdict_of-IsAlive g c.args.ask _ _ c.args.self.now c.in-Ahead.is c.in_ok-verdict.ensures b)
-    (IsAlive-left g c.args.asked.now.client (asked_id c.args.asked.now) _ _ _ (c.number_here-in-Ahead-number.ensures g b) (c.in_ok-leave-in-Ahead.ensures g b))
+    (IsAlive-left g c.args.asked.now.client (asked_id c.args.asked.now) _ _ _ (c.number_here-number-in-Ahead.ensures g b) (c.in_ok-leave-in-Ahead.ensures g b))
 
 pub returns-in_ok-leave-in-Over : goal.returns-in_ok-leave-in-Over
 returns-in_ok-leave-in-Over c = λ g b.
     IsAlive-by_verdict g c.args.asked.now.client (asked_id c.args.asked.now) (request_of c.args.asked.now (act_of c.args.act)) c.args.ask over _
     (verdict_of-IsAlive g c.args.ask _ _ c.args.self.now c.in-Over.is c.in_ok-verdict.ensures b)
-    (IsAlive-left g c.args.asked.now.client (asked_id c.args.asked.now) _ _ _ (c.number_here-in-Over-number.ensures g b) (c.in_ok-leave-in-Over.ensures g b))
+    (IsAlive-left g c.args.asked.now.client (asked_id c.args.asked.now) _ _ _ (c.number_here-number-in-Over.ensures g b) (c.in_ok-leave-in-Over.ensures g b))
