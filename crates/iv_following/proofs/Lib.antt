@@ -1,2 +1,3 @@
 pub mod Heeded
 pub mod StepLines
+pub mod ToldLines

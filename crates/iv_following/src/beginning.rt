@@ -5,6 +5,7 @@ ghost use Rattle.iv_records.specs.Names.{is_epoch};
 use crate::following::Following;
 use crate::guest::{Guest, Stage};
 use crate::keeper::Keeper;
+use crate::logs::copied;
 use crate::ways::no_way;
 use iv_arrivals::Log;
 use iv_desk::Desk;
@@ -152,13 +153,12 @@ impl Following {
     ) -> Result<(JournalFile, Vec<u8>), u8> {
         let rt = self.means.rt;
         let (name, epoch) = self.begun()?;
-        let (Ok(kept_name), Ok(kept_epoch)) = (name.clone(), epoch.clone()) else {
-            return Err(out_of_memory(&rt));
-        };
-        self.means.log = Some(Log {
-            name: kept_name,
-            epoch: kept_epoch,
-        });
+        let log = Log { name, epoch };
+        match copied(rt.alloc(), &log) {
+            Ok(copy) => self.means.log = Some(copy),
+            Err(_) => return Err(out_of_memory(&rt)),
+        }
+        let Log { name, epoch } = log;
         self.again = true;
         begin_log(&rt, settings, file, name, epoch)
     }

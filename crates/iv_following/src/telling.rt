@@ -126,15 +126,17 @@ impl Told {
 
     /// Why nothing more is taken: the keeper is to be told, and it is said.
     pub(crate) fn fail(&mut self, rt: &HostRuntime, fault: &iv_door::Fault) -> Fault
-        ensures { result ≡ AtLog
-            → (f : answer.Fault) × (fault_of fault.now ≡ Some f) × (self.new.out.items ≡ self.old.out.items ++ (fault_line f ++ 10 ∷ [])) }
+        ensures { (f : answer.Fault) → fault_of fault.now ≡ Some f → result ≡ AtLog → self.new.out.items ≡ self.old.out.items ++ (fault_line f ++ 10 ∷ []) }
     {
         if matches!(fault, iv_door::Fault::Memory) {
             return Fault::Memory;
         }
-        if self.push_fault(fault).is_err() || say(rt, fault).is_err() {
+        let Ok(()) = self.push_fault(fault) else {
             return Fault::Memory;
+        };
+        match say(rt, fault) {
+            Ok(()) => Fault::Log,
+            Err(_) => Fault::Memory,
         }
-        Fault::Log
     }
 }

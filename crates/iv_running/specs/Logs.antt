@@ -19,7 +19,7 @@ use Rattle.iv_running.specs.declared.logs.Follows.TheVariants.{Itself, Log, Noth
 pub record HasLines (bytes : List ℕ) (given : List Line) : Type 0 where
   pub lines : List Line
   pub reading : IsReading bytes (record { lines = lines; fault = None })
-  pub given : given ≡ given_in lines
+  pub are : given ≡ given_in lines
 
 -- a desk is where the journal that bytes are leads, with what that says before its first entry at its head
 pub record IsComeBack (cap : ℕ) (tokens : List Token) (bytes : List ℕ) (x : Desk) : Type 0 where

@@ -214,7 +214,10 @@ pub(crate) fn begun_in(rt: &HostRuntime, lines: &[Line<'_>]) -> Result<(Begun, u
 fn behind<'l, 'a>(lines: &'l [Line<'a>], count: usize) -> &'l [Line<'a>]
     ensures { result.now ≡ drop count lines.now }
 {
-    lines.get(count..).unwrap_or(&[])
+    if count > lines.len() {
+        return &lines[..0];
+    }
+    &lines[count..]
 }
 
 /// A desk with these tokens that is where a journal leads, and in how many lines after its head that says something before its first entry.
