@@ -23,14 +23,13 @@ import shutil
 import signal
 import socket
 import subprocess
-import tempfile
 import time
 from collections.abc import Iterator
 
 from viewd_bench import postgresql
 from viewd_bench.crowd import Crowd, begin, came, frame, more_files
 from viewd_bench.postgresql import Session
-from viewd_bench.readers import BY_TOKEN, KEPT, PROGRAM, ROLES, TICK, TOP, Server, parts
+from viewd_bench.readers import BY_TOKEN, KEPT, PROGRAM, ROLES, TICK, TOP, Server, document, parts
 from viewd_bench.report import number, table
 
 FOLLOW = TOP / "viewd-postgresql"
@@ -38,7 +37,8 @@ DOCUMENT = TOP / "docs" / "POSTGRESQL.md"
 BEGIN, END = "<!-- What bench/beside printed: -->\n", "<!-- The end of what bench/beside printed. -->\n"
 PLAN = ["1:20", "1:100", "1:1000", "1:3000", "50:20", "50:100", "50:1000", "50:3000"]
 PARTS = ("lines", "revokes", "rows", "asking")
-SETTINGS = ["listen_addresses=", "wal_level=logical", "max_parallel_workers_per_gather=0", "shared_buffers=512MB", "max_wal_size=8GB", "wal_sender_timeout=0", "autovacuum=off"]
+SETTINGS = ["listen_addresses=", "wal_level=logical", "max_parallel_workers_per_gather=0", "shared_buffers=512MB", "max_wal_size=8GB", "wal_sender_timeout=0",
+            "autovacuum=off"]
 READERS = 50  # of revokes, and those who ask again
 MANY = 300_000  # updates of a transaction
 WAITING = [(20_000, 10), (100_000, 1_000), (200_000, 100_000)]  # rows, and how many of them a transaction has
@@ -120,8 +120,8 @@ class Beside:
         """How many transactions it made, and the mean time of one in milliseconds, without what it came too late by."""
         file = pathlib.Path(self.server.room) / "script"
         file.write_text(script)
-        done = subprocess.run([installed("pgbench") or "pgbench", "-n", "-h", self.server.room, "-U", "admin", "-c", str(clients), "-j", "2", "-T", f"{self.given.seconds:.0f}", "-f", file, *words, "bench"],
-                              check=True, capture_output=True, text=True)
+        how = ["-n", "-h", self.server.room, "-U", "admin", "-c", str(clients), "-j", "2", "-T", f"{self.given.seconds:.0f}", "-f", str(file), *words]
+        done = subprocess.run([installed("pgbench") or "pgbench", *how, "bench"], check=True, capture_output=True, text=True)
         count, mean, late = (re.search(it, done.stdout) for it in (r"processed: (\d+)", r"latency average = ([\d.]+)", r"schedule lag: avg ([\d.]+)"))
         assert count and mean, done.stdout
         return int(count[1]), float(mean[1]) - (float(late[1]) if late else 0.0)
@@ -144,9 +144,10 @@ class Beside:
                 offset = time.time() - time.monotonic()
                 times = [at + offset - (int(key) >> 4) / 1e6 for key, at in told.last.items()]
                 short = count * size - sum(told.count.values())
-                found.append({"readers": str(size), "transactions a second": number(count / wall), "to the last line, ms": parts(times), "of it the statement, mean": number(commit),
-                              "processor: follow, gateway, PostgreSQL": ", ".join(f"{it / wall:.0%}" for it in used), "of a transaction, us": number(sum(used) / count * 1e6),
-                              "lost": str(short)})
+                found.append({
+                    "readers": str(size), "transactions a second": number(count / wall), "to the last line, ms": parts(times),
+                    "of it the statement, mean": number(commit), "processor: follow, gateway, PostgreSQL": ", ".join(f"{it / wall:.0%}" for it in used),
+                    "of a transaction, us": number(sum(used) / count * 1e6), "lost": str(short)})
                 print(" | ".join(found[-1].values()), flush=True)
             crowd.end()
 
@@ -201,7 +202,9 @@ class Beside:
                 used, began = of(following.process.pid), time.monotonic()
                 following.process.send_signal(signal.SIGCONT)
                 took = heard([reader], b"[1,[%d," % (first + count - 1)) - began
-                row = {"rows": f"{count:,}, {each:,} a transaction", "follow, to a client": f"{count / took:,.0f} a second", "its processor, us a row": number((of(following.process.pid) - used) / count * 1e6)}
+                used = of(following.process.pid) - used
+                row = {"rows": f"{count:,}, {each:,} a transaction", "follow, to a client": f"{count / took:,.0f} a second",
+                       "its processor, us a row": number(used / count * 1e6)}
                 for name, words in plugins.items():
                     row[f"pg_recvlogical, {name}"] = f"{count / self.plain(name, words, end):,.0f}"
                 self.session.ask(*(f"select pg_drop_replication_slot('plain_{it}');" for it in plugins))
@@ -212,8 +215,9 @@ class Beside:
 
     def plain(self, plugin: str, words: list[str], end: str) -> float:
         """Seconds until all up to there is read and thrown away."""
+        how = ["-h", self.server.room, "-U", "admin", "-d", "bench", "-S", f"plain_{plugin}", "--start", "--endpos", end, "-n", "-f", "/dev/null"]
         began = time.monotonic()
-        subprocess.run([installed("pg_recvlogical") or "pg_recvlogical", "-h", self.server.room, "-U", "admin", "-d", "bench", "-S", f"plain_{plugin}", "--start", "--endpos", end, "-n", "-f", "/dev/null", *words], check=True, capture_output=True)
+        subprocess.run([installed("pg_recvlogical") or "pg_recvlogical", *how, *words], check=True, capture_output=True)
         return time.monotonic() - began
 
     # ---- readers who ask again
@@ -224,7 +228,8 @@ class Beside:
         used = self.postgresql()
         count, mean = self.pgbench(ASK, READERS)
         each = (self.postgresql() - used) / count
-        self.tables["asking"] = [{f"{READERS} readers who ask again for {KEPT} rows": "after each change", "PostgreSQL's processor, ms": number(each * READERS * 1000), "until the last has its rows, ms": number(mean)}]
+        self.tables["asking"] = [{f"{READERS} readers who ask again for {KEPT} rows": "after each change",
+                                  "PostgreSQL's processor, ms": number(each * READERS * 1000), "each has its rows after, mean, ms": number(mean)}]
         print(" | ".join(self.tables["asking"][0].values()), flush=True)
 
 
@@ -247,14 +252,6 @@ def heard(sockets: list[socket.socket], words: bytes) -> float:
             else:
                 tails[key] = tail[place:] if place >= 0 else tail[-len(words):]
     return time.monotonic()
-
-
-def document(printed: str) -> None:
-    """Puts it into the page, in the place of what was there."""
-    head, mark, rest = DOCUMENT.read_text().partition(BEGIN)
-    if not mark:
-        raise SystemExit(f"bench: {DOCUMENT} has no place for it")
-    DOCUMENT.write_text(f"{head}{BEGIN}\n{printed}\n{END}{rest.partition(END)[2]}")
 
 
 def main(words: list[str]) -> None:
@@ -285,8 +282,9 @@ def main(words: list[str]) -> None:
         version = server.version
     cpu = next((it.partition(":")[2].strip() for it in pathlib.Path("/proc/cpuinfo").read_text().splitlines() if it.startswith("model name")), "?")
     now = datetime.datetime.now(datetime.timezone.utc).date()
-    printed = (f"{now}, PostgreSQL {version}, {os.cpu_count()} processors ({cpu}), load {load:.1f} before and {os.getloadavg()[0]:.1f} at the end, {given.seconds:g} seconds a rate, all on one machine."
-               " Of times those that 50, 95 and 99 % do not exceed.\n\n" + "\n".join(map(table, beside.tables.values())))
+    printed = (f"{now}, PostgreSQL {version}, {os.cpu_count()} processors ({cpu}), load {load:.1f} before and {os.getloadavg()[0]:.1f} at the end,"
+               f" {given.seconds:g} seconds a rate, all on one machine. Of times those that 50, 95 and 99 % do not exceed.\n\n"
+               + "\n".join(map(table, beside.tables.values())))
     print(f"\n{printed}")
     if given.document:
-        document(printed)
+        document(printed, BEGIN, END, DOCUMENT)

@@ -160,12 +160,12 @@ class Bench:
             server.end()
 
 
-def document(printed: str) -> None:
-    """Puts it into the page, in the place of what was there."""
-    head, begin, rest = DOCUMENT.read_text().partition(BEGIN)
-    if not begin:
-        raise SystemExit(f"bench: {DOCUMENT} has no place for it")
-    DOCUMENT.write_text(f"{head}{BEGIN}\n{printed}\n{END}{rest.partition(END)[2]}")
+def document(printed: str, begin: str = BEGIN, end: str = END, page: pathlib.Path = DOCUMENT) -> None:
+    """Puts it into a page, in the place of what was there."""
+    head, mark, rest = page.read_text().partition(begin)
+    if not mark:
+        raise SystemExit(f"bench: {page} has no place for it")
+    page.write_text(f"{head}{begin}\n{printed}\n{end}{rest.partition(end)[2]}")
 
 
 def main(words: list[str]) -> None:

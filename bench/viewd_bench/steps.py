@@ -1,10 +1,11 @@
 """What a step of many entries takes of a gateway that follows a log and has many clients, beside the same entries one by one at one that follows none.
 
     bench/step                                    100,000 entries and 1,000 clients; 2,000 of the entries one by one
-    bench/step --entries 10000 --clients 100 --alone 1000
+    bench/step --kept 0 500 20000 --clients 1 1000 --alone 0      steps that change few rows, or many; nothing one by one
 
-Each entry puts a row into a table and takes one out that came 500 entries before, so 500 rows are other ones after any number of them.
-Clients are of four roles, which see the table by policies of their own. GATEWAY names another program than the one that is built.
+Each entry puts a row into a table and takes one out that came as many entries before as the table has rows (--kept): so many rows, at most, are
+other ones after any number of entries, and none if it takes out the row that it puts in. Clients are of four roles, which see the table by
+policies of their own. GATEWAY names another program than the one that is built.
 """
 import argparse
 import json
@@ -32,10 +33,18 @@ def row(at: int) -> list[object]:
     return [at, ROLES[at % 4], "something", at % 3 == 0]
 
 
-def write(at: int) -> bytes:
+def write(at: int, kept: int) -> bytes:
     """The request of an entry."""
-    entries = [{"on": "tickets", "insert": row(at)}, {"on": "tickets", "delete": row(at - KEPT)}]
+    return rows([{"on": "tickets", "insert": row(at)}, {"on": "tickets", "delete": row(at - kept)}])
+
+
+def rows(entries: list[dict[str, object]]) -> bytes:
     return json.dumps({"do": "write", "entries": entries}, separators=(",", ":")).encode()
+
+
+def filled(kept: int) -> list[bytes]:
+    """The requests that put the first rows into the table."""
+    return [rows([{"on": "tickets", "insert": row(it)} for it in range(at, min(at + 100, kept))]) for at in range(0, kept, 100)]
 
 
 class Listeners:
@@ -156,29 +165,33 @@ class Following(Server):
         return super().listens()
 
 
-def as_a_step(given: argparse.Namespace, room: pathlib.Path) -> dict[str, str]:
+def as_a_step(given: argparse.Namespace, room: pathlib.Path, clients: int, kept: int) -> dict[str, str]:
     secret = room / "secret"
     secret.write_text(EPOCH)
     with socket.socket() as probe:
         probe.bind(("127.0.0.1", 0))
         port = int(probe.getsockname()[1])
-    server = Following(given.clients, given.clients, port, secret)
+    server = Following(clients, clients, port, secret)
     try:
         keeper = server.keeper
         assert keeper
-        rows = [json.dumps({"do": "write", "entries": [{"on": "tickets", "insert": row(at)}]}, separators=(",", ":")).encode() for at in range(KEPT)]
-        keeper.bring(keeper.step([*(by("admin", it.encode()) for it in MADE), *(by("ann", it) for it in rows)]))
+        keeper.bring(keeper.step([*(by("admin", it.encode()) for it in MADE), *(by("ann", it) for it in filled(kept))]))
         keeper.socket.sendall(b'{"open":true}\n')
         crowd = Crowd(server, given.processes)
-        before, last = peak(server), KEPT + given.entries - 1
-        lines = keeper.step([by("ann", write(at)) for at in range(KEPT, last + 1)])
+        before, last = peak(server), kept + given.entries - 1
+        lines = keeper.step([by("ann", write(at, kept)) for at in range(kept, last + 1)])
+        if not kept:  # nothing is told of it, so a row follows that all see
+            last += 12
         crowd.wait(seen(last))
         used, began = sum(server.processor()), time.monotonic()
         keeper.bring(lines)
+        if not kept:
+            keeper.bring(keeper.step([by("ann", rows([{"on": "tickets", "insert": row(seen(last))}]))]))
         got, took = crowd.heard(began)
         used = sum(server.processor()) - used
         crowd.end()
-        return line("in one step", given.entries, got, took, used, before, peak(server)) | {"the step's lines, MB": number(len(lines) / 1e6)}
+        told = line(f"{given.entries:,} in one step", clients, 2 * min(kept, given.entries), got, took, used / given.entries, before, peak(server))
+        return told | {"the step's lines, MB": number(len(lines) / 1e6)}
     finally:
         server.end()
 
@@ -188,19 +201,18 @@ def seen(last: int) -> int:
     return next(at for at in range(last, last - 12, -1) if row(at)[1] == "bob" and row(at)[3])
 
 
-def one_by_one(given: argparse.Namespace) -> dict[str, str]:
-    server = Server("./gateway", [PROGRAM, "--rows", str(ROWS), "--clients", str(given.clients + 100)], given.clients)
+def one_by_one(given: argparse.Namespace, clients: int) -> dict[str, str]:
+    server = Server("./gateway", [PROGRAM, "--rows", str(ROWS), "--clients", str(clients + 100)], clients)
     try:
         Writer(server.port, "admin", KEPT).ask(*(it.encode() for it in MADE))
         writer = Writer(server.port, "ann writes", KEPT)
-        for at in range(KEPT):
-            writer.ask(json.dumps({"do": "write", "entries": [{"on": "tickets", "insert": row(at)}]}, separators=(",", ":")).encode())
+        writer.ask(*filled(KEPT))
         crowd = Crowd(server, given.processes)
         before, last = peak(server), KEPT + given.alone - 1
         crowd.wait(seen(last))
         used, began = sum(server.processor()), time.monotonic()
         for at in range(KEPT, last + 1, WINDOW):
-            some = [frame(write(it)) for it in range(at, min(at + WINDOW, last + 1))]
+            some = [frame(write(it, KEPT)) for it in range(at, min(at + WINDOW, last + 1))]
             writer.socket.sendall(b"".join(some))
             count = 0
             while count < len(some):
@@ -208,29 +220,37 @@ def one_by_one(given: argparse.Namespace) -> dict[str, str]:
         got, took = crowd.heard(began)
         used = sum(server.processor()) - used
         crowd.end()
-        return line("one by one", given.alone, got, took, used, before, peak(server))
+        return line(f"{given.alone:,} one by one", clients, 2 * KEPT, got, took, used / given.alone, before, peak(server))
     finally:
         server.end()
 
 
-def line(how: str, entries: int, got: float, took: float, used: float, before: int, after: int) -> dict[str, str]:
-    return {"entries": f"{entries:,} {how}", "bytes a client": f"{got:,.0f}", "until the last client's settled, s": number(took),
-            "the gateway's processor, s": number(used), "us of it an entry": number(used / entries * 1e6), "peak memory before, MB": number(before / 1e6),
-            "peak memory, MB": number(after / 1e6)}
+def line(entries: str, clients: int, changed: int, got: float, took: float, used: float, before: int, after: int) -> dict[str, str]:
+    """What was measured; `used` is the processor's time of an entry."""
+    return {"entries": entries, "rows that changed": f"{changed:,}", "clients": f"{clients:,}", "bytes a client": f"{got:,.0f}",
+            "until the last client's settled, s": number(took), "the gateway's processor, us an entry": number(used * 1e6),
+            "peak memory before, MB": number(before / 1e6), "peak memory, MB": number(after / 1e6)}
 
 
 def main(words: list[str]) -> None:
     parser = argparse.ArgumentParser(prog="bench/step", description=__doc__, formatter_class=argparse.RawDescriptionHelpFormatter)
     parser.add_argument("--entries", type=int, default=100_000, help="of the step (100,000)")
     parser.add_argument("--alone", type=int, default=2_000, help="that are written one by one (2,000)")
-    parser.add_argument("--clients", type=int, default=1_000, help="(1,000)")
+    parser.add_argument("--clients", type=int, nargs="+", default=[1_000], help="(1,000)")
+    parser.add_argument("--kept", type=int, nargs="+", default=[KEPT], help=f"rows of the table ({KEPT})")
     parser.add_argument("--processes", type=int, default=2, help="of clients (2)")
     given = parser.parse_args(words)
+    if given.entries < 2_000 or 0 < given.alone < 1_000:
+        parser.error("fewer entries bring no row that all roles see")
     if b"--log" not in subprocess.run([PROGRAM, "--help"], capture_output=True).stdout:
         raise SystemExit(f"bench: {PROGRAM} has no door for logs")
-    more_files(given.clients)
-    load = os.getloadavg()[0]
-    with tempfile.TemporaryDirectory(prefix="bench-") as room:
-        found = [as_a_step(given, pathlib.Path(room)), one_by_one(given)]
-    found[1] |= {it: "" for it in found[0] if it not in found[1]}
-    print(f"{given.clients:,} clients, {BY_TOKEN} of each token, load {load:.1f} before.\n\n{table(found)}")
+    more_files(max(given.clients))
+    load, found = os.getloadavg()[0], list[dict[str, str]]()
+    for kept in given.kept:
+        for clients in given.clients:
+            with tempfile.TemporaryDirectory(prefix="bench-") as room:
+                found.append(as_a_step(given, pathlib.Path(room), clients, kept))
+            print(" | ".join(found[-1].values()), flush=True)
+    if given.alone:
+        found.append(one_by_one(given, max(given.clients)) | {"the step's lines, MB": ""})
+    print(f"\n{BY_TOKEN} clients of each token, load {load:.1f} before.\n\n{table(found)}")

@@ -2,7 +2,6 @@
 #![tactic(auto)]
 
 mod admission;
-mod by_token;
 mod scout;
 mod tokens;
 

@@ -1,2 +1,2 @@
-pub mod Sharing
+pub mod ByToken
 pub mod Shutting

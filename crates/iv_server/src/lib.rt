@@ -2,6 +2,8 @@
 #![tactic(auto)]
 
 mod answering;
+mod by_token;
+pub mod laws;
 mod reading;
 mod sending;
 mod server;

@@ -1,9 +1,6 @@
 //! What a round reads: heads of requests, and what clients say, at most so much of each, until much is told.
 ghost use Rattle.std.specs.Prelude.{◌≡◌, ◌++◌, OnOk, false};
-ghost use Rattle.iv_desk.specs.Front.{Front};
-ghost use Rattle.iv_desk.specs.Desks.{IsDesk};
 ghost use Rattle.iv_running.specs.Running.{Leads};
-ghost use Rattle.iv_server.specs.Sharing.{IsShared, last_end, user_at, waiting_lines};
 
 use crate::server::{COMING, Kind, Server};
 use crate::socket::{Got, Stage, listen_at, read_at, read_head_at};
@@ -36,26 +33,6 @@ const MOST_BY_TOKEN: usize = 64;
 /// Numbers that are kept for administrators.
 const KEPT: usize = 16;
 
-/// The end of the last share.
-fn last_end(shares: &[Share]) -> usize
-    ensures { result ≡ last_end shares.now }
-{
-    match shares.last() {
-        Some(share) => share.end,
-        None => 0,
-    }
-}
-
-/// Who holds the token by which the client of a number came in: no text if that is not said.
-fn user_of<'a>(desk: &'a Desk, at: u32) -> &'a str
-    ensures { (d : Front) → IsDesk d desk.now → d.gate.dead ≡ false → result.now ≡ user_at d at }
-{
-    match desk.user_of(at) {
-        Some(user) => user,
-        None => "",
-    }
-}
-
 impl Server {
     /// Reads of the head of a request. Nothing happens to the desk while nobody may come in.
     fn read_head(
@@ -86,7 +63,7 @@ impl Server {
         ensures leads { Leads desk.old desk.new }
         ensures shut { self.old.open ≡ false → desk.new ≡ desk.old }
     {
-        let open = self.open;
+        let may_come = self.open;
         let head = self.head_of(at);
         let only_head = head.starts_with(b"HEAD ");
         match asked(&head) {
@@ -95,7 +72,7 @@ impl Server {
                 Ok(())
             }
             Wish::Upgrade => {
-                if open {
+                if may_come {
                     return self.upgrade(desk, at, &head);
                 }
                 let answer = refusal(rt, Refusal::Unavailable, false)?;
@@ -199,14 +176,16 @@ impl Server {
     }
 
     /// The entries that were made since this was last called were made at a number, by who holds its token.
-    fn share(&mut self, desk: &Desk, at: u32) -> Result<(), Fault>
-        ensures { OnOk result ((d : Front) → IsDesk d desk.now → d.gate.dead ≡ false → IsShared (waiting_lines d) (user_at d at) self.old.shares.items self.new.shares.items) }
-    {
+    fn share(&mut self, desk: &Desk, at: u32) -> Result<(), Fault> {
         let end = desk.entered().len();
-        if end == last_end(&self.shares) {
+        let before = match self.shares.last() {
+            Some(share) => share.end,
+            None => 0,
+        };
+        if end == before {
             return Ok(());
         }
-        let holder = String::from_str(self.alloc, user_of(desk, at))?;
+        let holder = String::from_str(self.alloc, desk.user_of(at).unwrap_or(""))?;
         self.shares.push(Share { end, holder })?;
         Ok(())
     }
@@ -334,7 +313,7 @@ impl Server {
         let Some(digest) = desk.digest_of(at) else {
             return Ok(true);
         };
-        let count = self.admission.come(digest)?;
+        let count = self.by_token.come(digest)?;
         let most = self.sockets.len();
         if role != ADMIN && most > 4 * KEPT && self.inside.saturating_add(KEPT) > most {
             return Ok(false);

@@ -63,7 +63,7 @@ impl Server {
         ensures { Leads desk.old desk.new }
     {
         if let Some(digest) = desk.digest_of(at) {
-            self.admission.go(digest)?;
+            self.by_token.go(digest)?;
         }
         leave(desk, at)
     }

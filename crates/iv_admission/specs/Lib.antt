@@ -1,3 +1,0 @@
-pub mod Admitting
-pub mod ByToken
-pub mod Scouting
