@@ -6,7 +6,7 @@ use Rattle.iv_clients.specs.Clients.{at_client, client_at}
 use Rattle.iv_peer.specs.Socket.{Socket, answer, close_of, closed, ended, is_open, telling}
 use Rattle.iv_desk.specs.Front.{Front}
 use Rattle.iv_desk.specs.Desks.{is_over_at}
-use Rattle.iv_server.specs.Shutting.{ClosedAreOver, closed_at, closed_below}
+use Rattle.iv_server.specs.Shutting.{ClosedAreOver, closed_below}
 
 abbrev is_over_in : Option Socket → Bool
 is_over_in o = if_some o true (λ s. s.over)
