@@ -63,7 +63,7 @@ impl Server {
         ensures leads { Leads desk.old desk.new }
         ensures shut { self.old.open ≡ false → desk.new ≡ desk.old }
     {
-        let open = self.open;
+        let may_come = self.open;
         let head = self.head_of(at);
         let only_head = head.starts_with(b"HEAD ");
         match asked(&head) {
@@ -72,7 +72,7 @@ impl Server {
                 Ok(())
             }
             Wish::Upgrade => {
-                if open {
+                if may_come {
                     return self.upgrade(desk, at, &head);
                 }
                 let answer = refusal(rt, Refusal::Unavailable, false)?;

@@ -180,8 +180,8 @@ impl Places {
 
 impl Server {
     /// One with these places, in which nobody is. Whether clients may come in.
-    pub fn new(alloc: Global, places: Places, admission: Admission, open: bool) -> Server
-        ensures { result.open ≡ open }
+    pub fn new(alloc: Global, places: Places, admission: Admission, is_open: bool) -> Server
+        ensures { result.open ≡ is_open }
     {
         let Places {
             most,
@@ -200,7 +200,7 @@ impl Server {
             shares: Vec::new(alloc),
             inside: 0,
             by_token: ByToken::new(alloc),
-            open,
+            open: is_open,
             accepting: false,
             again: false,
             swept: 0,
@@ -464,7 +464,7 @@ impl Server {
 
     /// Clients may come in.
     pub fn open(&mut self)
-        ensures { self.new ≡ record self.old { open = true } }
+        ensures { self.new ≡ record self.old { «open» = true } }
     {
         self.open = true;
     }
