@@ -1,5 +1,5 @@
 //! How a log is followed from the start of the program on: by what the journal says, or by what a keeper begins.
-ghost use Rattle.std.specs.Prelude.{◌≡◌, IfSome, string_bytes, true};
+ghost use Rattle.std.specs.Prelude.{◌≡◌, IfOk, IfSome, string_bytes, true};
 ghost use Rattle.iv_records.specs.Names.{is_epoch};
 
 use crate::following::Following;
@@ -111,6 +111,7 @@ impl Following {
             if self.hear_begun()? {
                 return Ok(true);
             }
+            self.let_go();
             if self.has_ended() {
                 return Ok(false);
             }

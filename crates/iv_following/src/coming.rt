@@ -96,10 +96,21 @@ impl Following {
         guest.readable = again;
         match got {
             Got::Nothing => {}
-            Got::End => self.guest = None,
+            Got::End => guest.ended = true,
             Got::Bytes(count) => self.take(buffer.get(..count).unwrap_or(&[]), position)?,
         }
         Ok(again && self.guest.is_some())
+    }
+
+    /// Who says no more goes, once all that it has said was heard.
+    pub(crate) fn let_go(&mut self) {
+        let is_ended = match &self.guest {
+            Some(guest) => guest.ended,
+            None => false,
+        };
+        if is_ended {
+            self.guest = None;
+        }
     }
 
     /// Whether something may be read of who is there.

@@ -209,6 +209,8 @@ impl Following {
         self.read(poll, desk.settled_at())?;
         if self.hear_keeper(desk, server)? {
             self.again = true;
+        } else {
+            self.let_go();
         }
         self.shut_without(desk, server)?;
         self.hurry();

@@ -29,6 +29,8 @@ pub(crate) struct Guest {
     pub(crate) readable: bool,
     /// The system may take bytes for it.
     pub(crate) writable: bool,
+    /// It says no more, and takes no more: what it has said is still to be heard.
+    pub(crate) ended: bool,
     /// Whether it is the keeper.
     pub(crate) stage: Stage,
 }
@@ -85,6 +87,7 @@ impl Guest {
             wire,
             readable: false,
             writable: true,
+            ended: false,
             stage: Stage::Unknown(Vec::new(alloc), until),
         }
     }
@@ -95,6 +98,7 @@ impl Guest {
             wire,
             readable: false,
             writable: true,
+            ended: false,
             stage: Stage::Known(keeper),
         }
     }
@@ -158,6 +162,9 @@ impl Guest {
             return true;
         };
         let told = &mut keeper.told;
+        if self.ended {
+            told.sent = told.out.len();
+        }
         for _ in 0..u32::MAX {
             if told.sent >= told.out.len() {
                 told.sent = 0;
