@@ -238,7 +238,7 @@ class Seat:
             self.subs[own] = name, seen
         told.sort()
         for name in after.relations:
-            if after.has(self.role, name) and not (name in before.relations and before.has(self.role, name)):
+            if any(after.has(self.role, name, it) and not (name in before.relations and before.has(self.role, name, it)) for it in PRIVILEGES):
                 told.append(told_line(granted=name))
         return told + (after.shape[len(before.shape):] if self.role == "admin" else [])
 

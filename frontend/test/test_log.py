@@ -36,15 +36,15 @@ class Keeper:
 
     running: list["Keeper"] = []
 
-    def __init__(self, here: pathlib.Path, words: tuple[str | pathlib.Path, ...] = ("--log", "-")):
+    def __init__(self, here: pathlib.Path, words: tuple[str | pathlib.Path, ...] = ("--log", "-"), given: int = subprocess.PIPE):
         self.here, self.port = here, free_port()
         (here / "tokens").write_text("[tokens]\n" + "".join(f'"{digest(f"{role}-demo")}" = "{role}"\n' for role in ("admin", "mia")))
         (here / "secret").write_text(SECRET + "\n")
         self.log = (here / "log").open("ab+")
         self.process = subprocess.Popen([PROGRAM, "--journal", here / "journal", "--tokens", here / "tokens", "--port", str(self.port), *words],
-                                        stdin=subprocess.PIPE, stdout=subprocess.PIPE, stderr=self.log)
-        assert self.process.stdin and self.process.stdout
-        self.given, self.taken = self.process.stdout, self.process.stdin
+                                        stdin=given, stdout=subprocess.PIPE, stderr=self.log)
+        assert self.process.stdout
+        self.given, self.taken = self.process.stdout, self.process.stdin or open(os.devnull, "wb")
         self.read = b""
         self.running.append(self)
 
@@ -238,6 +238,20 @@ def test_what_was_not_synced_is_taken_again_after_any_kill(here: pathlib.Path) -
     told = list(iter(keeper.hear, '{"recalled":%d}' % held))
     assert told == [ROLE, TABLE, insert(1), *(insert(it) for it in range(11, held + 1))]
     assert keeper.end() == 0
+
+
+@pytest.mark.parametrize("count", (1, 10, 300))
+@pytest.mark.parametrize("is_new", (True, False))
+def test_steps_that_come_together_with_the_end_are_taken(is_new: bool, count: int, here: pathlib.Path) -> None:
+    first: tuple[str, ...] = (BEGIN, ROLE, TABLE, insert(1), '{"from":0,"step":10}')
+    if not is_new:
+        begun(here).end()
+        first = (GO_ON,)
+    reads, writes = os.pipe()
+    os.write(writes, "".join(f"{it}\n" for it in (*first, *steps(10, 10 + count), insert(5))).encode())
+    os.close(writes)
+    assert Keeper(here, given=reads).process.wait(PATIENCE) == 0
+    assert json.loads(Keeper(here).hear())["position"] == 10 + count
 
 
 def at_port(port: int, first: str) -> tuple[socket.socket, bytes]:
