@@ -1,3 +1,4 @@
 pub mod Heeded
 pub mod StepLines
 pub mod ToldLines
+pub mod ToldSteps

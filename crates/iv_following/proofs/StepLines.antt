@@ -1,14 +1,20 @@
 -- The lines of a step's texts, one after another.
-use Rattle.std.proofs.Common.{◌≡◌, ◌<◌, ◌+◌, ◌-◌, ◌==◌, ℕ, Bool, List, [], ◌∷◌, ◌++◌, append_assoc, append-nil, arith, drop, get_or, length, refl, ap, ◌∙◌, sym, subst}
+use Rattle.std.proofs.Common.{◌≡◌, ◌<◌, ◌+◌, ◌-◌, ◌==◌, ℕ, suc, add-one, Bool, false, List, [], ◌∷◌, ◌++◌, append_assoc, arith, drop, get_or, length, map, refl, ap, ◌∙◌, sym, subst}
 use Rattle.std.proofs.lemmas.Bool.Decides.{nat_tests}
-use Rattle.std.proofs.lemmas.List.{length-drop}
+use Rattle.std.proofs.lemmas.List.{get_or-map, length-drop, length-map}
 use Rattle.std.proofs.Math.Seq.{drop-cons}
 use Rattle.iv_journal.specs.Journal.{Line}
 use Rattle.iv_records.specs.Journal.{record_of}
 
-first_line : (t : List ℕ) (ts : List (List ℕ)) → record_of (t ∷ ts) ≡ record { is_last = length ts == 0; text = t } ∷ record_of ts
+some_left : (n : ℕ) → (suc n == 0) ≡ false
+some_left n = grind (arith, nat_tests)
+
+abbrev line_with : List ℕ → Bool → Line
+line_with t b = record { is_last = b; text = t }
+
+first_line : (t : List ℕ) (ts : List (List ℕ)) → record_of (t ∷ ts) ≡ line_with t (length ts == 0) ∷ record_of ts
 first_line t [] = refl
-first_line t (u ∷ ts) = refl
+first_line t (u ∷ ts) = ap (λ (b : Bool). line_with t b ∷ record_of (u ∷ ts)) (sym (some_left (length ts)))
 
 same_end : (at n : ℕ) → at < n → (at == (n - 1)) ≡ ((n - (at + 1)) == 0)
 same_end at n h = grind (arith, nat_tests)
@@ -19,10 +25,20 @@ pub lines_on : (T : List (List ℕ)) (at : ℕ) (done : List Line) (t : List ℕ
 lines_on T at done t h e all =
     let more = drop (at + 1) T in
     let is : (length more == 0) ≡ (at == (length T - 1)) = ap (λ (n : ℕ). n == 0) (length-drop (at + 1) T) ∙ sym (same_end at (length T) h) in
-    let cut : drop at T ≡ t ∷ more = drop-cons T at [] h ∙ ap (λ (x : List ℕ). x ∷ more) (sym e) in
-    append_assoc done (record { is_last = at == (length T - 1); text = t } ∷ []) (record_of more)
-    ∙ (ap (λ (b : Bool). done ++ record { is_last = b; text = t } ∷ record_of more) (sym is)
+    let first : drop at T ≡ get_or T at [] ∷ more = rw add-one (drop-cons T at [] h) in
+    let cut : drop at T ≡ t ∷ more = first ∙ ap (λ (x : List ℕ). x ∷ more) (sym e) in
+    append_assoc done (line_with t (at == (length T - 1)) ∷ []) (record_of more)
+    ∙ (ap (λ (b : Bool). done ++ line_with t b ∷ record_of more) (sym is)
     ∙ (ap (λ (ls : List Line). done ++ ls) (sym (ap record_of cut ∙ first_line t more)) ∙ all))
 
-pub lines_all : (T : List (List ℕ)) (done : List Line) → done ++ record_of (drop (length T) T) ≡ record_of T → drop (length T) T ≡ [] → done ≡ record_of T
-lines_all T done all e = sym (append-nil done) ∙ (sym (ap (λ (ts : List (List ℕ)). done ++ record_of ts) e) ∙ all)
+-- one more line is pushed, of the text of one more thing
+pub lines_pushed : {X : Type 0} (f : X → List ℕ) (xs : List X) (at last : ℕ) (done now : List Line) (t : List ℕ) (x : X) → at < length xs → last ≡ length xs - 1
+    → x ≡ get_or xs at x → t ≡ f x → now ≡ done ++ record { is_last = at == last; text = t } ∷ []
+    → done ++ record_of (drop at (map f xs)) ≡ record_of (map f xs) → now ++ record_of (drop (at + 1) (map f xs)) ≡ record_of (map f xs)
+lines_pushed f xs at last done now t x h l is e p all =
+    let n : length (map f xs) ≡ length xs = length-map xs f in
+    let within : at < length (map f xs) = subst (λ (m : ℕ). at < m) (sym n) h in
+    let same : t ≡ get_or (map f xs) at [] = e ∙ (ap f is ∙ sym (get_or-map f xs at x [] h)) in
+    ap (λ (ls : List Line). ls ++ record_of (drop (at + 1) (map f xs)))
+    (p ∙ ap (λ (m : ℕ). done ++ line_with t (at == m) ∷ []) (l ∙ ap (λ (m : ℕ). m - 1) (sym n)))
+    ∙ lines_on (map f xs) at done t within same all

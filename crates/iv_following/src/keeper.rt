@@ -74,7 +74,10 @@ fn end_step(
         texts,
         &mut means.scratch,
     ) {
-        Ok(()) => server.share_none(desk),
+        Ok(()) => match server.share_none(desk) {
+            Ok(()) => Ok(()),
+            Err(fault) => Err(fault),
+        },
         Err(fault) => Err(told.fail(&means.rt, &fault)),
     }
 }

@@ -1,9 +1,10 @@
 //! `take_step`: the step of texts that a keeper has brought is taken, or why it is not is told by its place in it.
-ghost use Rattle.std.specs.Prelude.{◌≡◌, IfErr, IfOk, IfSome, OnOk, Some, false, map};
+ghost use Rattle.std.specs.Prelude.{◌≡◌, IfErr, IfOk, IfSome, None, OnOk, Some, false, map};
 ghost use Rattle.iv_gate.specs.Arriving.{fault_of};
 ghost use Rattle.iv_gate.specs.Gate.{Gate};
 ghost use Rattle.iv_gate.specs.Arriving as gate;
 ghost use Rattle.iv_gateway.specs.Arriving.{IsFaultOf};
+ghost use Rattle.iv_gateway.specs.declared.arriving.StepFault.TheVariants.{Memory as NoMemory};
 ghost use Rattle.iv_records.specs.Journal.{record_of};
 ghost use Rattle.iv_desk.specs.Desks.{IsDesk};
 ghost use Rattle.iv_desk.specs.Front.{Front};
@@ -84,8 +85,9 @@ fn first_wrong(
 
 /// Why a step is not taken, as its keeper is told it.
 fn fault_of(alloc: Global, log: &Log, from: u64, to: u64, fault: &StepFault) -> Fault
-    ensures { (s : gate.Step) (g : Gate) → IsFaultOf g s fault.now
+    ensures told { (s : gate.Step) (g : Gate) → IsFaultOf g s fault.now
         → IfSome (door.fault_of result) (λ f. (why : gate.Fault) × (fault_of g s ≡ Some why) × IsToldOf log.now from to why f) }
+    ensures memory { fault.now ≡ NoMemory → door.fault_of result ≡ None }
 {
     match fault {
         StepFault::Gap(position) => Fault::Gap(to, from, *position),

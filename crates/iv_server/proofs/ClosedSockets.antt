@@ -6,7 +6,7 @@ use Rattle.iv_clients.specs.Clients.{at_client, client_at}
 use Rattle.iv_peer.specs.Socket.{Socket, answer, close_of, closed, ended, is_open, telling}
 use Rattle.iv_desk.specs.Front.{Front}
 use Rattle.iv_desk.specs.Desks.{is_over_at}
-use Rattle.iv_server.specs.Shutting.{ClosedAreOver, closed_at, closed_below}
+use Rattle.iv_server.specs.Shutting.{ClosedAreOver, closed_below}
 
 abbrev is_over_in : Option Socket → Bool
 is_over_in o = if_some o true (λ s. s.over)
@@ -48,11 +48,11 @@ or_true false b h = h
 
 over_below : (n : ℕ) (d : Front) (m : ℕ) → m < n → is_over_in (client_at (closed_below n d).sockets m) ≡ true
 over_below zero d m h = absurd (omega (arith, h))
-over_below (suc n) d m h = by (last_or_before m n h)
+over_below (suc n) d m h = by (last_or_before m n h) (λ l. over_below n d m l)
   where
-    by : (m ≡ n) ⊎ (m < n) → is_over_in (client_at (closed_below (suc n) d).sockets m) ≡ true
-    by (inl e) = subst (λ k. is_over_in (client_at (closed_below (suc n) d).sockets k) ≡ true) (sym e) (over_there n (closed_below n d).sockets)
-    by (inr l) = stays_over n m (closed_below n d).sockets (over_below n d m l)
+    by : (m ≡ n) ⊎ (m < n) → (m < n → is_over_in (client_at (closed_below n d).sockets m) ≡ true) → is_over_in (client_at (closed_below (suc n) d).sockets m) ≡ true
+    by (inl e) before = subst (λ k. is_over_in (client_at (closed_below (suc n) d).sockets k) ≡ true) (sym e) (over_there n (closed_below n d).sockets)
+    by (inr l) before = stays_over n m (closed_below n d).sockets (before l)
 
 pub closed_are_over : ClosedAreOver
 closed_are_over n d m h = or_true (closed_below n d).gate.dead _ (over_below n d m h)

@@ -14,5 +14,5 @@ returns-in-Ok-clause-back c =
     let back = c.in-Ok.ensures.back c.args.settings.now.rows c.args.tokens.items head (c.in_ok-desk.ensures head c.in_ok-head.ensures) in (
       epoch,
       back_by c.args.settings.now.rows c.args.tokens.items epoch c.in_ok-begun.begun c.in_ok-begun.said c.deref.result.now c.args.audit.now.lines.items
-      c.deref-2.result.now c.behind-entries.result.now c.lead.new.desk c.in_ok-begun.ensures c.deref.ensures.value c.deref-2.ensures.value c.behind-entries.ensures back,
+          c.deref-2.result.now c.behind-entries.result.now c.lead.new.desk c.in_ok-begun.ensures c.deref.ensures.value c.deref-2.ensures.value c.behind-entries.ensures back,
     )
