@@ -16,6 +16,7 @@ import psycopg2.errors
 from beginning import NotReady, Progress
 from catalog import Unsettled
 from door import Gateway, line
+from figures import Figures
 from following import Anew, Following
 from pgoutput import Unreadable, lsn_text
 from prepare import printable
@@ -74,7 +75,10 @@ class Follow:
         self.waiting: deque[Said] = deque()
         self.certain = 0  # all rows of commits before it are on the gateway's disk
         self.is_away = False
+        self.left = 0  # bytes of the log that are not there
         self.level = self.told = time.monotonic()  # when the gateway had all that was known of, and when it was said that it has not
+        self.beginnings = 0
+        self.left_out = dict[str, str]()
         self.meet()
 
     def meet(self) -> None:
@@ -105,6 +109,11 @@ class Follow:
                     raise
                 self.away(" ".join(str(why).split()))
 
+    def figures(self) -> Figures:
+        """As they are now: another thread asks."""
+        is_behind = bool(self.left or self.is_away or not self.following)
+        return Figures(self.open, self.is_away, self.left, time.monotonic() - self.level if is_behind else 0.0, self.number, self.beginnings, self.left_out)
+
     def start(self) -> None:
         """Goes on from what the gateway holds, if that can be."""
         if not self.held.log:
@@ -115,6 +124,7 @@ class Follow:
             self.anew(str(why))
             return
         self.door.go_on(self.held.log, self.held.epoch)
+        self.left_out = dict(self.following.state.left_out())
         log(f"goes on behind step {self.number}")
 
     def begin(self) -> None:
@@ -129,8 +139,10 @@ class Follow:
         self.door.begin(self.following.begun.log, secrets.token_hex(16))
         self.first(self.following)
         rows = sum(it.rows.total() for it in self.following.begun.mirror.tables.values())
+        self.beginnings += 1
         log(f"began with {rows:,} rows at {lsn_text(self.following.source.place.end)}")
-        for name, fault in self.following.state.left_out():
+        self.left_out = dict(self.following.state.left_out())
+        for name, fault in self.left_out.items():
             log(f"{name} is left out: {fault}")
         self.serve()
 
@@ -221,9 +233,9 @@ class Follow:
         steps, now = following.begun.steps, time.monotonic()
         if not self.waiting:
             self.certain = steps.certain
-        left = max(0, steps.last - self.certain)
-        if not left:
+        self.left = max(0, steps.last - self.certain)
+        if not self.left:
             self.level = now
         elif now - max(self.level, self.told) > WORD:
             self.told = now
-            log(f"{left:,} bytes behind, for {now - self.level:.0f} seconds")
+            log(f"{self.left:,} bytes behind, for {now - self.level:.0f} seconds")

@@ -10,6 +10,7 @@ import psycopg2
 sys.path.append(str(pathlib.Path(__file__).resolve().parent.parent / "frontend"))
 
 import door
+import figures
 import prepare
 from beginning import NotReady
 from catalog import Unsettled, connect
@@ -54,6 +55,7 @@ def arguments(words: list[str]) -> argparse.Namespace:
             one.add_argument("--port", type=int, help="where a gateway listens for this side; without it, and without words of a gateway behind --, "
                                                       "the gateway is at standard input and output")
             one.add_argument("--secret-file", type=pathlib.Path, help="the file that it has, too")
+            one.add_argument("--status", type=int, metavar="PORT", help="of 127.0.0.1, where /state and /metrics tell how far it is")
             continue
         one.add_argument("--rows", type=int, default=ROWS, help=f"different rows of a table, as for viewd: {LEAST:,} to {MOST:,}, {ROWS:,} if left out")
     count = words.index("--") if "--" in words else len(words)
@@ -102,7 +104,10 @@ def follow(settings: Settings, given: argparse.Namespace) -> None:
     except OSError as why:
         raise Ended(f"no gateway: {why}") from None
     try:
-        Follow(settings, gateway).run()
+        one = Follow(settings, gateway)
+        if given.status is not None:
+            figures.serve(given.status, one.figures)
+        one.run()
     finally:
         gateway.close()
 

@@ -32,6 +32,7 @@ class Followed(Base):
         self.config.write_text("[postgres]\n")
         self.gateway: Gateway | None = None
         self.keeper: Keeper | None = None
+        self.words: list[str] = []  # further ones of the program's
         self.tick = 0
         self.beginnings = 0
         self.statuses: Counter[int] = Counter()
@@ -65,7 +66,7 @@ class Followed(Base):
             self.gateway = Gateway(self.room, MOST)
             counts["gateways"] += 1
         if self.keeper is None:
-            self.keeper = Keeper(self.server.dsn("viewd", self.name), self.config, self.room / "log")
+            self.keeper = Keeper(self.server.dsn("viewd", self.name), self.config, self.room / "log", *self.words)
             self.keeper.say(self.gateway.hello())
             counts["starts"] += 1
 

@@ -12,9 +12,9 @@ PATIENCE = 600.0
 
 
 class Keeper:
-    def __init__(self, dsn: str, config: pathlib.Path, log: pathlib.Path):
+    def __init__(self, dsn: str, config: pathlib.Path, log: pathlib.Path, *words: str):
         with log.open("ab") as file:
-            self.process = subprocess.Popen(["/usr/bin/python3", PROGRAM, "follow", dsn, config], stdin=subprocess.PIPE, stdout=subprocess.PIPE, stderr=file)
+            self.process = subprocess.Popen(["/usr/bin/python3", PROGRAM, "follow", dsn, config, *words], stdin=subprocess.PIPE, stdout=subprocess.PIPE, stderr=file)
         self.lines: queue.Queue[bytes] = queue.Queue(10_000)
         self.ends = False
         self.thread = threading.Thread(target=self.read, daemon=True)

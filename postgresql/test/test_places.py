@@ -1,16 +1,20 @@
 """From where the program that follows goes on, and what needs a new beginning."""
 import io
+import json
 import re
 import shutil
 import time
 import types
 import unittest
 import unittest.mock
+import urllib.error
+import urllib.request
 from typing import Any
 
 import door
 import follow
 from followed import PATIENCE, Followed
+from server import free_port
 from settings import Settings
 from source import NAME
 from stream import Place
@@ -184,6 +188,37 @@ class Places(Followed):
             self.assertEqual(self.beginnings, before + 1, self.told())
         self.assertIn("PostgreSQL is not as far as what is held", self.told())
         self.assertIn("the last transaction that was told is not in the log", self.told())
+
+    def test_what_it_tells_of_itself(self) -> None:
+        port = free_port()
+        self.words = ["--status", str(port)]
+        self.desk.do("create table docs (id int primary key, doc json)")
+
+        def asked(path: str) -> str:
+            with urllib.request.urlopen(f"http://127.0.0.1:{port}{path}", timeout=PATIENCE) as answer:
+                return str(answer.read().decode())
+        self.settle()
+        end = time.monotonic() + PATIENCE
+        while (found := json.loads(asked("/state")))["behind_bytes"]:
+            self.assertLess(time.monotonic(), end, found)
+            self.turn()
+        self.assertEqual((found["open"], found["away"], found["behind_seconds"], found["beginnings"]), (True, False, 0, 1))
+        self.assertEqual(found["left_out"]["docs"], "column doc: viewd has no type json")
+        self.assertGreater(found["steps"], 0)
+        lines = asked("/metrics").splitlines()
+        self.assertIn("viewd_postgresql_open 1", lines)
+        self.assertIn('viewd_postgresql_left_out{name="docs",why="column doc: viewd has no type json"} 1', lines)
+        with self.assertRaisesRegex(urllib.error.HTTPError, "404"):
+            asked("/")
+        self.server.stop("fast")
+        while not (found := json.loads(asked("/state")))["away"]:
+            self.assertLess(time.monotonic(), end, found)
+            self.turn()
+        self.assertFalse(found["open"])
+        self.server.start()
+        self.desk.again()
+        self.settle()
+        self.assertFalse(json.loads(asked("/state"))["away"])
 
     def test_a_postgresql_that_is_away(self) -> None:
         self.settle()
