@@ -77,6 +77,13 @@ class Lives(Base):
         except (Ended, OSError):
             return None
 
+    def subscribed(self, wire: Wire, name: str) -> list[dict[str, Any]]:
+        """The reply and the rows. Lines of a step may come before."""
+        lines = wire.ask({"do": "subscribe", "on": name})
+        while not lines[0].startswith(('{"columns"', '{"error"')):
+            lines = wire.event()
+        return [json.loads(it) for it in lines]
+
     def settle(self) -> None:
         """Until clients see what is in PostgreSQL now."""
         self.tick += 1
@@ -86,7 +93,7 @@ class Lives(Base):
             self.assertLess(time.monotonic(), end, self.told()[-3000:])
             self.start()
             try:
-                if (wire := self.enter("admin")) and json.loads(wire.ask({"do": "subscribe", "on": "clock"})[1])["changes"] == [[1, [self.tick]]]:
+                if (wire := self.enter("admin")) and self.subscribed(wire, "clock")[1]["changes"] == [[1, [self.tick]]]:
                     return
             except (Ended, OSError, IndexError):
                 pass
@@ -104,7 +111,7 @@ class Lives(Base):
             assert wire, role
             for name, columns in names.items():
                 shown: Counter[tuple[Any, ...]] | None = Counter()
-                for it in map(json.loads, wire.ask({"do": "subscribe", "on": name})):
+                for it in self.subscribed(wire, name):
                     if "error" in it:
                         self.assertEqual(it["error"], 13)
                         shown = None
