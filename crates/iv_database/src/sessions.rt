@@ -29,6 +29,7 @@ impl Model for Session {
 /// Sessions that were taken out of a database, to be put back.
 #[derive(Drop)]
 pub struct Sessions {
+    /// In the order in which they began.
     open: Vec<Session>,
 }
 

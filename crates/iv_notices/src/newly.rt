@@ -56,7 +56,9 @@ impl Model for Held {
 /// A role, and what it may do, relation by relation.
 #[derive(Drop)]
 pub struct Readable {
+    /// The role's name.
     role: String,
+    /// The relations on which it has some privilege, each with those that it has.
     rels: Vec<Held>,
 }
 
@@ -72,7 +74,9 @@ impl Model for Readable {
 /// What a role is told.
 #[derive(Drop)]
 pub struct Newly {
+    /// The role's name.
     role: String,
+    /// The lines that each client of it is told.
     text: Vec<u8>,
 }
 
