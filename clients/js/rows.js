@@ -28,6 +28,23 @@ function placeOf(row, rows, order) {
   return from;
 }
 
+const EMPTY = {int: 0, text: "", flag: false}; // what stands in the place of null
+
+/** The columns that are seen, each with its place. With `nulls` a flag NAME_null right behind NAME is none of them, and says whether NAME is null. */
+export function seenOf(columns, nulls) {
+  const seen = [];
+  for (let at = 0; at < columns.length; at++) {
+    const [name, kind] = columns[at], [next, flag] = columns[at + 1] ?? [];
+    const mayBeNull = Boolean(nulls) && next === `${name}_null` && flag === "flag";
+    seen.push({name, kind, at, mayBeNull});
+    if (mayBeNull) at++;
+  }
+  return seen;
+}
+
+/** Their names and kinds. */
+export const pairsOf = (columns, nulls) => nulls ? seenOf(columns, nulls).map(({name, kind}) => [name, kind]) : columns;
+
 const narrow = (number) => Number.isSafeInteger(Number(number)) ? Number(number) : number;
 
 /** A relation as one user of it sees it: the rows that pass `where`, in an order, the first `limit` of them. */
@@ -157,6 +174,7 @@ export class Relation {
   sub = null;
   asked = false; // a subscribe is under way
   users = new Set();
+  #nulls; #told = null; #seen = []; // the columns as the gateway has them, and as they are seen
   #held = new Map(); // from a row's text to {row, copies}
   #fresh = true; // all rows are new since they were last told of
   #isHalf = false; // an event is not settled: what is held may be half of it
@@ -164,9 +182,17 @@ export class Relation {
   #before = new Map(); // of rows that changed since then: whether they were there, and which
   #leave;
 
-  constructor(on, leave) {
+  constructor(on, leave, nulls) {
     this.on = on;
     this.#leave = leave;
+    this.#nulls = nulls;
+  }
+
+  /** Its columns, as the gateway has them. */
+  know(columns) {
+    this.#told = columns;
+    this.#seen = seenOf(columns, this.#nulls);
+    this.columns = pairsOf(columns, this.#nulls);
   }
 
   rows() {
@@ -174,10 +200,15 @@ export class Relation {
   }
 
   copies(row) {
-    return narrow(this.#held.get(text(this.values(row)))?.copies ?? 0n);
+    return narrow(this.#held.get(text(this.#folded(this.values(row))))?.copies ?? 0n);
   }
 
-  /** The values of a row in the order of the columns. */
+  // As they are seen, of values as the gateway has them.
+  #folded(values) {
+    return this.#nulls ? this.#seen.map(({at, mayBeNull}) => mayBeNull && values[at + 1] ? null : values[at]) : values;
+  }
+
+  /** The values of a row as the gateway has them, in the order of its columns. */
   values(row) {
     const values = Array.isArray(row) ? row : this.#inOrder(row);
     for (const value of values) {
@@ -192,9 +223,10 @@ export class Relation {
     for (const name of Object.keys(row)) {
       if (!this.columns.some(([it]) => it === name)) throw new ViewdError(`${this.on} has no column ${name}`);
     }
-    return this.columns.map(([name]) => {
-      if (!Object.hasOwn(row, name) || row[name] === undefined || row[name] === null) throw new ViewdError(`${this.on}: the row has no value for ${name}`);
-      return row[name];
+    return this.#seen.flatMap(({name, kind, mayBeNull}) => {
+      const value = Object.hasOwn(row, name) ? row[name] : undefined;
+      if (value === undefined || value === null && !mayBeNull) throw new ViewdError(`${this.on}: the row has no value for ${name}`);
+      return mayBeNull ? [value ?? EMPTY[kind], value === null] : [value];
     });
   }
 
@@ -204,8 +236,9 @@ export class Relation {
   }
 
   begin({columns, sub}) {
-    const old = text(columns) === text(this.columns) ? this.#held : new Map();
-    Object.assign(this, {columns, sub, state: "live", why: null, asked: false});
+    const old = text(columns) === text(this.#told) ? this.#held : new Map();
+    this.know(columns);
+    Object.assign(this, {sub, state: "live", why: null, asked: false});
     this.#isHalf = true;
     this.clear();
     this.#old = old;
@@ -219,7 +252,8 @@ export class Relation {
 
   take(changes) {
     this.#isHalf = true;
-    for (const [copies, values] of changes) {
+    for (const [copies, told] of changes) {
+      const values = this.#folded(told);
       const key = text(values), held = this.#held.get(key);
       const sum = (held?.copies ?? 0n) + BigInt(copies);
       if (!this.#fresh && !this.#before.has(key)) this.#before.set(key, held?.row ?? null);

@@ -67,9 +67,10 @@ export function text(value) {
 // A place of UTF-16 by the order of UTF-8: halves of pairs come behind all else.
 const place = (unit) => unit >= 0xe000 ? unit - 0x800 : unit >= 0xd800 ? unit + 0x2000 : unit;
 
-/** The order of two values of one kind: numbers by size, texts by their bytes, and false before true. */
+/** The order of two values of one kind: numbers by size, texts by their bytes, false before true, and null last. */
 export function compare(one, other) {
   if (one === other) return 0;
+  if (one === null || other === null) return one === null ? 1 : -1;
   if (typeof one !== "string") return one < other ? -1 : one > other ? 1 : 0;
   const end = Math.min(one.length, other.length);
   for (let at = 0; at < end; at++) {

@@ -4,9 +4,9 @@
 export type Value = number | bigint | string | boolean;
 export type Kind = "int" | "text" | "flag";
 export type Columns = ReadonlyArray<readonly [name: string, kind: Kind]>;
-/** A row by the names of its columns. */
-export type Row = {readonly [column: string]: Value};
-/** A row as a list, with a value for each column in their order. */
+/** A row by the names of its columns. With the option `nulls` a value may be null. */
+export type Row = {readonly [column: string]: Value | null};
+/** A row as a list, with a value for each column of the gateway's in their order. */
 export type Values = readonly Value[];
 /** Relations by their names, each with the type of its rows. */
 export type Relations = {[relation: string]: Row};
@@ -124,6 +124,8 @@ export interface Options {
   token: string | (() => string | Promise<string>);
   /** Columns that are known beforehand, for a role that writes to what it may not read. */
   columns?: {[relation: string]: Columns};
+  /** A flag `NAME_null` right behind a column `NAME` is no column of its own, and says whether `NAME` is null. */
+  nulls?: boolean;
   /** Told what a listener, `where` or `order` throws; the console where it is left out. */
   onError?: (why: unknown) => void;
   /** Milliseconds without a line, after which the connection is given up; 30,000. The gateway says one each 20 seconds. */
@@ -145,5 +147,5 @@ export function connect<R extends object = Relations>(url: string | URL, options
 export function parse(line: string): any;
 /** The JSON of a value, in which a BigInt is a number. */
 export function text(value: unknown): string;
-/** The order of two values of one kind: numbers by size, texts by their bytes, and false before true. */
-export function compare<V extends Value>(one: V, other: V): number;
+/** The order of two values of one kind: numbers by size, texts by their bytes, false before true, and null last. */
+export function compare<V extends Value>(one: V | null, other: V | null): number;

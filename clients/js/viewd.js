@@ -8,7 +8,7 @@
 //
 // A write has a name, and is sent until it is answered: however often that is, it is done once.
 // It has no dependency and needs no build step. docs/CLIENTS.md goes through it, and viewd.d.ts has its types.
-import {Live, Relation} from "./rows.js";
+import {Live, pairsOf, Relation} from "./rows.js";
 import {NotSent, parse, Refused, text, Undecided, ViewdError} from "./values.js";
 
 export {compare, NotSent, parse, Refused, text, Undecided, ViewdError} from "./values.js";
@@ -65,7 +65,7 @@ class Db {
     if (this.state === "closed") throw new NotSent("the client has ended");
     let relation = this.#relations.get(on);
     if (!relation) {
-      relation = new Relation(on, (it) => this.#giveBack(it));
+      relation = new Relation(on, (it) => this.#giveBack(it), this.#how.nulls);
       this.#relations.set(on, relation);
       if (this.role) this.#subscribe(relation);
     }
@@ -95,11 +95,11 @@ class Db {
     const columns = new Map();
     for (const {on, insert, delete: gone, update} of entries) {
       const rows = [insert, gone, ...(update ?? [])].filter((row) => row && !Array.isArray(row));
-      if (rows.length && !columns.has(on)) columns.set(on, await this.columns(on));
+      if (rows.length && !columns.has(on)) columns.set(on, await this.#toldColumns(on));
     }
     const lines = entries.map(({on, insert, delete: gone, update, copies}) => {
-      const relation = new Relation(on);
-      relation.columns = columns.get(on) ?? null;
+      const relation = new Relation(on, null, this.#how.nulls);
+      if (columns.has(on)) relation.know(columns.get(on));
       const line = {on, copies};
       if (insert) line.insert = relation.values(insert);
       if (gone) line.delete = relation.values(gone);
@@ -111,6 +111,10 @@ class Db {
 
   /** The columns of a relation: as the option `columns` or a subscribe has told them; else one subscribe asks. */
   async columns(on) {
+    return pairsOf(await this.#toldColumns(on), this.#how.nulls);
+  }
+
+  async #toldColumns(on) {
     if (this.#known.has(on)) return this.#known.get(on);
     const asking = this.live(on);
     let timer;

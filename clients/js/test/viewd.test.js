@@ -70,6 +70,32 @@ test("a refusal says its words", async (t) => {
     && why.message === "no permissive policy (14), on notes, check insert, entry 1");
 });
 
+test("with nulls a column and the flag behind it are one", async (t) => {
+  const columns = [["id", "int"], ["old_null", "flag"], ["due", "text"], ["due_null", "flag"], ["n", "int"], ["n_null", "flag"], ["n_null_null", "flag"]];
+  const [db, socket] = await entered(t, {nulls: true}), more = {old_null: true, n_null_null: false};
+  const notes = db.live("notes", {order: ["-due"]}), none = db.live("notes", {where: {n: null}}), most = db.live("notes", {order: "n"});
+  follow(socket, 1, [[1, [1, true, "", true, 7, false, false]], [2, [2, true, "", false, 0, true, false]], [1, [3, true, "x", false, 0, false, false]],
+    [1, [2, true, "", false, 9, true, false]]], "notes", columns); // the last one is the second's row, whatever stands in the place of null
+  const rows = [{id: 1, due: null, n: 7, ...more}, {id: 2, due: "", n: null, ...more}, {id: 3, due: "x", n: 0, ...more}];
+  assert.deepEqual(notes.columns, [["id", "int"], ["old_null", "flag"], ["due", "text"], ["n", "int"], ["n_null_null", "flag"]]);
+  assert.deepEqual(await db.columns("notes"), notes.columns);
+  assert.deepEqual(notes.rows, [rows[0], rows[2], rows[1]]);
+  assert.deepEqual([none.rows, none.total], [[rows[1]], 1]);
+  assert.deepEqual(most.rows, [rows[2], rows[0], rows[1]]);
+  assert.deepEqual([notes.copies(rows[1]), notes.copies([2, true, "", false, 5, true, false]), notes.copies({...rows[1], n: 9})], [3, 3, 0]);
+  socket.event({changes: [[-1, [1, true, "", true, 7, false, false]], [1, [1, true, "", false, 7, false, false]]], sub: 1});
+  assert.deepEqual(notes.rows, [rows[2], {...rows[0], due: ""}, rows[1]]);
+  const works = [db.remove("notes", [1, true, "", true, 7, false, false]), db.insert("notes", rows[0]), db.update("notes", rows[1], {n: 5})];
+  await turn();
+  for (const entry of [{delete: [1, true, "", true, 7, false, false]}, {insert: [1, true, "", true, 7, false, false]},
+    {update: [[2, true, "", false, 0, true, false], [2, true, "", false, 5, false, false]]}]) socket.event({id: socket.asked({do: "write", entries: [{on: "notes", ...entry}]}), ok: true});
+  await Promise.all(works);
+  await assert.rejects(db.insert("notes", {...rows[0], due_null: true}), /no column due_null/);
+  await assert.rejects(db.insert("notes", {...rows[0], id: null}), /no value for id/);
+  await assert.rejects(db.insert("notes", {...rows[0], due: undefined}), /no value for due/);
+  assert.deepEqual([compare(null, null), compare(null, "z") > 0, compare(9n, null) < 0], [0, true, true]);
+});
+
 test("rows are objects by column names, each once, in the order of their columns", async (t) => {
   const [db, socket] = await entered(t);
   const notes = db.live("notes");

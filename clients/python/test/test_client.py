@@ -106,6 +106,35 @@ async def test_rows_have_column_names_and_an_order(fakes):
 
 
 @run
+async def test_with_nulls_a_column_and_the_flag_behind_it_are_one(fakes):
+    columns = [["id", "int"], ["old_null", "flag"], ["due", "text"], ["due_null", "flag"], ["n", "int"], ["n_null", "flag"], ["n_null_null", "flag"]]
+    db, socket = await entered(nulls=True)
+    more = {"old_null": True, "n_null_null": False}
+    notes, none, most = db.live("notes", order=["-due"]), db.live("notes", where={"n": None}), db.live("notes", order="n")
+    changes = db.changes("notes")
+    await turn()
+    await socket.follow(1, [[1, [1, True, "", True, 7, False, False]], [2, [2, True, "", False, 0, True, False]], [1, [3, True, "x", False, 0, False, False]],
+                            [1, [2, True, "", False, 9, True, False]]], columns=columns)  # the last one is the second's row, whatever stands in the place of None
+    rows = [{"id": 1, "due": None, "n": 7, **more}, {"id": 2, "due": "", "n": None, **more}, {"id": 3, "due": "x", "n": 0, **more}]
+    assert notes.columns == [("id", "int"), ("old_null", "flag"), ("due", "text"), ("n", "int"), ("n_null_null", "flag")] == await db.columns("notes")
+    assert notes.rows == [rows[0], rows[2], rows[1]] and (none.rows, none.total) == ([rows[1]], 1) and most.rows == [rows[2], rows[0], rows[1]]
+    assert [notes.copies(rows[1]), notes.copies([2, True, "", False, 5, True, False]), notes.copies({**rows[1], "n": 9})] == [3, 3, 0]
+    assert [(it.copies, it.row) for it in await changes.__anext__()] == [(1, rows[0]), (3, rows[1]), (1, rows[2])]
+    await socket.event({"changes": [[-1, [1, True, "", True, 7, False, False]], [1, [1, True, "", False, 7, False, False]]], "sub": 1})
+    assert notes.rows == [rows[2], {**rows[0], "due": ""}, rows[1]]
+    assert [(it.copies, it.row) for it in await changes.__anext__()] == [(1, {**rows[0], "due": ""}), (-1, rows[0])]
+    works = [*map(asyncio.ensure_future, (db.insert("notes", rows[0]), db.update("notes", rows[1], {"n": 5}), db.remove("notes", [1, True, "", True, 7, False, False])))]
+    await turn()
+    for entry in ({"insert": [1, True, "", True, 7, False, False]}, {"update": [[2, True, "", False, 0, True, False], [2, True, "", False, 5, False, False]]},
+                  {"delete": [1, True, "", True, 7, False, False]}):
+        await socket.event({"id": socket.asked({"do": "write", "entries": [{"on": "notes", **entry}]}), "ok": True})
+    await asyncio.gather(*works)
+    assert "no column due_null" in str(await raised(db.insert("notes", {**rows[0], "due_null": True})))
+    assert "no value for due" in str(await raised(db.insert("notes", {"id": 1, "old_null": True})))
+    await db.end()
+
+
+@run
 async def test_what_is_shown_is_what_sorting_from_nothing_gives(fakes):
     db, socket = await entered()
     live = db.live("notes", where=lambda row: row["id"] % 3, order=["who", "-id"], limit=25)

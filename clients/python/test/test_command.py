@@ -162,6 +162,25 @@ def test_watch_ends_with_its_reader_and_by_a_signal(gateway):
             assert process.wait(PATIENCE) == 130 and process.stderr.read() == ""
 
 
+def test_nulls(gateway):
+    with viewd.plain.connect(gateway.url, token="admin-demo", nulls=True) as admin:
+        admin.request({"do": "create_table", "name": "visits", "owner": "mia", "columns": [["id", "int"], ["until", "text"], ["until_null", "flag"]]})
+        admin.request({"do": "grant", "on": "visits", "privileges": ["select", "insert"], "to": "ann"})
+    with viewd.plain.connect(gateway.url, token="ann-demo", nulls=True) as ann:
+        assert ann.insert("visits", {"id": 1, "until": None})["ok"] and ann.rows("visits") == [{"id": 1, "until": None}]
+        assert ann.columns("visits") == [("id", "int"), ("until", "text")]
+    assert ran(gateway, "write", "--nulls", given='{"on":"visits","insert":{"id":2,"until":"May"}}\n{"on":"visits","update":[{"id":1,"until":null},{"id":3,"until":null}]}\n') == (0, "", "")
+    assert ran(gateway, "export", "visits", "--nulls", "--order", "-until") == (0, '{"id":3,"until":null}\n{"id":2,"until":"May"}\n', "")
+    assert ran(gateway, "export", "visits", "--csv") == (0, "id,until,until_null\n2,May,false\n3,,true\n", "")
+    assert ran(gateway, "export", "visits", "--nulls", "--csv") == (2, "", "viewd-client: --csv has no null: without --nulls the flag NAME_null says it, and import reads that\n")
+    assert ran(gateway, "types", "--typescript", "--nulls", "visits")[1].splitlines()[-2] == "  visits: {id: number | bigint; until: string | null};"
+    assert ran(gateway, "types", "--typescript", "visits")[1].splitlines()[-2] == "  visits: {id: number | bigint; until: string; until_null: boolean};"
+    with watching(gateway, "visits", "--nulls") as process:
+        assert process.stdout.readline() == '{"copies":1,"row":{"id":2,"until":"May"}}\n' and process.stdout.readline() == '{"copies":1,"row":{"id":3,"until":null}}\n'
+    with watching(gateway, "visits", "--nulls", "--table") as process:
+        assert [process.stdout.readline() for _ in range(3)] == ["id  until\n", " 2  May\n", " 3  null\n"]
+
+
 def test_the_table(gateway):
     with viewd.plain.connect(gateway.url, token="mia-demo") as db:
         db.insert("notes", ROWS[0])

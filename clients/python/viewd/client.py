@@ -16,7 +16,7 @@ import websockets
 from websockets.exceptions import ConnectionClosed
 
 from .faults import NotSent, Refused, Undecided, ViewdError
-from .rows import Changes, Columns, Live, Relation, Report, User, Value, Where, values_of
+from .rows import Changes, Columns, Live, Relation, Report, User, Value, Where, pairs_of, values_of
 
 BYTES = 65_463  # of a message, at most
 LIMIT, TOO_MANY, TOO_LONG = 17, 20, 22
@@ -98,8 +98,8 @@ class _Connection:
 class Db:
     """A client of a gateway. `connect` makes one, within a running loop; `async with` waits for its role, and ends it."""
 
-    def __init__(self, url: str, token: Token, columns: Mapping[str, Columns] | None, on_error: Report | None, timing: Timing):
-        self.url, self.timing = url, timing
+    def __init__(self, url: str, token: Token, columns: Mapping[str, Columns] | None, nulls: bool, on_error: Report | None, timing: Timing):
+        self.url, self.nulls, self.timing = url, nulls, timing
         self.role: str | None = None  # that the token opens, or None if nobody is in
         self.protocol: int | None = None  # the number that the gateway tells, or None if nobody is in, or it tells none
         self.state = "connecting"  # at first; `live`; `stale`: what is shown may be old, and another connection is tried; `closed`
@@ -179,20 +179,23 @@ class Db:
                 raise ViewdError(f"{entry['on']}: {pair!r} is no pair of rows")
             rows = [entry.get("insert"), entry.get("delete"), *pair]
             if entry["on"] not in columns and any(isinstance(it, Mapping) for it in rows):
-                columns[entry["on"]] = await self.columns(entry["on"])
+                columns[entry["on"]] = await self._told_columns(entry["on"])
         lines = []
         for entry in entries:
             on, line = entry["on"], {key: value for key, value in entry.items() if key != "copies" or value != 1}
             for key in ("insert", "delete"):
                 if key in line:
-                    line[key] = values_of(on, columns.get(on), line[key])
+                    line[key] = values_of(on, columns.get(on), line[key], self.nulls)
             if "update" in line:
-                line["update"] = [values_of(on, columns.get(on), row) for row in line["update"]]
+                line["update"] = [values_of(on, columns.get(on), row, self.nulls) for row in line["update"]]
             lines.append(line)
         return await self._request({"do": "write", "entries": lines}, by_name=True)
 
     async def columns(self, on: str) -> Columns:
         """The columns of a relation: as `connect` or a subscribe has told them; else one subscribe asks."""
+        return pairs_of(await self._told_columns(on), self.nulls)
+
+    async def _told_columns(self, on: str) -> Columns:
         if on not in self._known:
             asking = self.live(on)
             try:
@@ -460,7 +463,7 @@ class Db:
         if self.state == "closed":
             raise NotSent("the client has ended")
         if on not in self._relations:
-            self._relations[on] = relation = Relation(on, self._give_back)
+            self._relations[on] = relation = Relation(on, self._give_back, self.nulls)
             if self.role is not None:
                 self._subscribe(relation)
         return self._relations[on]
@@ -639,14 +642,15 @@ def text(value: object) -> str:
     return json.dumps(value, separators=(",", ":"), ensure_ascii=False)
 
 
-def connect(url: str, *, token: Token, columns: Mapping[str, Columns] | None = None, on_error: Report | None = None,
-            **timing: float) -> Db:
+def connect(url: str, *, token: Token, columns: Mapping[str, Columns] | None = None, nulls: bool = False,
+            on_error: Report | None = None, **timing: float) -> Db:
     """A client of the gateway at the address, as `ws://127.0.0.1:8080/live`, within a running loop.
 
     `token` is a text, or a function that gives one, or an awaitable of it, for each try. `columns` are known beforehand, for a role that
-    writes to what it may not read. `on_error` is told what a listener or `where` raises; a log if it is left out. Other words are those
-    of `Timing`, in seconds."""
+    writes to what it may not read. With `nulls` a flag `NAME_null` right behind a column `NAME` is no column of its own, and says whether
+    `NAME` is None. `on_error` is told what a listener or `where` raises; a log if it is left out. Other words are those of `Timing`, in
+    seconds."""
     for scheme in ("http", "https"):
         if url.startswith(f"{scheme}://"):
             url = f"ws{scheme[4:]}{url[len(scheme):]}"
-    return Db(url, token, columns, on_error, Timing(**timing))
+    return Db(url, token, columns, nulls, on_error, Timing(**timing))

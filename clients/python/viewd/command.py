@@ -14,7 +14,7 @@ from typing import Any, TextIO
 
 from .client import BYTES, LONGEST, Db, connect, text
 from .faults import NotSent, Refused, Undecided, ViewdError
-from .rows import Columns, Live, Row, Value, Where
+from .rows import Columns, Live, Row, Value, Where, seen_of
 from .shape import shape_of
 
 REFUSED, WRONG, LOST, INTERRUPTED = 1, 2, 3, 130
@@ -60,7 +60,7 @@ def value_of(word: str, kind: str) -> Value:
 
 def word_of(value: Value) -> str:
     """A value as a word in a file or a table."""
-    return str(value).lower() if isinstance(value, bool) else str(value)
+    return "null" if value is None else str(value).lower() if isinstance(value, bool) else str(value)
 
 
 def where_of(words: Sequence[str], columns: Columns) -> Where | None:
@@ -241,6 +241,8 @@ def progress(done: int, all_rows: int) -> None:
 
 async def give_out(db: Db, words: argparse.Namespace) -> None:
     """Prints the rows, each copy on a line."""
+    if words.csv and words.nulls:
+        raise Wrong("--csv has no null: without --nulls the flag NAME_null says it, and import reads that")
     live = await view(db, words)
     rows = await live.ready()
     names = [name for name, _ in live.columns or []]
@@ -263,7 +265,8 @@ async def types(db: Db, words: argparse.Namespace) -> None:
     kinds = {"int": "number | bigint", "text": "string", "flag": "boolean"}
     lines = ["/** Relations by their names, each with the type of its rows. */", "export interface Relations {"]
     for on in dict.fromkeys(words.relations):
-        members = "; ".join(f"{name}: {kinds[kind]}" for name, kind in await db.columns(on))
+        seen = seen_of(await db.columns(on), words.folds)
+        members = "; ".join(f"{it.name}: {kinds[it.kind]}{' | null' if it.may_be_null else ''}" for it in seen)
         lines.append(f"  {on}: {{{members}}};")
     print("\n".join([*lines, "}"]))
 
@@ -327,26 +330,29 @@ def parser() -> argparse.ArgumentParser:
     choice.add_argument("--where", action="append", default=[], metavar="COLUMN=VALUE", help="rows that have this value; may stand several times")
     choice.add_argument("--order", action="append", default=[], metavar="COLUMN,..", help="by these columns, - in front for the largest first")
     choice.add_argument("--limit", type=int, metavar="N", help="the first N different rows")
+    nulls = argparse.ArgumentParser(add_help=False)
+    nulls.add_argument("--nulls", action="store_true", help="null in the column NAME, in the place of NAME and the flag NAME_null behind it")
     commands = whole.add_subparsers(metavar="COMMAND", required=True)
 
     def command(name: str, act: Callable[[Db, argparse.Namespace], Awaitable[None]], words: str, *parents: argparse.ArgumentParser) -> argparse.ArgumentParser:
         one = commands.add_parser(name, help=words, description=f"{words[0].upper()}{words[1:]}.", parents=[common, *parents])
-        one.set_defaults(act=act)
+        one.set_defaults(act=act, nulls=False)
         return one
 
-    one = command("watch", watch, 'print each change as a JSON line {"copies":..,"row":{..}}, first all rows that are there', choice)
+    one = command("watch", watch, 'print each change as a JSON line {"copies":..,"row":{..}}, first all rows that are there', choice, nulls)
     one.add_argument("relation")
     one.add_argument("--table", action="store_true", help="show the rows as a table that stays live")
-    one = command("write", write, "carry out entries, a JSON line each; a list of entries on a line is done as a whole or not at all")
+    one = command("write", write, "carry out entries, a JSON line each; a list of entries on a line is done as a whole or not at all", nulls)
     one.add_argument("file", nargs="?", help="by default standard input")
     one = command("import", take_in, "insert the rows of a file of CSV whose first line names the columns")
     one.add_argument("file", help="- for standard input")
     one.add_argument("--into", metavar="RELATION", help="by default the name of the file")
-    one = command("export", give_out, "print the rows, each as a JSON line", choice)
+    one = command("export", give_out, "print the rows, each as a JSON line", choice, nulls)
     one.add_argument("relation")
     one.add_argument("--csv", action="store_true", help="print them as CSV instead, which import reads")
     one = command("types", types, "print the types of rows for a program")
     one.add_argument("--typescript", action="store_true", required=True, help="as an interface of TypeScript")
+    one.add_argument("--nulls", action="store_true", dest="folds", help="of a client with the option nulls")
     one.add_argument("relations", nargs="+", metavar="relation")
     command("roles", roles, "print each role, and of which it is a member, as a JSON line; for administrators")
     for name, act, what in (("grants", grants, "print what each role holds of each relation"), ("policies", policies, "print row security and each policy")):
@@ -368,7 +374,7 @@ def token_of(words: argparse.Namespace) -> str:
 
 async def done(words: argparse.Namespace) -> None:
     """Carries out what the words say. Raises Wrong, and what the client raises."""
-    db = connect(words.url, token=token_of(words))
+    db = connect(words.url, token=token_of(words), nulls=words.nulls)
     try:
         try:
             async with asyncio.timeout(words.wait):

@@ -5,16 +5,17 @@ import asyncio
 import operator
 from collections.abc import AsyncIterator, Callable, Iterable, Mapping, Sequence
 from dataclasses import dataclass
-from typing import Any
+from typing import Any, NamedTuple
 
 from .faults import NotSent, Refused, ViewdError
 
-Value = int | str | bool
+Value = int | str | bool | None  # None with `nulls` alone
 Row = dict[str, Value]
 Values = tuple[Value, ...]
 Columns = list[tuple[str, str]]
 Where = Mapping[str, Value] | Callable[[Row], bool]
 Report = Callable[[BaseException], None]
+EMPTY: dict[str, Value] = {"int": 0, "text": "", "flag": False}  # what stands in the place of None
 
 
 @dataclass(frozen=True)
@@ -25,30 +26,68 @@ class Change:
     row: Row
 
 
-def values_of(on: str, columns: Columns | None, row: Mapping[str, Value] | Sequence[Value]) -> list[Value]:
-    """The values of a row in the order of the columns. Raises ViewdError if a column is missing, or is none of the relation's."""
+class Seen(NamedTuple):
+    """A column that is seen."""
+
+    name: str
+    kind: str
+    at: int  # its place
+    may_be_null: bool  # the flag behind it says whether it is
+
+    def folded(self, values: Sequence[Value]) -> Value:
+        return None if self.may_be_null and values[self.at + 1] else values[self.at]
+
+
+def seen_of(columns: Columns, nulls: bool) -> list[Seen]:
+    """With `nulls` a flag NAME_null right behind NAME is no column of its own, and says whether NAME is None."""
+    seen: list[Seen] = []
+    for at, (name, kind) in enumerate(columns):
+        if nulls and seen and kind == "flag" and name == f"{seen[-1].name}_null":
+            seen[-1] = seen[-1]._replace(may_be_null=True)
+        else:
+            seen.append(Seen(name, kind, at, False))
+    return seen
+
+
+def pairs_of(columns: Columns, nulls: bool) -> Columns:
+    """Their names and kinds."""
+    return [(it.name, it.kind) for it in seen_of(columns, nulls)]
+
+
+def by_size(values: Sequence[Value]) -> tuple[tuple[bool, Value], ...]:
+    """For sorting: None is behind all others."""
+    return tuple((it is None, it) for it in values)
+
+
+def values_of(on: str, columns: Columns | None, row: Mapping[str, Value] | Sequence[Value], nulls: bool) -> list[Value]:
+    """The values of a row as the gateway has them. Raises ViewdError if a column is missing, or is none of the relation's."""
     if isinstance(row, Sequence) and not isinstance(row, str):
         return list(row)
     if not isinstance(row, Mapping):
         raise ViewdError(f"{on}: {row!r} is no row")
     if columns is None:
         raise ViewdError(f"the columns of {on} are not known")
-    names = [name for name, _ in columns]
+    seen = seen_of(columns, nulls)
     for name in row:
-        if name not in names:
+        if all(it.name != name for it in seen):
             raise ViewdError(f"{on} has no column {name}")
-    for name in names:
-        if name not in row:
-            raise ViewdError(f"{on}: the row has no value for {name}")
-    return [row[name] for name in names]
+    found: list[Value] = []
+    for it in seen:
+        if it.name not in row:
+            raise ViewdError(f"{on}: the row has no value for {it.name}")
+        value = row[it.name]
+        found += [EMPTY[it.kind] if value is None else value, value is None] if it.may_be_null else [value]
+    return found
 
 
 class Relation:
     """A relation that the client follows, for all its users by one subscription."""
 
-    def __init__(self, on: str, leave: Callable[[Relation], None]):
-        self.on = on
-        self.columns: Columns | None = None
+    def __init__(self, on: str, leave: Callable[[Relation], None], nulls: bool):
+        self.on, self.nulls = on, nulls
+        self.columns: Columns | None = None  # as they are seen
+        self._told: Columns | None = None  # as the gateway has them
+        self._seen: list[Seen] = []
         self.state = "waiting"
         self.why: Refused | str | None = None
         self.sub: int | None = None
@@ -71,7 +110,8 @@ class Relation:
                 self._leave(self)
 
     def begin(self, columns: Columns, sub: int) -> None:
-        self.columns, self.sub, self.state, self.why, self.is_asked, self.is_half = columns, sub, "live", None, False, True
+        self.columns, self._told, self._seen = pairs_of(columns, self.nulls), columns, seen_of(columns, self.nulls)
+        self.sub, self.state, self.why, self.is_asked, self.is_half = sub, "live", None, False, True
         self.clear()
 
     def clear(self) -> None:
@@ -81,14 +121,25 @@ class Relation:
         assert self.columns is not None
         self.is_half = True
         for copies, values in changes:
-            key = tuple(values)
-            row, count = self.held.get(key) or ({name: value for (name, _), value in zip(self.columns, values)}, 0)
+            key = self.folded(values)
+            row, count = self.held.get(key) or ({name: value for (name, _), value in zip(self.columns, key)}, 0)
             if count + copies:
                 self.held[key] = row, count + copies
             else:
                 del self.held[key]
             if self._touched is not None:
                 self._touched.add(key)
+
+    def folded(self, values: Sequence[Value]) -> Values:
+        """As they are seen."""
+        return tuple([it.folded(values) for it in self._seen]) if self.nulls else tuple(values)
+
+    def copies(self, row: Mapping[str, Value] | Sequence[Value]) -> int:
+        found = self.held.get(self.folded(values_of(self.on, self._told, row, self.nulls)))
+        return found[1] if found else 0
+
+    def sorted(self, keys: Iterable[Values]) -> list[Values]:
+        return sorted(keys, key=by_size) if self.nulls else sorted(keys)
 
     def show(self) -> list[User]:
         """Has the users apply what is new. Those to whom it is something."""
@@ -183,8 +234,7 @@ class Live(User):
 
     def copies(self, row: Mapping[str, Value] | Sequence[Value]) -> int:
         """How many copies of a row there are."""
-        found = self._relation.held.get(tuple(values_of(self.on, self.columns, row)))
-        return found[1] if found else 0
+        return self._relation.copies(row)
 
     async def ready(self) -> list[Row]:
         """The rows, once the first are there. Raises Refused if the relation is, and NotSent if it is closed before."""
@@ -290,13 +340,14 @@ class Live(User):
 
     def _sorted(self) -> list[Row]:
         if self._all is None:
-            rows = [self._passing[key] for key in sorted(self._passing)]
+            rows = [self._passing[key] for key in self._relation.sorted(self._passing)]
             for word in reversed(self._order):
                 name = word.removeprefix("-")
                 if self.columns and name not in dict(self.columns):
                     self._report(ViewdError(f"order: there is no column {name}"))
                 else:
-                    rows.sort(key=operator.itemgetter(name), reverse=word.startswith("-"))
+                    value: Callable[[Row], Any] = operator.itemgetter(name)
+                    rows.sort(key=(lambda row: by_size([value(row)])) if self._relation.nulls else value, reverse=word.startswith("-"))
             self._all = rows
         return self._all
 
@@ -353,7 +404,7 @@ class Changes(User):
         keys = {*seen, *held} if self._touched is None else self._touched
         self._touched = set()
         found = []
-        for key in sorted(keys):
+        for key in self._relation.sorted(keys):
             row, now = held.get(key) or (seen[key][0] if key in seen else {}, 0)
             was = seen[key][1] if key in seen else 0
             if now:
