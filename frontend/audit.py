@@ -1,3 +1,4 @@
+#!/usr/bin/python3
 """The journal of ./gateway as a file: a head, and after it lines with the digest of all lines up to them.
 
     {"last":"2693bb..","journal":1,"epoch":"0123..","audit":1}
@@ -10,15 +11,23 @@ behind them and a comma. A record is a `last` line with the `part` lines before 
 second, since 1970, in which a request was written, `by` the holder of the token by which it was made. It has neither if its journal was written before
 there were these, or was compacted. Such a journal has requests alone: `{"as":"mia",..}`. One that was compacted says behind its head where names of
 holders stand: `{"last":"..","holder":"mia/Mia","at":"0123...3"}`.
+
+    frontend/audit.py JOURNAL | ./viewd replay
+
+prints its requests, which lead an empty viewd to where it is: each role's by a session of its own, and each is answered by ok. viewd takes a million
+of them, and more by `--lines`.
 """
+import argparse
 import dataclasses
 import hashlib
 import json
 import os
+import pathlib
+import sys
 from collections.abc import Iterable, Iterator
 from typing import NamedTuple
 
-from journal import Damaged
+from journal import Damaged, by_session, entry_of
 
 LAST = b'{"last":"'
 PART = b'{"part":"'
@@ -90,8 +99,8 @@ def whole(lines: Iterable[tuple[bool, bytes]]) -> Iterator[bytes]:
             parts = []
 
 
-def read(data: bytes, where: str) -> Journal:
-    """What a journal says, by whole records alone: what follows them was never acknowledged. Raises Damaged."""
+def read(data: bytes, where: str, follows: bool = False) -> Journal:
+    """What a journal says, by whole records alone: what follows them was never acknowledged. It may be one that follows a log, or not. Raises Damaged."""
     if data.startswith(b'{"a'):
         return Journal(None, [Text(line, None, None) for line in data.split(b"\n")[:-1]])
     said = whole([*texts(data, where)])
@@ -107,7 +116,8 @@ def read(data: bytes, where: str) -> Journal:
             own.count += 1
             own.recent = [*own.recent[1 - KEPT:], text]
         elif text.startswith((b'"log":', b'"step":')):
-            raise Damaged(f"{where} follows a log, whose owner can tell it anew")
+            if not follows:
+                raise Damaged(f"{where} follows a log, whose owner can tell it anew")
         else:
             journal.entries.append(text_of(text))
     return journal
@@ -124,3 +134,28 @@ def written(journal: Journal, entries: Iterable[bytes], is_copy: bool = False) -
     for text in (FORM + epoch.encode() + b'","audit":1}', *stand, *(entry.rstrip(b"\n")[1:] for entry in entries), *names):
         digest = hashlib.sha256(digest + LAST + text).digest()
         yield LAST + digest.hex().encode() + b'",' + text + b"\n"
+
+
+def requests(journal: Journal, where: str) -> Iterator[bytes]:
+    """The lines that `viewd replay` takes to where the journal leads. Raises Damaged."""
+    sessions: dict[str, int] = {}
+    for number, text in enumerate(journal.entries, 1):
+        role, _ = entry_of(text.entry, f"{where}: entry {number}")
+        if role not in sessions:
+            sessions[role] = len(sessions) + 1
+            yield by_session(sessions[role], b'"do":"begin","role":"%s"' % role.encode())
+        yield by_session(sessions[role], text.entry.partition(b",")[2].rstrip(b"\n")[:-1])
+
+
+def main() -> None:
+    words = argparse.ArgumentParser(description=__doc__, formatter_class=argparse.RawDescriptionHelpFormatter)
+    words.add_argument("journal", metavar="JOURNAL", type=pathlib.Path)
+    path = words.parse_args().journal
+    try:
+        sys.stdout.buffer.writelines(requests(read(path.read_bytes(), str(path), True), str(path)))
+    except (Damaged, OSError) as why:
+        sys.exit(f"audit: {why}")
+
+
+if __name__ == "__main__":
+    main()

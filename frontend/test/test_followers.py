@@ -14,6 +14,7 @@ from typing import Any
 
 import pytest
 
+import audit
 from followers import FOLLOWER, GUARDED, KEEPER, ROLES, TOGGLES, Chronicle, Follower, Reader, caught_up, comes, has_door, shown
 from names import HOLDERS, WRITERS, Row, Trials, Writer, by_name, rows, token_line
 from test_journal import compacted, needs_viewd
@@ -70,6 +71,8 @@ def test_a_follower_shows_what_its_leader_does() -> None:
                 assert wire.event() == ['{"changes":[[-1,[1,"mia"]],[-1,[2,"ann"]]],"ended":"privilege","on":"notes","sub":1}']
                 assert wire.event() == ['{"granted":"notes"}']
         equal(gate, followers)
+        told = [[*audit.requests(audit.read(it.journal.read_bytes(), "a journal", True), "a journal")] for it in (gate, *followers)]
+        assert told == [told[0]] * len(told) and b'"do":"begin"' in told[0][0]
 
 
 def test_who_follows_decides_nothing() -> None:

@@ -116,6 +116,25 @@ def compacted(gate: Gateway, *words: str) -> subprocess.CompletedProcess[str]:
     return subprocess.run([TOP / "frontend/compact.py", *words, gate.journal, VIEWD], stdin=subprocess.DEVNULL, capture_output=True, text=True, timeout=PATIENCE)
 
 
+def carried_out(gate: Gateway, *more: str) -> list[Any]:
+    """What each role sees of each relation in a viewd that was told the journal's requests."""
+    told = subprocess.run([TOP / "frontend/audit.py", gate.journal], capture_output=True, check=True, text=True).stdout
+    asks: list[Line] = []
+    for session, role in enumerate(ROLES, 1_001):
+        asks += [{"session": session, "do": "begin", "role": role},
+                 *({"session": session, "do": "subscribe", "on": on} for on in ("tickets", "agents", "teams", "workload", *more))]
+    done = subprocess.run([VIEWD, "replay"], input=told + "".join(json.dumps(it) + "\n" for it in asks), capture_output=True, check=True, text=True)
+    said: list[Line] = [json.loads(it) for it in done.stdout.splitlines()]
+    replies = [it for it in said if "changes" not in it]
+    assert len(replies) == told.count("\n") + len(asks) and all("ok" in it for it in replies[:-len(asks)])
+    rows: dict[int, Rows] = collections.defaultdict(collections.Counter)
+    for line in said:
+        for copies, row in line.get("changes", []):
+            rows[line["sub"]][tuple(row)] += copies
+    found = [(ask, {key: it for key, it in reply.items() if key != "session"}) for ask, reply in zip(asks, replies[-len(asks):])]
+    return [rows[reply["sub"]] if "sub" in reply else reply for ask, reply in found if ask["do"] == "subscribe"]
+
+
 def inserted(journal: bytes) -> set[tuple[Any, ...]]:
     """The rows that the requests of a journal insert, those of whole records."""
     requests = [json.loads(it.entry) for it in audit.read(journal, "a journal").entries]
@@ -275,6 +294,7 @@ def test_a_compaction_keeps_the_state() -> None:
     assert busy.returncode == 1 and "another process" in busy.stderr, busy
     gate.kill()
     was = gate.journal.read_bytes()
+    assert carried_out(gate, "empty") == before[:-1]
     done = compacted(gate)
     assert done.returncode == 0, done.stderr
     print("   ", done.stdout.split(": ")[1].strip())
