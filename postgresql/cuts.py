@@ -20,6 +20,7 @@ CUT = f"select pg_current_snapshot()::text, pg_current_wal_insert_lsn()::text, (
 PUSH = 0.002  # seconds, after which a commit of this side's own brings the log to the disk, and so to the stream
 PATIENCE = 0.05  # seconds between two looks at a stream that is late
 PIECE = 5_000  # messages that are taken at a time
+LOOK = 0.2  # seconds between two looks at the rights of now, while rows are late
 SPARE = 1 << 24  # bytes that others write, behind which a commit of this side's own lets the server forget them
 GONE = "the last transaction that was told is not in the log: it is the log of a copy of the database, say"
 ALL, HALF = 1 << 32, 1 << 31  # numbers of transactions in the stream have 32 bits
@@ -56,6 +57,7 @@ class Step(NamedTuple):
     transactions: list[Transaction]
     cut: Cut
     catalog: Catalog | None  # none if it is what it was
+    certain: int  # all rows of commits before it are told by then
 
 
 class Steps:
@@ -64,12 +66,14 @@ class Steps:
     def __init__(self, connection: Connection, dsn: str, stream: Stream, oids: list[int], publication: str, told: Cut | None, place: Place,
                  is_known: bool = False):
         self.connection, self.stream, self.oids, self.publication = connection, stream, oids, publication
-        self.told = told  # the last one that was told: all that it sees, rows and rights; none behind a start
+        self.told = told  # the last one that was told: all that it sees, rows and rights; none behind a start; without a mark: rights may come
         self.place = place  # of the last transaction that was told
         self.certain = place.end  # all rows of commits before it were told
         self.known = place if is_known and place.commit else None  # a transaction that has to come again
         self.last = place.end  # the place of the last cut
-        self.late: Callable[[], None] = lambda: None  # is called while the stream is waited for
+        self.late: Callable[[], None] = lambda: None  # is called again and again while rows are late
+        self.asked = time.monotonic()  # when there was a cut
+        self.newer: str | None = None  # the mark of a later cut than that of the step, by which rights were taken
         self.waiting: deque[Transaction] = deque()
         self.names = ""  # by which the texts of policies and views are printed
         self.texts: dict[str, str] = {}  # that are known, so that none waits for somebody's lock
@@ -83,8 +87,8 @@ class Steps:
         if not self.waiting:
             self.stream.wait(seconds)
             self.take()
-        found, catalog = self.ask()
-        self.last = found.place
+        found, catalog = self.ask(self.told.mark if self.told else "")
+        self.last, self.newer = found.place, None
         if catalog is None and not self.waiting:
             self.certain = max(self.certain, min(self.stream.reached, found.place))
             if found.place - self.place.end > SPARE:
@@ -95,15 +99,28 @@ class Steps:
             raise Lost(GONE)
         seen = [number for number, it in enumerate(self.waiting, 1) if found.sees(it.xid)]
         count = seen[-1] if seen else 0
-        if len(seen) < count:  # one that committed before another is seen after it, for a moment
+        if len(seen) < count:  # one that committed before another is seen after it, for a moment, or for as long as a standby is away
+            self.asked -= LOOK
+            self.late()
             return None
         transactions = [self.waiting.popleft() for _ in range(count)]
-        self.told = found
         if transactions:
             last = transactions[-1]
             self.place = Place(last.commit, last.end, last.xid)
-        self.certain = max(self.certain, self.place.end if self.waiting else found.place)
-        return Step(transactions, found, catalog) if transactions or catalog else None
+        step = Step(transactions, found, catalog, max(self.certain, self.place.end if self.waiting else found.place))
+        if transactions or catalog:
+            return step
+        self.done(step)
+        return None
+
+    def done(self, step: Step) -> None:
+        """It is told."""
+        is_whole = self.newer is None or step.catalog and self.is_newest(step)
+        self.told, self.certain = step.cut if is_whole else step.cut._replace(mark=""), step.certain
+
+    def is_newest(self, step: Step) -> bool:
+        """No later cut has other rights. If one has, nothing is given: it may have been taken."""
+        return self.newer in (None, step.cut.mark)
 
     def take(self) -> None:
         """What has come."""
@@ -115,6 +132,8 @@ class Steps:
                     self.recognize(it, self.known)
                 if it.end > self.place.end:
                     self.waiting.append(it)
+            if more:
+                self.late()
 
     def recognize(self, it: Transaction, known: Place) -> None:
         """The server was told of no more than the beginning of the last commit, so that one comes again."""
@@ -123,13 +142,25 @@ class Steps:
         elif it.end >= known.end:
             raise Lost(GONE)
 
-    def ask(self) -> tuple[Cut, Catalog | None]:
+    def look(self) -> Catalog | None:
+        """While rows are late: the catalog of now, if there is another one. What it takes is told before them."""
+        if self.told is None or time.monotonic() - self.asked < LOOK:
+            return None
+        try:
+            found, catalog = self.ask(self.told.mark if self.newer is None else self.newer)
+        except (Unsettled, psycopg2.Error):  # the next step meets it too
+            return None
+        if catalog:
+            self.told, self.newer = self.told._replace(mark=""), found.mark
+        return catalog
+
+    def ask(self, known: str = "") -> tuple[Cut, Catalog | None]:
         """A cut, with its catalog if the mark is another one."""
         try:
             for _ in range(TRIES):
                 self.connection.rollback()
                 found = cut(self.connection, self.oids, self.publication)
-                if self.told and found.mark == self.told.mark:
+                if found.mark == known:
                     return found, None
                 names = printed_as(self.connection, self.oids)
                 if names != self.names:
@@ -141,6 +172,7 @@ class Steps:
                 self.names = ""
             raise Unsettled("the names of relations and columns change faster than they can be read")
         finally:
+            self.asked = time.monotonic()
             self.connection.rollback()
 
     def come_to(self, place: int) -> None:

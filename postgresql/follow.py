@@ -165,14 +165,18 @@ class Follow:
         steps = following.begun.steps
         known = steps.told
         steps.late = lambda: self.late(following)
-        if found := following.next(WAIT):
-            lines = [line({"as": "admin"} | it) for it in found]
-            if len(lines) > LINES or sum(map(len, lines)) > BYTES:
-                raise Anew(f"a transaction of {len(lines):,} requests is more than a step may have")
-            self.say(following, lines)
+        self.changes(following, following.next(WAIT))
         if known is None and steps.told:  # what was told before it was of another moment
             self.serve()
         self.late(following)
+
+    def changes(self, following: Following, found: list[Request]) -> None:
+        """A step of these, if there are any. Raises Anew."""
+        lines = [line({"as": "admin"} | it) for it in found]
+        if len(lines) > LINES or sum(map(len, lines)) > BYTES:
+            raise Anew(f"a transaction of {len(lines):,} requests is more than a step may have")
+        if lines:
+            self.say(following, lines)
 
     def tell(self, lines: list[bytes]) -> None:
         self.number += 1
@@ -228,8 +232,9 @@ class Follow:
         log("PostgreSQL is back")
 
     def late(self, following: Following) -> None:
-        """Says by how much the gateway is behind, while it is for long."""
+        """Tells what is taken of the rights, and says by how much the gateway is behind, while it is for long."""
         self.keep(following)
+        self.changes(following, following.less())
         steps, now = following.begun.steps, time.monotonic()
         if not self.waiting:
             self.certain = steps.certain

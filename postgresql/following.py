@@ -10,6 +10,7 @@ import beginning
 import rows
 from beginning import Beginning, Progress, no_progress
 from catalog import Relation
+from less import less
 from mirror import Table
 from relations import Made
 from resuming import resume
@@ -82,25 +83,52 @@ class Following:
         step = self.begun.steps.next(seconds)
         if step is None:
             return []
-        entries = self.begun.mirror.apply(step.transactions)
+        steps = self.begun.steps
+        entries = self.begun.mirror.apply(step.transactions, steps.late)
         for it in self.begun.mirror.tables.values():
             if it.told == bool(fault := it.fault()):
                 raise Anew(f"{it.name}: {fault or 'viewd can hold its rows again'}")
-        place, taken, given = self.begun.steps.place, list[Request](), list[Request]()
+        place, taken, given = steps.place, list[Request](), list[Request]()
         if step.catalog is None:
             source = Source(self.source.settings, place, self.source.prints)
         else:
             self.state = said(step.catalog, self.begun.names, self.settings, self.held, follows=True)
             source = sourced(self.settings, place, self.state)
-            if why := other_form(self.told, self.state) or rewritten(self.source.prints, source.prints, self.state, step.transactions):
-                raise Anew(why)
-            if len(roles := self.told.roles | set(self.state.rights.roles)) > ROLES + 1:
-                raise Anew(f"{len(roles) - 1} roles, with those that are gone: viewd can have {ROLES}")
+            self.check(self.state, True, rewritten(self.source.prints, source.prints, self.state, step.transactions))
+        writes = list[Request]()
+        for one in rows.writes([*entries, *changes(self.source, source)]):
+            writes.append(one)
+            steps.late()
+        if step.catalog and steps.is_newest(step):
             taken, given = list(takes(self.told, self.state)), list(gives(self.told, self.state))
-        requests = [*taken, *rows.writes([*entries, *changes(self.source, source)]), *given]
+        elif step.catalog:
+            taken = list(less(self.told, self.state))
+        self.source = source
+        steps.done(step)
+        return self.tells([*taken, *writes, *given])
+
+    def less(self) -> list[Request]:
+        """While rows are late: what takes rights since the last cut; mostly nothing. Raises Anew, Wrong, Unsayable."""
+        catalog = self.begun.steps.look()
+        if catalog is None:
+            return []
+
+        def unread(it: Made, _rel: Relation) -> Table:  # whether viewd can hold rows is known behind the step
+            return Table(it.name, it.columns, self.most)
+        after = said(catalog, self.begun.names, self.settings, unread, follows=True)
+        self.check(after, False)
+        return self.tells(list(less(self.told, after)))
+
+    def check(self, after: State, of_all: bool, otherwise: str = "") -> None:
+        """Whether requests of viewd's lead there, of all relations or of those that viewd has. Raises Anew."""
+        if why := other_form(self.told, after, of_all) or otherwise:
+            raise Anew(why)
+        if len(roles := self.told.roles | set(after.rights.roles)) > ROLES + 1:
+            raise Anew(f"{len(roles) - 1} roles, with those that are gone: viewd can have {ROLES}")
+
+    def tells(self, requests: list[Request]) -> list[Request]:
         for one in requests:
             self.told.add(one)
-        self.source = source
         return requests
 
     def held(self, it: Made, rel: Relation) -> Table:
@@ -115,11 +143,11 @@ class Following:
         self.begun.close()
 
 
-def other_form(told: Told, after: State) -> str:
+def other_form(told: Told, after: State, of_all: bool = True) -> str:
     """Why viewd has no request that leads there. Empty if it has."""
     old = {name: it for name, it in told.forms.items() if name != NAME}
     new = {it.name: it.request for it in after.made.values() if it.request}
-    for name in sorted({*old, *new}, key=lambda it: ((old.get(it) or new[it])["do"], it)):  # tables stand before views that reach them
+    for name in sorted({*old, *(new if of_all else ())}, key=lambda it: ((old.get(it) or new[it])["do"], it)):  # tables stand before views that reach them
         if old.get(name) != new.get(name):
             left = dict(after.left_out()).get(name)
             return f"{name} is left out: {left}" if left else f"{name} has another form"

@@ -5,7 +5,7 @@ of an update no value that stands out of line and stayed as it was. So the rows 
 key, by that key. A change that does not fit what is held here is an error, since something was lost before it.
 """
 from collections import Counter
-from collections.abc import Iterable, Iterator, Mapping
+from collections.abc import Callable, Iterable, Iterator, Mapping
 from typing import NamedTuple
 
 import pgoutput
@@ -13,6 +13,8 @@ from kinds import Column
 from pgoutput import UNCHANGED, Cells
 from rows import Request, Row, Unheld, entry, row
 from stream import Change, Lost, Transaction
+
+LONG = 5_000  # changes, behind which others may be heard
 
 
 class Form(NamedTuple):
@@ -195,12 +197,13 @@ class Mirror:
     def __init__(self) -> None:
         self.tables: dict[int, Table] = {}
 
-    def apply(self, transactions: Iterable[Transaction]) -> list[Request]:
+    def apply(self, transactions: Iterable[Transaction], late: Callable[[], None] = lambda: None) -> list[Request]:
         """What they change all in all, as entries: all that go stand before those that come. Raises Lost."""
-        for transaction in transactions:
-            for change in transaction.changes:
-                if table := self.tables.get(change.relation.oid):
-                    table.apply(change)
+        for number, change in enumerate((one for it in transactions for one in it.changes), 1):
+            if table := self.tables.get(change.relation.oid):
+                table.apply(change)
+            if number % LONG == 0:
+                late()
         gone: list[Request] = []
         come: list[Request] = []
         for table in self.tables.values():

@@ -1,6 +1,7 @@
 """Who may read what, in viewd's words: roles, memberships, grants, row security and policies."""
 import dataclasses
 from collections.abc import Callable, Iterable, Iterator
+from typing import TypeVar
 
 from catalog import Catalog, Policy, Relation
 from kinds import name_ok
@@ -15,6 +16,7 @@ NO_NAME = "its name is none of viewd's: nobody can be it; its members have what 
 NOT_BOUND = "policies do not bind it (SUPERUSER or BYPASSRLS), and viewd has no such role: nobody can be it"
 NO_USERS = "policies do not bind it (SUPERUSER or BYPASSRLS), and viewd has no such users: nobody can be one"
 NO_USER = "nobody can be it: with [users] sessions are those of users"
+Role = TypeVar("Role", int, str)
 
 
 @dataclasses.dataclass
@@ -27,12 +29,12 @@ class Rights:
     left_out: dict[str, str] = dataclasses.field(default_factory=dict)  # roles that nobody can be, and users
 
 
-def closure(members: Iterable[tuple[int, int]]) -> Callable[[int], set[int]]:
-    above: dict[int, set[int]] = {}
+def closure(members: Iterable[tuple[Role, Role]]) -> Callable[[Role], set[Role]]:
+    above: dict[Role, set[Role]] = {}
     for role, member in members:
         above.setdefault(member, set()).add(role)
 
-    def reached(role: int) -> set[int]:
+    def reached(role: Role) -> set[Role]:
         found, news = {role}, {role}
         while news:
             news = {up for it in news for up in above.get(it, ())} - found

@@ -41,6 +41,7 @@ SETTINGS = ["listen_addresses=", "wal_level=logical", "max_parallel_workers_per_
             "autovacuum=off"]
 READERS = 50  # of revokes, and those who ask again
 MANY = 300_000  # updates of a transaction
+REVOKES = {"idle": None, f"right after a transaction of {MANY:,} updates": 0.0, "3 seconds after one": 3.0}
 WAITING = [(20_000, 10), (100_000, 1_000), (200_000, 100_000)]  # rows, and how many of them a transaction has
 MADE = [
     *(f"create role {it};" for it in ROLES), "create role viewd login replication bypassrls;", "grant pg_read_all_data to viewd;",
@@ -158,16 +159,18 @@ class Beside:
         self.fill(1_000_000 + MANY, 1_000_001, "zoe")
         with self.follows(2) as following:
             sockets = [came(begin(following.port, "bob 0")) for _ in range(READERS)]
-            for name, rounds in (("idle", self.given.rounds), (f"right after a transaction of {MANY:,} updates", max(3, self.given.rounds // 6))):
+            for name, wait in REVOKES.items():
+                rounds = self.given.rounds if wait is None else max(3, self.given.rounds // 6)
                 since_revoke, since_commit = list[float](), list[float]()
                 for at in range(rounds):
                     for it in sockets:
                         it.sendall(SUBSCRIBE)
                         came(it)
                     time.sleep(random.random())
-                    if name != "idle":
-                        self.session.ask(f"update tickets set subject = 'as of {at}' where agent = 'zoe';")
+                    if wait is not None:
+                        self.session.ask(f"update tickets set subject = 'as of {at}, {wait:g}' where agent = 'zoe';")
                     committed = time.monotonic()
+                    time.sleep(wait or 0.0)
                     self.session.ask("revoke select on tickets from bob;")
                     revoked = time.monotonic()
                     last = heard(sockets, b'"ended":"privilege"')
@@ -176,7 +179,7 @@ class Beside:
                     self.session.ask("grant select on tickets to bob;")
                     heard(sockets, b'"granted"')
                 found.append({"REVOKE, to the last line of 50": name, "rounds": str(rounds), "ms": parts(since_revoke),
-                              "since the COMMIT before": parts(since_commit) if name != "idle" else "", "most": number(max(since_revoke) * 1000)})
+                              "since the COMMIT before": parts(since_commit) if wait is not None else "", "most": number(max(since_revoke) * 1000)})
                 print(" | ".join(found[-1].values()), flush=True)
             for it in sockets:
                 it.close()

@@ -1,10 +1,21 @@
 """Tests with a server for all of them and a database for each."""
+import contextlib
+import os
+import signal
+import threading
 import unittest
+from collections.abc import Iterator
 
 from desk import Desk, Shown, alike
 from server import Server, is_installed
 
 counts = {"expressions": 0, "said": 0, "relations": 0}
+
+
+def go_on(senders: list[int]) -> None:
+    for pid in senders:
+        with contextlib.suppress(ProcessLookupError):
+            os.kill(pid, signal.SIGCONT)
 
 
 @unittest.skipUnless(is_installed(), "no PostgreSQL is installed")
@@ -33,6 +44,27 @@ class Base(unittest.TestCase):
         last.cursor.execute("select quote_ident(rolname) from pg_roles where rolname !~ '^pg_' and rolname <> 'postgres'")
         last.do(*(f"drop role {it}" for it, in last.cursor.fetchall()))
         last.connection.close()
+
+    def stall(self) -> list[int]:
+        """Nothing comes of the log, as while a large transaction is being sent, until these go on."""
+        self.desk.cursor.execute("select pid from pg_stat_replication")
+        found = [pid for pid, in self.desk.cursor.fetchall()]
+        for pid in found:
+            with contextlib.suppress(ProcessLookupError):
+                os.kill(pid, signal.SIGSTOP)
+        return found
+
+    @contextlib.contextmanager
+    def stalled(self) -> Iterator[None]:
+        found = self.stall()
+        self.assertEqual(len(found), 1)
+        try:
+            yield
+        finally:
+            go_on(found)
+
+    def stall_for(self, seconds: float) -> None:
+        threading.Timer(seconds, go_on, (self.stall(),)).start()
 
     def same(self, shown: Shown, roles: tuple[str, ...], before: dict[str, list[str]] | None = None) -> None:
         self.assertEqual(shown.refused, [])

@@ -41,6 +41,8 @@ class Histories(Followed):
         """Now and then; once a round at most what takes long."""
         if self.keeper and r.random() < 0.004:
             self.kill(r.random() < 0.5)
+        elif r.random() < 0.01:
+            self.stall_for(r.choice((0.25, 0.6)))
         elif self.gateway and self.gateway.dies_after < 0 and r.random() < 0.006:
             self.gateway.dies_after = r.choice((0, 1, 5, 100, 1_000, 20_000)) + r.randrange(300)
             counts["kills of the gateway"] += 1
@@ -70,6 +72,8 @@ class Histories(Followed):
                         self.look(role, scene)
                     if self.keeper and r.random() < 0.003:
                         self.kill(r.random() < 0.5)
+                    if r.random() < 0.02:
+                        self.stall_for(0.3)
             finally:
                 stop.set()
                 thread.join()

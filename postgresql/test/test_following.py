@@ -1,5 +1,6 @@
 """A database that is followed while several writers write: what viewd shows to each role is what `SET ROLE; SELECT` shows, as bags."""
 import contextlib
+import itertools
 import random
 import threading
 import time
@@ -12,6 +13,7 @@ import psycopg2.errors
 
 import beginning
 import catalog
+import cuts
 import rows
 from base import Base
 from beginning import NotReady
@@ -23,7 +25,7 @@ from live import Live
 from settings import Settings
 from source import NAME
 from stream import Lost, Stream
-from writers import CHURN, DESK, FIXED, FORMED, SCENES, STRICT, Writer
+from writers import CHURN, DESK, FIXED, FORMED, SCENES, STRICT, TABLES, Writer
 
 options = {"seconds": 20.0, "seed": 1, "writers": 3}
 counts: Counter[str] = Counter()
@@ -63,6 +65,7 @@ class Follows(Base):
                 assert time.monotonic() < end
         self.viewd = Live(MOST)
         self.viewd.tell(self.following.first())
+        self.following.begun.steps.late = self.late
         counts["beginnings"] += 1
 
     def step(self) -> None:
@@ -78,6 +81,12 @@ class Follows(Base):
             self.viewd.tell(requests)
             self.following.kept()
             counts["steps"] += 1
+
+    def late(self) -> None:
+        assert self.following and self.viewd
+        if requests := self.following.less():
+            self.viewd.tell(requests)
+            counts["steps of rights alone"] += 1
 
     def catch_up(self) -> None:
         """To where PostgreSQL is now: what sees a transaction that begins now sees all that was answered before it. (That the stream has come to
@@ -139,6 +148,8 @@ class Follows(Base):
                 one.start()
             try:
                 while any(one.is_alive() for one in threads):
+                    if r.random() < 0.03:
+                        self.stall_for(r.choice((0.25, 0.6)))
                     self.step()
             finally:
                 stop.set()
@@ -164,6 +175,8 @@ class Follows(Base):
                 end = time.monotonic() + options["seconds"] / 40
                 while time.monotonic() < end or counts[f"steps of {scene}"] < 4:
                     before = counts["steps"]
+                    if writer.r.random() < 0.03:
+                        self.stall_for(0.3)
                     self.step()
                     assert self.viewd
                     for name in ("tickets", "teams", "agents", "workload"):
@@ -195,9 +208,49 @@ class Follows(Base):
             assert self.following
             while len(self.following.begun.steps.waiting) < 2:
                 self.assertEqual(self.following.next(0.02), [])
+            self.desk.do("revoke select on teams from public")  # what is taken waits for neither
             self.assertEqual(self.following.next(0.02), [])
+            assert self.viewd
+            self.viewd.settle()
+            self.assertIsNone(self.viewd.shown("mia", "teams"))
+            self.assertNotIn("second", str(self.viewd.held))
         self.catch_up()
         self.compare(("mia", "olga"))
+
+    def test_rights_alone_show_nobody_more(self) -> None:
+        """Random rights, told before a step: no table has a row for a role that it had not, nor one that PostgreSQL hides."""
+        self.desk.do(DESK, STRICT)
+        r = random.Random(options["seed"])
+        writer = Writer(self.desk.dsn, r.randrange(1 << 30), False)
+        end = time.monotonic() + options["seconds"] / 2
+        with unittest.mock.patch.object(cuts, "LOOK", 0):
+            self.begin()
+            while time.monotonic() < end or not counts["rows that were taken"]:
+                self.catch_up()
+                self.compare(FIXED)
+                before = self.tables()
+                for _ in range(r.randint(2, 8)):
+                    for _ in range(r.randint(1, 4)):
+                        for statement in writer.right().split(";"):
+                            with contextlib.suppress(psycopg2.Error):
+                                writer.cursor.execute(statement)
+                    self.late()
+                    now = self.tables()
+                    for (role, name), shown in now.items():
+                        self.assertLessEqual(shown, before[role, name], (role, name, options["seed"]))
+                        if shown:
+                            self.assertLessEqual(shown, alike(self.desk.seen_at(role, f"public.{name}")) or Counter(), (role, name, options["seed"]))
+                        counts["rows that were taken"] += (before[role, name] - shown).total()
+                    before = now
+        writer.connection.close()
+
+    def tables(self) -> dict[tuple[str, str], Counter[tuple[str, ...]]]:
+        """What viewd shows of tables."""
+        assert self.viewd
+        for role, name in itertools.product(FIXED, TABLES):
+            self.viewd.shown(role, name)
+        self.viewd.settle()
+        return {(role, name): alike(self.viewd.held.get((role, name))) or Counter() for role, name in itertools.product(FIXED, TABLES)}
 
     def test_what_needs_a_new_beginning(self) -> None:
         self.desk.do(DESK)

@@ -77,6 +77,15 @@ class Messages(unittest.TestCase):
 
 
 class Mirrors(unittest.TestCase):
+    def test_others_are_heard_now_and_then(self) -> None:
+        """However many transactions a step has, and how large."""
+        heard = list[int]()
+        mirror = Mirror()
+        mirror.tables[7] = self.table(most=9_999)
+        changes = [Change(KEY, None, (str(it), None, "1")) for it in range(9_999)]
+        mirror.apply([Transaction(1, 1, 2, changes[:4_000]), Transaction(2, 2, 3, changes[4_000:])], lambda: heard.append(len(mirror.tables[7].rows)))
+        self.assertEqual(heard, [5_000])
+
     def table(self, *rows: tuple[str | None, ...], most: int = 9) -> Table:
         columns = {"n": Column(KINDS["numeric"], True), "id": Column(KINDS["integer"]), "body": Column(KINDS["text"], True)}
         return Table("notes", columns, most).fill(rows)

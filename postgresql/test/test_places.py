@@ -9,16 +9,19 @@ import unittest
 import unittest.mock
 import urllib.error
 import urllib.request
+from collections import Counter
+from collections.abc import Callable
 from typing import Any
 
 import door
 import follow
+from desk import alike
 from followed import PATIENCE, Followed
 from server import free_port
 from settings import Settings
 from source import NAME
 from stream import Place
-from writers import DESK
+from writers import DESK, FIXED, STRICT, TABLES, TAKEN
 
 
 class Pieces(unittest.TestCase):
@@ -62,6 +65,73 @@ class Places(Followed):
             self.settle()
             self.compare()
         self.assertEqual(self.beginnings, 1, self.told())
+
+    def test_rights_that_are_taken_wait_for_no_rows(self) -> None:
+        """The log stands still, as behind a large transaction: who loses a right sees less, nobody more, and nobody a new row."""
+        self.desk.do(STRICT, "alter table agents disable row level security")
+        for number, (statement, undo, role, name, is_exact) in enumerate(TAKEN):
+            if statement.startswith("revoke org"):
+                self.desk.do(undo)
+            self.settle()
+            self.compare()
+            before = self.held()
+            self.desk.do("begin", statement)
+            wanted = alike(self.desk.seen_at(role, f"public.{name}")) if is_exact else Counter()
+            self.assertNotEqual(before.get((role, name)), wanted, statement)
+            with self.stalled():
+                self.desk.do("begin", f"insert into tickets select 1, agent, 'late', true, {number} from agents", "insert into agents values ('late', 'late', null)", "insert into teams values ('late', 'night')", "commit", statement)
+                self.until(lambda: self.held().get((role, name)) == wanted, statement)
+                for key, rows in self.held().items():
+                    if key[1] in TABLES and rows is not None:
+                        self.assertLessEqual(rows, before[key] or Counter(), (statement, key))
+            self.settle()
+            self.compare()
+            self.desk.do("delete from tickets where subject = 'late'", "delete from agents where agent = 'late'", "delete from teams where team = 'late'", undo)
+        self.assertEqual(self.beginnings, 1, self.told())
+
+    def test_what_was_taken_later_stays_taken(self) -> None:
+        """A step whose rights are of an earlier moment gives nothing back, and the one behind it gives what is there."""
+        self.settle()
+        with self.stalled():
+            self.desk.do("insert into tickets values (7, 'mia', 'late', true, 1)", "revoke select on tickets from noah", "grant select on tickets to eve")
+            self.until(lambda: self.refused("noah", "tickets"))
+            self.desk.do("revoke select on tickets from mia", "grant select on teams to eve")
+            self.until(lambda: self.refused("mia", "tickets"))
+        self.tick += 1
+        self.desk.do(f"update clock set tick = {self.tick}")
+        assert self.gateway
+        while not self.shows_tick(self.gateway.live):
+            self.turn()
+            self.assertTrue(self.refused("mia", "tickets"))
+            self.assertTrue(self.refused("noah", "tickets"))
+        self.compare()
+        self.desk.do("grant select on tickets to mia")
+        self.settle()
+        self.compare()
+
+    def test_a_revoke_behind_a_large_transaction(self) -> None:
+        self.settle()
+        self.desk.do("insert into tickets select g, 'noah', g::text, true, 1 from generate_series(1, 60000) g", "revoke select on tickets from mia")
+        self.settle()
+        self.compare(("mia", "noah"))
+        journal = self.journal()
+        self.assertLess(journal.index(b'"do":"revoke","on":"tickets","privileges":["select"],"to":"mia"'), journal.index(b"[59999,"))
+
+    def until(self, is_there: Callable[[], bool], of: str = "") -> None:
+        end = time.monotonic() + PATIENCE
+        while not is_there():
+            self.assertLess(time.monotonic(), end, (of, self.told()))
+            self.turn()
+
+    def refused(self, role: str, name: str) -> bool:
+        assert self.gateway
+        return self.gateway.live.shown(role, name) is None
+
+    def held(self) -> dict[tuple[str, str], Counter[tuple[str, ...]] | None]:
+        """What readers have who have asked once, and not again."""
+        assert self.gateway
+        self.gateway.live.settle()
+        return {(role, name): alike(self.gateway.live.held.get((role, name))) for role in FIXED for name in self.gateway.live.names}
 
     def test_nobody_is_let_in_before_it_knows_who_may_see_what(self) -> None:
         self.settle()
@@ -208,13 +278,28 @@ class Places(Followed):
         lines = asked("/metrics").splitlines()
         self.assertIn("viewd_postgresql_open 1", lines)
         self.assertIn('viewd_postgresql_left_out{name="docs",why="column doc: viewd has no type json"} 1', lines)
+        for name, kind in (("behind_bytes", "gauge"), ("behind_seconds", "gauge"), ("steps_total", "counter"), ("beginnings_total", "counter")):
+            self.assertIn(f"# TYPE viewd_postgresql_{name} {kind}", lines)
+        steps = [int(it.split()[1]) for it in lines if it.startswith("viewd_postgresql_steps_total ")]
+        self.assertGreaterEqual(steps, [found["steps"]])
         with self.assertRaisesRegex(urllib.error.HTTPError, "404"):
             asked("/")
+        with self.stalled():
+            self.desk.do("grant select on tickets to eve")
+            while not (found := json.loads(asked("/state")))["behind_bytes"]:
+                self.assertLess(time.monotonic(), end, found)
+                self.turn()
+            self.assertGreater(found["behind_seconds"], 0)
+            before = dict(it.split(" ") for it in asked("/metrics").splitlines() if it.startswith("viewd_postgresql_behind"))
+            self.assertGreater(float(before["viewd_postgresql_behind_bytes"]), 0)
+            self.assertGreaterEqual(float(before["viewd_postgresql_behind_seconds"]), found["behind_seconds"])
+        self.settle()
         self.server.stop("fast")
         while not (found := json.loads(asked("/state")))["away"]:
             self.assertLess(time.monotonic(), end, found)
             self.turn()
         self.assertFalse(found["open"])
+        self.assertGreater(found["behind_seconds"], 0)
         self.server.start()
         self.desk.again()
         self.settle()

@@ -212,6 +212,16 @@ SCENES = {  # a role, and what is done in turn: a secret row is there only while
     "inherit": ("olga", f"alter role olga noinherit; {NIGHT}; alter role olga inherit"),
     "not seen by triggers": ("eve", f"set local session_replication_role = replica | revoke select on tickets from eve; {EVE}; grant select on tickets to eve"),
     "usage": ("eve", f"revoke usage on schema public from public; {EVE}; grant usage on schema public to public")}
+TAKEN = (  # a right that is taken, what gives it back, whose it is, and whether the role sees at once what PostgreSQL shows, or nothing until rows come
+    ("revoke select on tickets from noah", "grant select on tickets to noah", "noah", "tickets", True), ("revoke night from olga", "grant night to olga", "olga", "teams", True),
+    ("drop policy all_of_eve on tickets", "create policy all_of_eve on tickets to eve using (true)", "eve", "tickets", True),
+    ("create policy strict on tickets as restrictive to mia using (id = 1)", "drop policy strict on tickets", "mia", "tickets", True),
+    ("alter table tickets force row level security", "alter table tickets no force row level security", "lena", "tickets", True),
+    ("alter table agents enable row level security", "alter table agents disable row level security", "noah", "agents", True),
+    ("revoke usage on schema public from public", "grant usage on schema public to public", "eve", "agents", True), ("alter role olga noinherit", "alter role olga inherit", "olga", "teams", True),
+    ("alter policy of_day on tickets using (id < 3)", "alter policy of_day on tickets using (true)", "day", "tickets", False),
+    ("alter policy hidden on tickets using (id < 3)", "alter policy hidden on tickets using (id < 1000)", "mia", "tickets", False),
+    ("grant org to noah", "revoke org from noah", "noah", "tickets", False), ("revoke org from noah", "grant org to noah", "noah", "tickets", False))
 FORMED = (  # statements, and the words with which all begins anew; none if it goes on
     ("insert into teams values ('more', 'day')", ""), ("create policy p on teams using (team ~ 'm')", "teams is left out: its policy p cannot be said in viewd's words: the operator ~"),
     ("drop policy p on teams", "teams has another form"), ("alter table teams owner to mia", "teams has another form"), ("alter table teams rename to crews", "teams has another name"), ("alter table crews rename to teams", "another name"),
