@@ -69,7 +69,7 @@ def begin(settings: Settings, most: int, progress: Progress = no_progress) -> Be
                 stream.close()
                 raise
             stream.close()
-        raise Unsettled("tables are written anew faster than they can be read")
+        raise Unsettled("tables are written anew, or named, faster than they can be read")
     except BaseException:
         connection.close()
         raise
@@ -87,6 +87,8 @@ def once(connection: Connection, stream: Stream, settings: Settings, most: int, 
     place, snapshot = stream.create()
     with connection.cursor() as cursor:
         cursor.execute("set transaction snapshot %s", [snapshot])
+    if named(connection, settings) != names:  # those of before are of another moment
+        return None
     first, before = cut(connection, oids, settings.publication), still(connection, oids)
     mirror = Mirror()
 

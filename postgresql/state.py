@@ -4,7 +4,7 @@ import json
 from collections.abc import Callable, Iterator
 
 import rows
-from catalog import RELATIONS, Catalog, Connection, Relation, asked, read
+from catalog import RELATIONS, TRIES, Catalog, Connection, Relation, Unsettled, asked, read
 from mirror import Table
 from relations import Made, close, tables, views, words_of
 from rights import NOT_BOUND, ROLES, Rights, granted, guarded, rights
@@ -81,9 +81,13 @@ def check_calls(connection: Connection, users: Users) -> None:
 
 def state(connection: Connection, settings: Settings, most: int) -> State:
     """All that is there now. Raises Wrong, Unsayable, Unsettled, psycopg2.Error."""
-    names = named(connection, settings)
-    catalog = read(connection, list(names), settings.publication)
-    return said(catalog, names, settings, lambda it, rel: Table(it.name, it.columns, most).fill(rows.read(connection, rel, it.columns)))
+    for _ in range(TRIES):
+        names = named(connection, settings)
+        catalog = read(connection, list(names), settings.publication)
+        if named(connection, settings) == names:  # those of before are of another moment
+            return said(catalog, names, settings, lambda it, rel: Table(it.name, it.columns, most).fill(rows.read(connection, rel, it.columns)))
+        connection.rollback()
+    raise Unsettled("relations are named faster than they can be read")
 
 
 def said(catalog: Catalog, names: dict[int, str], settings: Settings, held: Callable[[Made, Relation], Table], follows: bool = False) -> State:

@@ -100,6 +100,11 @@ class Beside:
     def fill(self, last: int, first: int = 1, agent: str = "bob") -> None:
         self.session.ask(f"insert into tickets select g, '{agent}', 'The quick brown fox', true from generate_series({first}, {last}) g;")
 
+    def anew(self) -> None:
+        """The rows as they were at first."""
+        self.session.ask("truncate tickets;")
+        self.fill(KEPT)
+
     @contextlib.contextmanager
     def follows(self, size: int) -> Iterator[Following]:
         following = Following(self.server.room, size)
@@ -156,6 +161,7 @@ class Beside:
 
     def revokes(self) -> None:
         found = self.tables.setdefault("revokes", [])
+        self.anew()
         self.fill(1_000_000 + MANY, 1_000_001, "zoe")
         with self.follows(2) as following:
             sockets = [came(begin(following.port, "bob 0")) for _ in range(READERS)]
@@ -183,12 +189,12 @@ class Beside:
                 print(" | ".join(found[-1].values()), flush=True)
             for it in sockets:
                 it.close()
-        self.session.ask("delete from tickets where agent = 'zoe';", "vacuum full tickets;")
 
     # ---- rows that wait
 
     def rows(self) -> None:
         found, first = self.tables.setdefault("rows", []), 2_000_000
+        self.anew()
         plugins = {"pgoutput": ["-o", "proto_version=1", "-o", "publication_names=viewd"], "wal2json": ["-o", "format-version=2"]}
         if not installed("wal2json.so"):
             del plugins["wal2json"]
@@ -214,7 +220,6 @@ class Beside:
                 first += count
                 found.append(row)
                 print(" | ".join(row.values()), flush=True)
-        self.session.ask("delete from tickets where id >= 2000000;", "vacuum full tickets;")
 
     def plain(self, plugin: str, words: list[str], end: str) -> float:
         """Seconds until all up to there is read and thrown away."""
@@ -226,8 +231,7 @@ class Beside:
     # ---- readers who ask again
 
     def asking(self) -> None:
-        self.session.ask("truncate tickets;")
-        self.fill(KEPT)
+        self.anew()
         used = self.postgresql()
         count, mean = self.pgbench(ASK, READERS)
         each = (self.postgresql() - used) / count

@@ -15,6 +15,7 @@ import beginning
 import catalog
 import cuts
 import rows
+import state
 from base import Base
 from beginning import NotReady
 from catalog import Unsettled
@@ -301,6 +302,32 @@ class Follows(Base):
         self.assertEqual(statements, [])
         self.catch_up()
         self.compare(("mia", "olga"))
+
+    def test_a_name_that_changes_before_the_slot_is_there(self) -> None:
+        """A relation has the name of the moment whose rows it has; so has one that is shown once."""
+        self.desk.do(DESK)
+        create, read, statements = Stream.create, catalog.read, ["alter table teams rename to crews"]
+
+        def created(stream: Stream) -> tuple[int, str]:
+            self.desk.do(*statements)
+            statements.clear()
+            return create(stream)
+
+        def renamed(*words: object) -> catalog.Catalog:
+            self.desk.do(*statements)
+            statements.clear()
+            return read(*words)  # type: ignore[arg-type]
+        with unittest.mock.patch.object(Stream, "create", created):
+            self.begin()
+        assert self.viewd
+        self.assertIn("crews", self.viewd.names)
+        self.assertNotIn("teams", self.viewd.names)
+        self.catch_up()
+        self.compare(("mia", "olga"))
+        statements.append("alter table crews rename to teams")
+        with unittest.mock.patch.object(state, "read", renamed), contextlib.closing(catalog.connect(self.server.dsn("viewd", self.name))) as connection:
+            names = {it.name for it in state.state(connection, self.settings(), ROWS).made.values()}
+        self.assertEqual(({"teams", "crews"} & names, statements), ({"teams"}, []))
 
     def test_names_that_change_while_it_begins(self) -> None:
         """A policy is never told with names of another moment, not even up to the first step."""
