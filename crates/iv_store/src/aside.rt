@@ -9,7 +9,7 @@ use crate::store::Store;
 use crate::subscriptions::Subscription;
 use iv_command::Line;
 use iv_database::Sessions;
-use iv_readers::Circuits;
+use iv_readers::Readers;
 use std::alloc::AllocError;
 use std::mem;
 
@@ -18,7 +18,7 @@ use std::mem;
 pub struct Aside {
     pub sessions: Sessions,
     pub subscriptions: Vec<Subscription>,
-    pub circuits: Circuits,
+    pub circuits: Readers,
     pub last: u64,
 }
 
@@ -32,7 +32,7 @@ impl Store {
         self.found.clear();
         let sessions = self.database.take_sessions();
         let subscriptions = mem::replace(&mut self.subscriptions, Vec::new(self.alloc));
-        let circuits = mem::replace(&mut self.circuits, Circuits::new(self.alloc));
+        let circuits = mem::replace(&mut self.circuits, Readers::new(self.alloc));
         let last = mem::replace(&mut self.last, 0);
         Aside {
             sessions,
