@@ -1,5 +1,5 @@
 -- Readers found by role and relation, one after the other.
-use Rattle.std.proofs.Common.{◌≡◌, ℕ, zero, suc, ◌+◌, ◌<◌, ◌≤◌, Bool, true, false, cond, ◌&&◌, List, [], ◌∷◌, ◌++◌, length, length-append, get_or, take, Option, None, Some, refl, sym, ap, ◌∙◌, arith}
+use Rattle.std.proofs.Common.{◌≡◌, ℕ, zero, suc, ◌+◌, ◌<◌, ◌≤◌, Bool, true, false, cond, eqb, ◌&&◌, List, [], ◌∷◌, ◌++◌, length, length-append, get_or, take, Option, None, Some, refl, sym, ap, ◌∙◌, arith}
 use Rattle.std.proofs.lemmas.Bool.Decides.{nat_tests}
 use Rattle.std.proofs.lemmas.List.{length-take-le, take_more}
 use Rattle.std.proofs.lemmas.List.Folds.{position_or_len_push}
@@ -63,14 +63,14 @@ with_reader-come role rel r old new none updates a b =
 -- ---- the first for which it holds
 
 pushed : (n m : ℕ) (b : Bool) → n ≤ m
-    → cond (nat_lt (cond (n == m) (m + cond b 0 1) n) (m + 1)) (Some (cond (n == m) (m + cond b 0 1) n)) None ≡ if_some (cond (nat_lt n m) (Some n) None) (cond b (Some m) None) (λ i. Some i)
-pushed n m b low = by (n == m) (nat_lt n m) b refl refl
+    → cond (nat_lt (cond (eqb n m) (m + cond b 0 1) n) (m + 1)) (Some (cond (eqb n m) (m + cond b 0 1) n)) None ≡ if_some (cond (nat_lt n m) (Some n) None) (cond b (Some m) None) (λ i. Some i)
+pushed n m b low = by (eqb n m) (nat_lt n m) b refl refl
   where
-    same : (n == m) ≡ true → nat_lt n m ≡ true → ⊥
+    same : eqb n m ≡ true → nat_lt n m ≡ true → ⊥
     same e f = grind (arith, nat_tests)
 
-    apart : (n == m) ≡ false → nat_lt n m ≡ false → ⊥
-    apart e f = grind (arith, nat_tests)
+    apart : n ≤ m → eqb n m ≡ false → nat_lt n m ≡ false → ⊥
+    apart l e f = grind (arith, nat_tests)
 
     within : nat_lt (m + 0) (m + 1) ≡ true
     within = grind (arith, nat_tests)
@@ -84,13 +84,13 @@ pushed n m b low = by (n == m) (nat_lt n m) b refl refl
     zero_on : m + 0 ≡ m
     zero_on = omega arith
 
-    by : (x y b : Bool) → (n == m) ≡ x → nat_lt n m ≡ y
+    by : (x y b : Bool) → eqb n m ≡ x → nat_lt n m ≡ y
         → cond (nat_lt (cond x (m + cond b 0 1) n) (m + 1)) (Some (cond x (m + cond b 0 1) n)) None ≡ if_some (cond y (Some n) None) (cond b (Some m) None) (λ i. Some i)
     by true true b e f = absurd (same e f)
     by true false true e f = ap (λ t. cond t (Some (m + 0)) None) within ∙ ap (λ i. Some i) zero_on
     by true false false e f = ap (λ t. cond t (Some (m + 1)) None) past
     by false true b e f = ap (λ t. cond t (Some n) None) (later f)
-    by false false b e f = absurd (apart e f)
+    by false false b e f = absurd (apart low e f)
 
 module _ (p : RoleCircuit → Bool) where
   pub position-push : (ks : List RoleCircuit) (k : RoleCircuit) → position p (ks ++ k ∷ []) ≡ if_some (position p ks) (cond (p k) (Some (length ks)) None) (λ i. Some i)

@@ -135,13 +135,12 @@ fn is_read_at(readers: &[RoleReader], at: CircuitId) -> bool
 }
 
 /// The place of the role among those who read the relation.
-fn place_among(readers: &[RoleReader], role: RoleId, rel: RelId) -> Option<ReaderId>
-    ensures { option_map (λ r. r.0) result ≡ position (λ r. (r.role == role.0) && (r.rel == rel.0)) readers.now }
+fn place_among(readers: &[RoleReader], role: RoleId, rel: RelId) -> Option<usize>
+    ensures { result ≡ position (λ r. (r.role == role.0) && (r.rel == rel.0)) readers.now }
 {
-    let place = readers
+    readers
         .iter()
-        .position(|reader| reader.role == role && reader.rel == rel)?;
-    Some(ReaderId(place))
+        .position(|reader| reader.role == role && reader.rel == rel)
 }
 
 /// Holds no circuit any more at the place.
@@ -297,7 +296,10 @@ impl Readers {
     pub fn reader_of(&self, role: RoleId, rel: RelId) -> Option<ReaderId>
         ensures { option_map (λ r. r.0) result ≡ position (is_for role.0 rel.0) self.now }
     {
-        place_among(&self.readers, role, rel)
+        match place_among(&self.readers, role, rel) {
+            Some(place) => Some(ReaderId(place)),
+            None => None,
+        }
     }
 
     /// A reader of the relation whose circuit shows, by the rights, what the role may see. One is found if policies have no effect on

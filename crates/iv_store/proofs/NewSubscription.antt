@@ -19,6 +19,7 @@ use Rattle.iv_machine.specs.Changing.{after, insert_subscription}
 use Rattle.iv_machine.specs.Machine.{changes, line_for, lines_told as machine_line, ending, settled, difference}
 use Rattle.iv_machine.specs.Reached.{AreNumbersUnique}
 use Rattle.iv_machine.proofs.UniqueNumbers.{AreNumbersUnique-after_frame, has_number-next}
+use Rattle.iv_readers.specs.declared.ids.ReaderId.{ReaderId}
 use Rattle.iv_store.specs.Answering.{IsAccepted, IsRefused, IsStep, seen, sent}
 use Rattle.iv_readers.specs.Rows.{AreInOrder}
 use Rattle.iv_store.specs.Built.{IsBeyond}

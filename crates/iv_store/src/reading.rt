@@ -17,7 +17,7 @@ use std::collections::BTreeSet;
 
 /// The roles of open subscriptions, each with the relation that it reads, in rising order.
 #[derive(Drop)]
-pub(crate) struct Read {
+pub struct Read {
     /// The numbers of the role and of the relation.
     pairs: BTreeSet<(u32, u32)>,
 }

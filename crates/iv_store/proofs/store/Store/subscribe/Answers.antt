@@ -1,10 +1,11 @@
 use Rattle.std.proofs.Common.{◌≡◌, ◌+◌, Err, Option, ap, refl, subst, sym, ℕ}
-use Rattle.std.specs.Prelude.{string_bytes}
+use Rattle.std.specs.Prelude.{option_map, string_bytes}
 use Rattle.iv_access.specs.Rights.{Name}
 use Rattle.iv_machine.specs.Act.{subscribe}
 use Rattle.iv_machine.specs.State.{Subscription}
 use Rattle.iv_database.proofs.PolicyTests.{IsErrAnd-gives}
 use Rattle.iv_command.specs.declared.stop.Stop.{Stop}
+use Rattle.iv_readers.specs.declared.ids.ReaderId.{ReaderId}
 use Rattle.iv_store.specs.Answering.{IsStep}
 use Rattle.iv_store.specs.Store.{Store}
 use Rattle.iv_store.specs.Openable.{IsReaderFor, IsOpenable, MayOpen}
