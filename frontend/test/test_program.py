@@ -947,6 +947,55 @@ def test_one_token_takes_not_all_room() -> None:
         until(lambda: comes_in(gate, "mia"), "the room of one that is gone is not free")
 
 
+def test_who_goes_is_counted_no_more() -> None:
+    """However clients go, 64 by one token may come in again, and no more."""
+    def reset(it: Wire) -> None:
+        it.socket.setsockopt(socket.SOL_SOCKET, socket.SO_LINGER, struct.pack("ii", 1, 0))
+        it.shut()
+
+    with serving() as (gate, admin):
+        ways: dict[str, Callable[[Wire], None]] = {
+            "an end": Wire.shut, "a reset": reset, "a close": lambda it: it.send(masked(struct.pack("!H", 1000), CLOSE)),
+            "a binary message": lambda it: it.send(masked(b"x", BINARY)), "no frame": lambda it: it.send(b"\xff\xff"), "its token": lambda it: None}
+        for way, goes in ways.items():
+            wires = [gate.knock("mia-demo") for _ in range(66)]
+            assert [it.code for it in wires] == [None] * 64 + [1013] * 2, way
+            if way == "its token":
+                gate.know("admin", "ann", "bob")
+            for it in wires[:64]:
+                goes(it)
+            until(lambda: json.loads(http(gate.port, "/state", "admin-demo")[2])["clients"] == 1, f"who goes by {way} stays")
+            for it in wires:
+                it.shut()
+        gate.know("admin", "ann", "bob", "mia")
+        until(lambda: comes_in(gate, "mia"), "a token that is known again opens no role")
+
+
+def test_who_comes_in_costs_no_walk() -> None:
+    """What 400 who come in at once take of the processor is the same where there are many more places than they have."""
+    def comings(most: int) -> float | None:
+        gate = Gateway(words=("--clients", str(most)), start=False)
+        gate.know("admin", lines=tuple(f'"{digest(f"mia {at}")}" = "mia"' for at in range(8)))
+        gate.start()
+        admin, took = gate.enter("admin"), None
+        for it in BASE:
+            admin.ask(it)
+        with contextlib.suppress(Ended, ConnectionError):
+            wires = [Wire(gate.port) for _ in range(400)]
+            gate.process.send_signal(signal.SIGSTOP)
+            for at, wire in enumerate(wires):
+                wire.say(f"mia {at % 8}")
+            before = gate.processor()
+            gate.process.send_signal(signal.SIGCONT)
+            assert {it.enter() for it in wires} == {"mia"}
+            took = gate.processor() - before
+        gate.end()
+        return took
+    few, many = (sum(in_time(lambda: comings(most)) for _ in range(3)) for most in (1_000, 50_000))
+    print(f"  {few / 3 * 1000:.0f} ms for 400 where 1,000 may come in, {many / 3 * 1000:.0f} where 50,000 may", flush=True)
+    assert many < 10 * few
+
+
 def test_sockets_have_a_bound() -> None:
     """Where no number is free, who has not come in for the longest goes; who has come in stays."""
     with serving(words=("--clients", "20")) as (gate, admin):

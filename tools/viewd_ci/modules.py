@@ -1,10 +1,11 @@
-"""Refuses crates whose modules stand on one another in a ring: a reader of one would have to read them all.
+"""Refuses crates whose modules stand on one another in a ring: a reader of one would have to read them all. And refuses crates that are too large.
 
-usage: .ci/modules             fails if a crate has a ring that may have none, or none that is said to have one
+usage: .ci/modules             fails if a crate has a ring that may have none, or none that is said to have one; or more than 130 functions
        .ci/modules --list      prints each ring
 
 A module stands on those that its lines `use crate::..` name, and its calls by such a path. The root of a crate stands on all of them, and
-nothing stands on it. Crates that have a ring still are in HAVE, to which none is added.
+nothing stands on it. Crates that have a ring still are in HAVE, to which none is added. Functions are counted by their `fn`; crates of
+tests may have any number.
 """
 import glob
 import os
@@ -14,9 +15,11 @@ import sys
 from viewd_ci.common import TOP, contents
 
 HAVE = {"iv_database", "iv_pages", "iv_store", "iv_zset"}
+MOST = 130
 NAMED = re.compile(r"\bcrate::((?:\w+::)*)(?:\w+|\{|\*)")
 GROUP = re.compile(r"\bcrate::\{([^{}]*)\}")
 COMMENT = re.compile(r"(?m)//.*$")
+FUNCTION = re.compile(r"(?m)^\s*(?:pub(?:\([a-z]+\))? )?(?:const )?fn \w")
 Uses = dict[str, set[str]]
 
 
@@ -69,6 +72,12 @@ def texts_of(crate: str) -> dict[str, str]:
     return {it.removesuffix(".rt").removesuffix("/mod").replace("/", "::"): contents("crates", crate, "src", it) for it in names}
 
 
+def too_large(crate: str, texts: list[str]) -> list[str]:
+    """What is told of a crate with these sources: that it has more functions than one may have, unless it is one of tests."""
+    number = sum(len(FUNCTION.findall(it)) for it in texts)
+    return [f"{crate} has {number} functions, and may have {MOST}: cut it along its subject"] if number > MOST and not crate.startswith("tests_") else []
+
+
 def main(words: list[str]) -> int:
     if words not in ([], ["--list"]):
         sys.exit(__doc__)
@@ -81,6 +90,9 @@ def main(words: list[str]) -> int:
             failures += [] if crate in HAVE else told
             if words:
                 print("\n".join(told), end="\n" * bool(told))
+    for crate in crates:
+        found_in = glob.glob(os.path.join(TOP, "crates", crate, "src", "**", "*.rt"), recursive=True)
+        failures += too_large(crate, [contents(it) for it in found_in])
     for it in failures:
         print(f"modules: {it}")
     print(f"modules: {len(crates)} crates, {len(HAVE)} with rings, {len(failures)} failures")

@@ -1,22 +1,8 @@
 //! The gateway as a program: browsers by WebSocket in front, one engine, and a journal behind.
 #![tactic(auto)]
 
-mod answering;
-mod doors;
-mod fault;
-mod hall;
-mod opening;
-mod reading;
-mod said;
-mod scout;
-mod sending;
-mod serving;
-mod socket;
-mod steps;
-mod telling;
-
 use iv_host::asked_for;
-use serving::work;
+use iv_service::work;
 use std::process::ExitCode;
 
 fn main(rt: HostRuntime) -> ExitCode {

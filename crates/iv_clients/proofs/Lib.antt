@@ -1,11 +1,4 @@
 pub mod FirstNumber
-pub mod CutPlaces
-pub mod PartsAsText
+pub mod TokenParts
 pub mod Lines
 pub mod Slots
-pub mod Cuts
-pub mod Spelling
-pub mod JournalTexts
-pub mod EntryRecords
-pub mod RecordRest
-pub mod ClaimedNames

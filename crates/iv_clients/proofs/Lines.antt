@@ -2,7 +2,8 @@
 use Rattle.std.proofs.Common.{◌≡◌, ℕ, Bool, true, false, cond, List, [], ◌∷◌, Option, Some, None, option_map, refl, ap, ◌∙◌, sym, append-nil}
 use Rattle.std.specs.Prelude.{◌==◌}
 use Rattle.iv_clients.specs.Parsed.{behind_tokens}
-use Rattle.iv_clients.specs.Tokens.{Token, begun, cut_at, lines_of, tokens_of}
+use Rattle.iv_records.specs.Cuts.{cut_at}
+use Rattle.iv_clients.specs.Tokens.{Token, begun, lines_of, tokens_of}
 
 is_none_some : {X : Type 0} (x : X) → None ≡ Some x → ⊥
 is_none_some x h = cc h

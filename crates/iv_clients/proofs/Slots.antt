@@ -1,15 +1,10 @@
 -- Places by their numbers: what is done to one of them, or to all, and who is there.
-use Rattle.std.proofs.Common.{◌≡◌, ◌∙◌, ℕ, zero, suc, ◌<◌, ◌≤◌, Bool, true, false, ◌||◌, List, [], ◌∷◌, length, get_or, set, replicate, Option, Some, None, option_map, is_some, refl, ap, sym, arith}
+use Rattle.std.proofs.Common.{◌≡◌, ◌∙◌, ℕ, zero, suc, ◌<◌, ◌≤◌, Bool, true, false, ◌||◌, List, [], ◌∷◌, length, get_or, set, replicate, Option, Some, None, option_map, refl, ap, sym, arith}
 use Rattle.std.specs.List.{list_any}
 use Rattle.std.proofs.lemmas.Bool.{false≢true, or_left, or_right}
 use Rattle.iv_rows.specs.Options.{if_some}
+pub use Rattle.iv_records.proofs.CutParts.{same-Some, not_None-Some}
 use Rattle.iv_clients.specs.Clients.{at_all, at_client, client_at, is_free}
-
-pub same-Some : {X : Type 0} (a b : X) → Some a ≡ Some b → a ≡ b
-same-Some a b h = cc
-
-pub not_None-Some : {X : Type 0} (x : X) → Some x ≡ None → ⊥
-not_None-Some x e = false≢true (sym (ap is_some e))
 
 -- what was changed was there before
 pub record IsFrom {C : Type 0} (f : C → C) (o : Option C) (new : C) : Type 0 where
@@ -93,7 +88,7 @@ at_client-set m f [] x y h e k = absurd (let none : ⊥ = omega (arith, h) in no
 at_client-set zero f (s ∷ ss) x y h e k = ap (λ z. z ∷ ss) (k ∙ ap (option_map f) e)
 at_client-set (suc m) f (s ∷ ss) x y h e k = ap (λ zs. s ∷ zs) (at_client-set m f ss x y (omega (arith, h)) e k)
 
--- past the last there is not_client_at-replicate
+-- past the last there is nobody
 pub at_client-past : {C : Type 0} (m : ℕ) (f : C → C) (slots : List (Option C)) → length slots ≤ m → slots ≡ at_client m f slots
 at_client-past m f [] h = refl
 at_client-past zero f (s ∷ ss) h = absurd (let none : ⊥ = omega (arith, h) in none)

@@ -16,10 +16,6 @@ most_feeds = 15
 abbrev pub most_subs : ℕ
 most_subs = 16
 
--- bytes of a message: its entry, and the request with any session in front, are lines that viewd reads
-abbrev pub most_said : ℕ
-most_said = 65463
-
 -- requests of a client since text was last handed to it
 abbrev pub most_requests : ℕ
 most_requests = 32

@@ -7,7 +7,7 @@ use Rattle.iv_machine.specs.Act.{Line, reply, change, ended}
 use Rattle.iv_message.specs.Told.{Told, welcome, placed, changed, over, settled, alive, told_text}
 use Rattle.iv_clients.specs.Bounds.{most_requests, most_waiting, most_piled}
 use Rattle.iv_clients.specs.Feeds.{Feed, ends_in, rel_read}
-use Rattle.iv_clients.specs.Journal.{Entry, shape_for}
+use Rattle.iv_records.specs.Journal.{Entry, shape_for}
 use Rattle.iv_clients.specs.Tokens.{Token, token_of}
 
 -- what a client is told, with the entries that its text may show, and whether it comes of the client's own token or message
@@ -45,8 +45,20 @@ greeting es role at = welcome role ∷ placed at ∷ (shape_for role es ++ settl
 
 -- a client that was told nothing
 abbrev pub untold : Token → Client
-untold t =
-    record { role = t.role; user = t.user; digest = t.digest; given = 0; subs = []; unsynced = []; sendable = []; asked = 0; owed = false; dropped = false; messages = []; handed = [] }
+untold t = record {
+  role = t.role;
+  user = t.user;
+  digest = t.digest;
+  given = 0;
+  subs = [];
+  unsynced = [];
+  sendable = [];
+  asked = 0;
+  owed = false;
+  dropped = false;
+  messages = [];
+  handed = [];
+}
 
 -- a client that comes in, when these entries are accepted: it is told its greeting, which comes of its own token
 abbrev pub fresh : List Entry → Token → (at : List ℕ) → Client

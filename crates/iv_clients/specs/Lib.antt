@@ -1,10 +1,6 @@
 pub mod Bounds
 pub mod Tokens
-pub mod Names
-pub mod Journal
 pub mod Feeds
 pub mod Clients
 pub mod Parsed
 pub mod Kept
-pub mod Views
-pub mod Laws

@@ -1,10 +1,10 @@
 -- Which role a token opens, and the file that says so.
-use Rattle.std.specs.Prelude.{ℕ, ◌==◌, ◌&&◌, ◌||◌, not, Bool, true, if◌then◌else◌, List, [], ◌∷◌, length, nat_lt, take, drop, bytes_eq, codes, find, Option, Some, None, option_map, option_and_then, Result, Ok, Err}
+use Rattle.std.specs.Prelude.{ℕ, ◌==◌, ◌&&◌, ◌||◌, not, Bool, true, if◌then◌else◌, List, [], ◌∷◌, length, nat_lt, bytes_eq, codes, find, Option, Some, None, option_map, option_and_then}
 use Rattle.std.specs.List.{list_any}
 use Rattle.hex.specs.Hex.{decode_of}
-use Rattle.hex.specs.declared.error.FromHexError.{FromHexError}
 use Rattle.iv_rows.specs.Names.{is_name}
 use Rattle.iv_access.specs.Rights.{Name}
+use Rattle.iv_records.specs.Cuts.{behind, cut_at, decoded}
 
 -- the SHA-256 of a token, the role that it opens, and who holds it; of a token without a holder no text
 pub record Token : Type 0 where
@@ -21,25 +21,12 @@ role_opened tokens digest = option_map (λ t. t.role) (token_of tokens digest)
 
 -- ---- the file: lines of TOML, `[tokens]` and then `"DIGEST" = "role"`
 
--- what comes before the first such byte, and after it
-abbrev pub cut_at : ℕ → List ℕ → Option (List ℕ × List ℕ)
-cut_at b [] = None
-cut_at b (x ∷ xs) = if x == b then Some ([], xs) else option_map {U = List ℕ × List ℕ} (λ p. (x ∷ p.0, p.1)) (cut_at b xs)
-
--- what follows a prefix
-abbrev pub behind : List ℕ → List ℕ → Option (List ℕ)
-behind prefix bytes = if bytes_eq (take (length prefix) bytes) prefix then Some (drop (length prefix) bytes) else None
-
 -- the digits of a digest and a role, each between quotation marks, and nothing after them
 abbrev pub token_parts : List ℕ → Option (List ℕ × List ℕ)
 token_parts line =
     option_and_then (λ (d : List ℕ × List ℕ). option_and_then (λ role_on.
     option_and_then {U = List ℕ × List ℕ} (λ (r : List ℕ × List ℕ). if length r.1 == 0 then Some (d.0, r.0) else None)
     (cut_at 34 role_on)) (behind (codes " = \"") d.1)) (option_and_then (cut_at 34) (behind (codes "\"") line))
-
-abbrev pub decoded : Result (List ℕ) FromHexError → Option (List ℕ)
-decoded (Ok digest) = Some digest
-decoded (Err e) = None
 
 abbrev pub digest_in : List ℕ → Option (List ℕ)
 digest_in digits = decoded (decode_of digits)

@@ -98,7 +98,20 @@ impl Model for Client {
 
     ghost Value = { Kept };
 
-    ghost view = { λ c. record { role = string_bytes c.role; user = string_bytes c.user; digest = c.digest.items; given = c.given; subs = c.subs.items; unsynced = c.unsynced.items; sendable = c.sendable.items; asked = c.asked; brought = c.brought; piled = c.piled; owed = c.owed; dropped = c.dropped } };
+    ghost view = { λ c. record {
+      role = string_bytes c.role;
+      user = string_bytes c.user;
+      digest = c.digest.items;
+      given = c.given;
+      subs = c.subs.items;
+      unsynced = c.unsynced.items;
+      sendable = c.sendable.items;
+      asked = c.asked;
+      brought = c.brought;
+      piled = c.piled;
+      owed = c.owed;
+      dropped = c.dropped;
+    } };
 }
 
 /// What followed one feed follows another.

@@ -3,8 +3,8 @@ ghost use Rattle.std.specs.Prelude.{◌≡◌, ◌⊎◌, ◌∷◌, if◌then�
 ghost use Rattle.iv_clients.specs.Tokens.{Token, are_apart, digest_in, has_digest, is_no_token, lines_of, role_in, role_opened, token_in, token_of, token_parts, tokens_in, tokens_of};
 ghost use Rattle.iv_clients.specs.Parsed.{behind_tokens, tokens_read};
 
-use crate::journal::{behind, cut_at};
 use hex::FromHexError;
+use iv_records::{behind, cut_at};
 use iv_rows::name_ok;
 use std::alloc::{AllocError, Global};
 use std::marker::Model;

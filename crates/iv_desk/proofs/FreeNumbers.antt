@@ -16,7 +16,7 @@ use Rattle.iv_gate.specs.Restoring.{Restores}
 use Rattle.iv_journal.specs.Journal.{Line}
 use Rattle.iv_gate.specs.Runs.{Runs}
 use Rattle.iv_gate.specs.Runs as gate
-use Rattle.iv_gate.specs.Touched.{as_told, drops, itself_behind}
+use Rattle.iv_gate.specs.Touched.{as_told, drops, itself_after}
 use Rattle.websocket.specs.Connection.{Connection}
 use Rattle.iv_peer.specs.Socket.{Socket, is_open, passing}
 use Rattle.iv_peer.specs.Lives.{CarriesAt, listed}
@@ -98,7 +98,7 @@ shown_by g e m c d = map (λ t. record { told = t; entries = (next g e).entries;
 
 -- of a client that stays
 kept_waits : HoldAlways → (cap : ℕ) (g : Gate) (e : Event) → IsWell e → Runs cap g → g.dead ≡ false → (m : ℕ) (c d : Client) → IsClient g m c → IsClient (next g e) m d
-    → asked_of d ≡ asked_of (itself_behind m c e) → AskedWaits c → AskedWaits d
+    → asked_of d ≡ asked_of (itself_after m c e) → AskedWaits c → AskedWaits d
 kept_waits l cap g (message n text) v r a m c d x y same k = by (n == m && may_say c) refl
   where
     shows : all_shown d ≡ all_shown c ++ shown_by g (message n text) m c d
@@ -136,7 +136,7 @@ next_waits l cap g e v r k m d there = by g.dead refl
     stays a c here (inl goes) = absurd (not_Some-None d (sym ((((l cap g r).1 e v).touched a).leaves m goes) ∙ there))
     stays a c here (inr left) =
         let w = (((l cap g r).1 e v).touched a).stays m c here left in
-        let is : d ≡ record (as_told w.now (itself_behind m c e)) { dropped = c.dropped || drops c e } = sym (same-Some w.now d (sym w.there ∙ there)) ∙ w.is in
+        let is : d ≡ record (as_told w.now (itself_after m c e)) { dropped = c.dropped || drops c e } = sym (same-Some w.now d (sym w.there ∙ there)) ∙ w.is in
         λ alive none. kept_waits l cap g e v r a m c d
         (record { there = here; stays = (or_parts c.dropped (drops c e) (sym (ap (λ (x : Client). x.dropped) is) ∙ alive)).0 })
         (record { there = there; stays = alive }) (ap asked_of is) (k m c here) alive none

@@ -17,7 +17,7 @@ use Rattle.iv_gate.specs.Gate.{Gate, begun_for, came, at_text, has_session, is_h
 use Rattle.iv_gate.specs.Laws.{HoldAlways, marked}
 use Rattle.iv_gate.specs.Runs.{Runs}
 use Rattle.iv_gate.specs.Runs as gate
-use Rattle.iv_gate.specs.Touched.{AreTouched, IsNewcomer, itself_behind}
+use Rattle.iv_gate.specs.Touched.{AreTouched, IsNewcomer, itself_after}
 use Rattle.iv_peer.specs.Socket.{Socket, closed, ended, is_open, passing, told_text as told_in_frame, took}
 use Rattle.iv_peer.specs.Socket as socket
 use Rattle.iv_peer.specs.Hearing.{Hears, accepts, refuses_other, refuses_bad, refuses_long, frames, fails}
@@ -112,7 +112,7 @@ goes_or_stays n forgave = inr (does_not_go n forgave refl)
 goes_or_stays n failed = inr (does_not_go n failed refl)
 
 -- an event that leaves what is known of it, and by which nobody comes with its number
-stays_same : (g : Gate) (e : Event) (n : ℕ) → AreTouched g e → (e ≡ gone n → ⊥) → ((c : Client) → known_of (itself_behind n c e) ≡ known_of c)
+stays_same : (g : Gate) (e : Event) (n : ℕ) → AreTouched g e → (e ≡ gone n → ⊥) → ((c : Client) → known_of (itself_after n c e) ≡ known_of c)
     → ((token : List ℕ) → e ≡ presented n token → ⊥)
     → IsSame g (next g e) n
 stays_same g e n t stays same nobody = by (client_at g.clients n) refl

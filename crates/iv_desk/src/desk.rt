@@ -1,7 +1,7 @@
 //! `Desk`: the peers by their numbers, and the gateway whose clients have the same numbers.
 ghost use Rattle.std.specs.Prelude.{◌≡◌, ◌++◌, ℕ, [], Err, IfOk, OnErr, OnOk, drop, false, option_map, take, true};
 ghost use Rattle.iv_clients.specs.Clients.{client_at, is_free};
-ghost use Rattle.iv_clients.specs.Journal.{journal_of};
+ghost use Rattle.iv_records.specs.Journal.{journal_of};
 ghost use Rattle.iv_gate.specs.Events.{failed, forgave, known, synced, ticked};
 ghost use Rattle.iv_gate.specs.Gate.{Gate};
 ghost use Rattle.iv_gate.specs.Restoring.{IsDamagedAt};
@@ -16,10 +16,12 @@ use crate::place::{Hearing, Place};
 use crate::places::{
     close_at, dismiss_told, empty_places, hear_at, is_free, offer_told, pass_at, put_at, read_at,
 };
-use iv_clients::{OwnedLine, Token};
+use iv_arrivals::Tally;
+use iv_clients::Token;
 use iv_gate::laws::events_leave_their_marks;
-use iv_gateway::{Gateway, GatewayFault, Journal, RestoreFault, Tally};
+use iv_gateway::{Gateway, GatewayFault, Journal, RestoreFault};
 use iv_journal::Line;
+use iv_records::OwnedLine;
 use std::alloc::{AllocError, Global};
 
 /// Peers by their numbers, and the gateway whose clients have the same numbers. After a fault it is dead: it hears, tells and offers nothing

@@ -18,11 +18,11 @@ use Rattle.iv_message.specs.Told.{Told, replied, told_text}
 use Rattle.iv_once.specs.Names.{Ask, Known, Named, Verdict, carry, again, another, late, foreign, ahead, over, learned, named, verdict}
 use Rattle.iv_steps.specs.Steps.{first_refused, shared}
 use Rattle.iv_clients.specs.Clients.{Client}
-use Rattle.iv_clients.specs.Journal.{Entry, IsEntry, IsNamed, IsRequest, Request, claim_said, has_newline, is_digest, is_shared, line_said, names_in, position_of, said_by}
-use Rattle.iv_clients.specs.Laws.{ClaimsAreWell, HoldersAreText}
-use Rattle.iv_clients.specs.Names.{Claim, limits}
-use Rattle.iv_clients.proofs.Cuts.{but_last-push}
-use Rattle.iv_gate.specs.Arriving.{Fault, Step, entry_of, fact_of, fault_of, first_known, gap, is_behind, is_log, is_new, not_accepted, not_new, other_log, position}
+use Rattle.iv_records.specs.Journal.{Entry, IsEntry, IsNamed, IsRequest, Request, claim_said, has_newline, is_digest, is_shared, line_said, names_in, position_of, said_by}
+use Rattle.iv_records.specs.Laws.{ClaimsAreWell, HoldersAreText}
+use Rattle.iv_records.specs.Names.{Claim, limits}
+use Rattle.iv_records.proofs.CutParts.{but_last-push}
+use Rattle.iv_gate.specs.Arriving.{Fault, Step, entry_of, fact_of, fault_of, first_known, gap, was_taken, is_log, is_new, not_accepted, not_new, other_log, position}
 use Rattle.iv_gate.specs.Gate.{Gate, answer_text, asked_by, came, went, entries_of, is_accepted, known_at, known_of, may_have, names_of}
 use Rattle.iv_gate.specs.Restoring.{are_rising}
 use Rattle.iv_gate.proofs.NameVerdicts.{is_new-verdict, first_known-append}
@@ -272,7 +272,7 @@ pub record IsNext (g : Gate) (s : Step) : Type 0 where
   pub rises : position g < s.to
   pub accepted : is_some (first_refused 1 (map fact_of s.requests) (shared g.machine)) ≡ false
 
-pub IsNext-fault_of : (g : Gate) (s : Step) → is_some (fault_of g s) ≡ false → is_behind g s ≡ false → IsNext g s
+pub IsNext-fault_of : (g : Gate) (s : Step) → is_some (fault_of g s) ≡ false → was_taken g s ≡ false → IsNext g s
 IsNext-fault_of g s f b =
     by (if_some g.head.log false (is_log s.log)) ((s.from == position g) && nat_lt s.from s.to) refl (first_known 1 s.names (known_of g)) refl (ap (λ t. is_some (cond t None later)) (sym b) ∙ f)
   where

@@ -16,7 +16,7 @@ use Rattle.iv_message.specs.Told.{Told, welcome, replied, opened, settled, place
 use Rattle.iv_clients.specs.Bounds.{most_subs}
 use Rattle.iv_clients.specs.Clients.{Client, Sub, answered, at_client, client_at, closing, followed_by, fresh, may_say, saying, told, told_one}
 use Rattle.iv_clients.specs.Feeds.{Feed, feed_for, room_for}
-use Rattle.iv_clients.specs.Journal.{Entry, said_by, shape_for, Request, claim_said}
+use Rattle.iv_records.specs.Journal.{Entry, said_by, shape_for, Request, claim_said}
 use Rattle.iv_clients.proofs.Slots.{client_at-at_client, same-Some, not_None-Some}
 use Rattle.iv_gate.specs.Events.{Event, presented, message, gone, known, ticked, synced, handed, failed, happens, next, arrived, forgave}
 use Rattle.iv_gate.specs.Gate.{Gate, begun_for, closes, done_for, hears, seated, settles, swept, tells, asked_by, at_text, decided_elsewhere, entered, entries_of, may_have, names_of, reply_told}
@@ -29,7 +29,7 @@ use Rattle.iv_gate.proofs.OwnReplies.{Answer, Behind, IsClosing, act_reply, aske
 use Rattle.iv_gate.proofs.EventMarks.{next-alive as is_alive, is_gone, next-dead, AreTouched-next}
 use Rattle.iv_gate.proofs.ShapeTexts.{all_made, filter-all_false, told-fresh, cond-either}
 use Rattle.iv_once.specs.Names.{Ask, Verdict, verdict, carry, again, another, late, foreign, ahead, over}
-use Rattle.iv_clients.specs.Names.{Claim}
+use Rattle.iv_records.specs.Names.{Claim}
 use Rattle.iv_clients.specs.Tokens.{Token}
 use Rattle.iv_gate.proofs.StepRelations.{request_of}
 
@@ -281,35 +281,35 @@ opened_of ts us vs t a b =
     filter-append is_opened ts (us ++ t ∷ vs)
     ∙ ap (λ z. filter is_opened ts ++ z) (filter-append is_opened us (t ∷ vs) ∙ ((λ i. filter-no_replies us a i ++ cond (is_opened t) (t ∷ filter-no_replies vs b i) (filter-no_replies vs b i))))
 
--- what a client that comes in is told after its welcome
-abbrev behind_welcome : List Entry → Name → List ℕ → List Told
-behind_welcome es role at = placed at ∷ (shape_for role es ++ settled ∷ [])
+-- what a client that comes in is told after its welcome and its place
+abbrev after_place : List Entry → Name → List Told
+after_place es role = shape_for role es ++ settled ∷ []
 
 -- it is no reply
-greeting_quiet : (es : List Entry) (role : Name) (at : List ℕ) → replies (behind_welcome es role at) ≡ []
-greeting_quiet es role at = replies-none (shape_for role es) (settled ∷ []) (filter-all_false is_reply (shape_for role es) (all_made (λ t. is_reply t ≡ false) (λ r line. refl) role es)) refl
+greeting_quiet : (es : List Entry) (role : Name) → replies (after_place es role) ≡ []
+greeting_quiet es role = replies-none (shape_for role es) (settled ∷ []) (filter-all_false is_reply (shape_for role es) (all_made (λ t. is_reply t ≡ false) (λ r line. refl) role es)) refl
 
 greeting_opens : (es : List Entry) (t : Token) (at : List ℕ) → filter is_opened (told (fresh es t at)) ≡ []
-greeting_opens es t at = ap (filter is_opened) (told-fresh es t at) ∙ filter-no_replies (behind_welcome es t.role at) (greeting_quiet es t.role at)
+greeting_opens es t at = ap (filter is_opened) (told-fresh es t at) ∙ filter-no_replies (after_place es t.role) (greeting_quiet es t.role)
 
 pub IsAnswered-fresh : (es : List Entry) (t : Token) (at : List ℕ) → IsAnswered (fresh es t at)
 IsAnswered-fresh es t at = record {
-  welcome = (behind_welcome es t.role at, told-fresh es t at);
-  each = ap (λ z. length (replies z)) (told-fresh es t at) ∙ ap (λ z. length (welcome t.role ∷ z)) (greeting_quiet es t.role at);
+  welcome = (at, after_place es t.role, told-fresh es t at);
+  each = ap (λ z. length (replies z)) (told-fresh es t at) ∙ ap (λ z. length (welcome t.role ∷ placed at ∷ z)) (greeting_quiet es t.role);
   given = ap length (sym (greeting_opens es t at));
 }
 
 pub IsAnswered-Hears : (c d : Client) → Hears c d → IsAnswered c → IsAnswered d
 IsAnswered-Hears c d x a = record {
-  welcome = (a.welcome.0 ++ x.more, x.text ∙ (ap (λ z. z ++ x.more) a.welcome.1 ∙ ap (λ r. welcome r ∷ (a.welcome.0 ++ x.more)) (sym x.role)));
+  welcome = (a.welcome.0, a.welcome.1 ++ x.more, x.text ∙ (ap (λ z. z ++ x.more) a.welcome.2 ∙ ap (λ r. welcome r ∷ placed a.welcome.0 ∷ (a.welcome.1 ++ x.more)) (sym x.role)));
   each = ap (λ z. length (replies z)) x.text
-      ∙ (ap length (replies-append (told c) x.more ∙ (ap (λ z. replies (told c) ++ z) x.quiet ∙ append-nil (replies (told c)))) ∙ (a.each ∙ ap (λ z. 1 + length z) (sym x.messages)));
+      ∙ (ap length (replies-append (told c) x.more ∙ (ap (λ z. replies (told c) ++ z) x.quiet ∙ append-nil (replies (told c)))) ∙ (a.each ∙ ap (λ z. 2 + length z) (sym x.messages)));
   given = x.given ∙ (a.given ∙ ap length (sym (ap (filter is_opened) x.text ∙ (filter-append is_opened (told c) x.more ∙ (ap (λ z. filter is_opened (told c) ++ z) (filter-no_replies x.more x.quiet) ∙ append-nil (filter is_opened (told c)))))));
 }
 
 pub IsAnswered-OwnAnswer : (g : Gate) (m : ℕ) (c : Client) (text : List ℕ) (d : Client) → OwnAnswer g m c text d → IsAnswered c → IsAnswered d
 IsAnswered-OwnAnswer g m c text d x a = record {
-  welcome = (a.welcome.0 ++ more, x.text ∙ (ap (λ z. z ++ more) a.welcome.1 ∙ ap (λ r. welcome r ∷ (a.welcome.0 ++ more)) (sym x.role)));
+  welcome = (a.welcome.0, a.welcome.1 ++ more, x.text ∙ (ap (λ z. z ++ more) a.welcome.2 ∙ ap (λ r. welcome r ∷ placed a.welcome.0 ∷ (a.welcome.1 ++ more)) (sym x.role)));
   each = each;
   given = given;
 }
@@ -320,13 +320,13 @@ IsAnswered-OwnAnswer g m c text d x a = record {
     more : List Told
     more = x.before ++ t ∷ x.others
 
-    plus : (n k : ℕ) → n ≡ 1 + k → n + 1 ≡ 1 + (k + 1)
+    plus : (n k : ℕ) → n ≡ 2 + k → n + 1 ≡ 2 + (k + 1)
     plus n k e = omega (arith, e)
 
-    each : length (replies (told d)) ≡ 1 + length d.messages
+    each : length (replies (told d)) ≡ 2 + length d.messages
     each = ap (λ z. length (replies z)) x.text
         ∙ (ap length (replies-one_reply (told c) x.before x.others t x.started x.alone (is_reply-said_reply (asked g m text) c text (said_by text)))
-        ∙ (length-append (replies (told c)) (t ∷ []) ∙ (plus (length (replies (told c))) (length c.messages) a.each ∙ ap (λ z. 1 + z) (sym (ap length x.messages ∙ length-append c.messages (text ∷ []))))))
+        ∙ (length-append (replies (told c)) (t ∷ []) ∙ (plus (length (replies (told c))) (length c.messages) a.each ∙ ap (λ z. 2 + z) (sym (ap length x.messages ∙ length-append c.messages (text ∷ []))))))
 
     by : (b : Bool) → is_opened t ≡ b → cond b (c.given + 1) c.given ≡ length (filter is_opened (told c)) + length (cond b (t ∷ []) [])
     by true e = ap (λ z. z + 1) a.given
@@ -356,7 +356,7 @@ closed_more c d own ms ts m t (place, id, (text, there, asks, reply)) = (
     text,
     ap (λ z. slice_get z place) m ∙ slice_get-append c.messages ms place text there,
     asks,
-    ap (λ z. slice_get (replies z) (place + 1)) t ∙ (ap (λ z. slice_get z (place + 1)) (replies-append (told c) ts) ∙ slice_get-append (replies (told c)) (replies ts) (place + 1) (replied id done) reply),
+    ap (λ z. slice_get (replies z) (place + 2)) t ∙ (ap (λ z. slice_get z (place + 2)) (replies-append (told c) ts) ∙ slice_get-append (replies (told c)) (replies ts) (place + 2) (replied id done) reply),
   ),
 )
 
@@ -394,7 +394,7 @@ answers_settled g m c text d x a =
     more : List Told
     more = x.before ++ t ∷ x.others
 
-    plus : (n : ℕ) → 1 + n ≡ n + 1
+    plus : (n : ℕ) → 2 + n ≡ n + 2
     plus n = omega arith
 
     -- the message closed it
@@ -406,8 +406,8 @@ answers_settled g m c text d x a =
         text,
         ap (λ z. slice_get z (length c.messages)) x.messages ∙ slice_get-append_length c.messages text [],
         k.asks,
-        ap (λ z. slice_get (replies z) (length c.messages + 1)) x.text
-            ∙ (ap (λ z. slice_get z (length c.messages + 1)) (replies-one_reply (told c) x.before x.others t x.started x.alone (is_reply-said_reply (asked g m text) c text (said_by text)))
+        ap (λ z. slice_get (replies z) (length c.messages + 2)) x.text
+            ∙ (ap (λ z. slice_get z (length c.messages + 2)) (replies-one_reply (told c) x.before x.others t x.started x.alone (is_reply-said_reply (asked g m text) c text (said_by text)))
             ∙ (ap (λ i. slice_get (replies (told c) ++ t ∷ []) i) (sym (a.0.each ∙ plus (length c.messages))) ∙ (slice_get-append_length (replies (told c)) t [] ∙ ap Some k.tells))),
       ),
     )

@@ -12,7 +12,7 @@ use Rattle.iv_message.specs.Told.{Told, settled}
 use Rattle.iv_clients.specs.Bounds.{most_piled, most_requests, most_subs, most_waiting}
 use Rattle.iv_clients.specs.Clients.{Client, Shown, Slots, Sub, answered, at_all, at_client, beating, by_others, checked, client_at, dropping, fresh, handing, is_slow, may_say, opens, released, saying, settling, staying, telling, text_shown, told_one, waiting}
 use Rattle.iv_clients.specs.Feeds.{ends_in, is_of_role}
-use Rattle.iv_clients.specs.Journal.{Entry, said_by, shape_for}
+use Rattle.iv_records.specs.Journal.{Entry, said_by, shape_for}
 use Rattle.iv_clients.specs.Tokens.{Token}
 use Rattle.iv_clients.proofs.Slots.{client_at-at_all, client_at-at_other_client, client_at-at_client, not_client_at-replicate, same-Some}
 use Rattle.iv_gate.specs.Events.{Event, presented, message, gone, known, ticked, synced, handed, failed, happens, next, arrived, forgave}
@@ -33,7 +33,7 @@ use Rattle.iv_gate.proofs.SoundCommands.{Adds, IsSoundGate, Seer, Sounds, AreOwn
 use Rattle.iv_gate.proofs.NumberSums.{AreOwn, or-both_false}
 use Rattle.iv_gate.proofs.EventMarks.{next-alive as is_alive, came_as, sign-came_as, next-dead, marks_in-said, AreTouched-next, sign-went, marks_in-takes}
 use Rattle.iv_gate.proofs.ClientFacts.{Kit, Later, to_done, landed_client, step_told, client_at-takes}
-use Rattle.iv_gate.specs.Arriving.{fault_of, is_behind, landed, entry_of, fact_of, takes}
+use Rattle.iv_gate.specs.Arriving.{fault_of, was_taken, landed, entry_of, fact_of, takes}
 use Rattle.iv_steps.specs.Steps.{stepped}
 use Rattle.iv_gate.proofs.StepsTaken.{IsLed-stepped}
 use Rattle.iv_journal.specs.Journal.{Line}
@@ -401,7 +401,7 @@ happens_last sounds g (known tokens) b = omega arith
 happens_last sounds g ticked b = omega arith
 happens_last sounds g synced b = omega arith
 happens_last sounds g (handed m) b = omega arith
-happens_last sounds g (arrived s) b = by (is_some (fault_of g s)) (is_behind g s) (stepped (map fact_of s.requests) g.machine) refl
+happens_last sounds g (arrived s) b = by (is_some (fault_of g s)) (was_taken g s) (stepped (map fact_of s.requests) g.machine) refl
   where
     by : (x y : Bool) (o : Option Outcome) → stepped (map fact_of s.requests) g.machine ≡ o
         → (cond x (record g { dead = true }) (cond y g (if_some o g (landed g (entry_of s))))).machine.frame.last ≤ 1 + g.machine.frame.last

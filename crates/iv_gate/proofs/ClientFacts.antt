@@ -11,13 +11,13 @@ use Rattle.iv_message.specs.Message.{Message}
 use Rattle.iv_message.specs.Told.{Told, made, granted}
 use Rattle.iv_clients.specs.Clients.{Client, Slots, at_all, at_client, client_at, closing, following, moved, settling, staying, telling, told_one, own_lines}
 use Rattle.iv_clients.specs.Feeds.{Seat}
-use Rattle.iv_clients.specs.Journal.{Entry, Request, shape_for}
+use Rattle.iv_records.specs.Journal.{Entry, Request, shape_for}
 use Rattle.iv_once.specs.Names.{Ask}
 use Rattle.iv_clients.proofs.Slots.{client_at-at_all, client_at-at_other_client, client_at-at_client, same-Some}
 use Rattle.iv_gate.specs.Gate.{Gate, all_rested, all_swept, done_for, entered, entries_of, in_session, ran, replies_to, reply_to, reply_told, done_in, settles, informs, tells, told_of, with_session, went_on}
 use Rattle.iv_gate.proofs.ShapeTexts.{all_made}
 use Rattle.iv_gate.proofs.StepRelations.{Steps, request_of, step_all_rested, step_all_swept, step_done, step_with}
-use Rattle.iv_gate.specs.Arriving.{Step, entry_of, fact_of, fault_of, is_behind, landed, newly, takes}
+use Rattle.iv_gate.specs.Arriving.{Step, entry_of, fact_of, fault_of, was_taken, landed, newly, takes}
 use Rattle.iv_rows.specs.Options.{if_some}
 use Rattle.iv_steps.specs.Steps.{stepped}
 
@@ -59,7 +59,7 @@ client_at-landed g e o j c t =
 -- whatever comes of a step, a client stays as it is, or is told of it
 pub client_at-takes : (P : Client → Type 0) (g : Gate) (s : Step) (j : ℕ) (c d : Client) → client_at g.clients j ≡ Some c → client_at (takes g s).clients j ≡ Some d → P c
     → ((o : Outcome) → stepped (map fact_of s.requests) g.machine ≡ Some o → P (landed_client g (entry_of s) o c)) → P d
-client_at-takes P g s j c d t k same led = by (is_some (fault_of g s)) (is_behind g s) (stepped (map fact_of s.requests) g.machine) refl k
+client_at-takes P g s j c d t k same led = by (is_some (fault_of g s)) (was_taken g s) (stepped (map fact_of s.requests) g.machine) refl k
   where
     by : (x y : Bool) (o : Option Outcome) → stepped (map fact_of s.requests) g.machine ≡ o → client_at (cond x (record g { dead = true }) (cond y g (if_some o g (landed g (entry_of s))))).clients j ≡ Some d → P d
     by true y o e i = subst P (same-Some c d (sym t ∙ i)) same
@@ -153,7 +153,7 @@ module _ (m : ℕ) (R : ℕ → Client → Client → Type 0) (kit : Kit m R) wh
   pub to_takes : (g : Gate) (s : Step)
       → ((o : Outcome) → stepped (map fact_of s.requests) g.machine ≡ Some o → (j : ℕ) (c : Client) → R j c (staying o.lines (telling (g.entries ++ entry_of s ∷ []) (step_told g o c) c)))
       → Leads R g.clients (takes g s).clients
-  to_takes g s hear = by (is_some (fault_of g s)) (is_behind g s) (stepped (map fact_of s.requests) g.machine) refl
+  to_takes g s hear = by (is_some (fault_of g s)) (was_taken g s) (stepped (map fact_of s.requests) g.machine) refl
     where
       by : (d p : Bool) (o : Option Outcome) → stepped (map fact_of s.requests) g.machine ≡ o
           → Leads R g.clients (cond d (record g { dead = true }) (cond p g (if_some o g (landed g (entry_of s))))).clients

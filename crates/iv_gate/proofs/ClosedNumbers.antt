@@ -7,7 +7,7 @@ use Rattle.iv_machine.specs.Act.{done, refused, unknown_subscription, unsubscrib
 use Rattle.iv_message.specs.Message.{Message, request, unknown}
 use Rattle.iv_message.specs.Told.{Told, replied, unasked}
 use Rattle.iv_clients.specs.Clients.{Client, fresh, told, followed_by}
-use Rattle.iv_clients.specs.Journal.{Entry, said_by, claim_said}
+use Rattle.iv_records.specs.Journal.{Entry, said_by, claim_said}
 use Rattle.iv_clients.proofs.Slots.{not_None-Some}
 use Rattle.iv_gate.specs.Gate.{Gate, may_have}
 use Rattle.iv_gate.specs.Replies.{IsAnswered, is_opened, replies}
@@ -71,7 +71,7 @@ hears_shut c d x a = record {
 
     before : (own : ℕ) → IsClosed d own → IsClosed c own
     before own (place, id, (text, there, asks, reply)) =
-        (place, id, (text, ap (λ z. slice_get z place) (sym x.messages) ∙ there, asks, ap (λ z. slice_get z (place + 1)) (sym same) ∙ reply))
+        (place, id, (text, ap (λ z. slice_get z place) (sym x.messages) ∙ there, asks, ap (λ z. slice_get z (place + 2)) (sym same) ∙ reply))
 
 -- the reply says that it is done where the client has the number
 done_has : (g : Gate) (c : Client) (text : List ℕ) (s : Message) (id : Option Data) (own : ℕ) → s ≡ request id (unsubscribe own) → said_reply g c text s ≡ replied id done → is_own own c.subs ≡ true
@@ -153,19 +153,19 @@ answers_shut g m c text d x n a = record {
     all : replies (told d) ≡ replies (told c) ++ t ∷ []
     all = ap replies x.text ∙ replies-one_reply (told c) x.before x.others t x.started x.alone (is_reply-said_reply (asked g m text) c text (said_by text))
 
-    plus : (i j k : ℕ) → k ≡ 1 + j → i + 1 ≡ k → i ≡ j
+    plus : (i j k : ℕ) → k ≡ 2 + j → i + 2 ≡ k → i ≡ j
     plus i j k e f = omega (arith, e, f)
 
-    minus : (i j k : ℕ) → k ≡ 1 + j → i ≡ j → i + 1 ≡ k
+    minus : (i j k : ℕ) → k ≡ 2 + j → i ≡ j → i + 2 ≡ k
     minus i j k e f = omega (arith, e, f)
 
     at : (own place : ℕ) (id : Option Data) (u : List ℕ) → said_by u ≡ request id (unsubscribe own)
         → (slice_get c.messages place ≡ Some u) ⊎ ((place ≡ length c.messages) × (Some text ≡ Some u))
-        → (slice_get (replies (told c)) (place + 1) ≡ Some (replied id done)) ⊎ ((place + 1 ≡ length (replies (told c))) × (Some t ≡ Some (replied id done)))
+        → (slice_get (replies (told c)) (place + 2) ≡ Some (replied id done)) ⊎ ((place + 2 ≡ length (replies (told c))) × (Some t ≡ Some (replied id done)))
         → (own ≤ d.given) × (is_own own d.subs ≡ false)
     at own place id u s (inl h) (inl k) = old own (place, id, (u, h, s, k))
     at own place id u s (inl h) (inr k) = absurd (not_behind c.messages place u h (plus place (length c.messages) (length (replies (told c))) a.answered.each k.0))
-    at own place id u s (inr h) (inl k) = absurd (not_behind (replies (told c)) (place + 1) (replied id done) k (minus place (length c.messages) (length (replies (told c))) a.answered.each h.0))
+    at own place id u s (inr h) (inl k) = absurd (not_behind (replies (told c)) (place + 2) (replied id done) k (minus place (length c.messages) (length (replies (told c))) a.answered.each h.0))
     at own place id u s (inr h) (inr k) = new own id (ap said_by (same_of h.1) ∙ s) (same_of k.1)
       where
         same_of : {X : Type 0} {y z : X} → Some y ≡ Some z → y ≡ z
@@ -174,7 +174,7 @@ answers_shut g m c text d x n a = record {
     is_shut : (own : ℕ) → IsClosed d own → (own ≤ d.given) × (is_own own d.subs ≡ false)
     is_shut own (place, id, (u, there, asks, reply)) = at own place id u asks
         (at_end c.messages text place u (ap (λ z. slice_get z place) (sym x.messages) ∙ there))
-        (at_end (replies (told c)) t (place + 1) (replied id done) (ap (λ z. slice_get z (place + 1)) (sym all) ∙ reply))
+        (at_end (replies (told c)) t (place + 2) (replied id done) (ap (λ z. slice_get z (place + 2)) (sym all) ∙ reply))
 
 keeps_shut : Came IsShut
 keeps_shut = record { new = new_shut; hears = hears_shut; answers = answers_shut }

@@ -41,7 +41,7 @@ use Rattle.iv_gate.proofs.SoundSteps.{AllByRecursion-feed_of}
 use Rattle.iv_gate.proofs.ClientViews.{AddsToView-IsSoundGate}
 use Rattle.iv_gate.proofs.SoundCommands.{Adds, IsFeed, IsFollowing, IsSoundClient, IsSoundGate, Sounds, seer}
 use Rattle.iv_gate.proofs.NumberSums.{AreOwn, list_any-above_given, eq-false_turned, eq-turned, or-both_false, eq-itself, sum_for-append, sum_for}
-use Rattle.iv_clients.specs.Journal.{Entry}
+use Rattle.iv_records.specs.Journal.{Entry}
 use Rattle.iv_gate.specs.Arriving.{Step, entry_of, fact_of, newly}
 use Rattle.iv_steps.specs.Steps.{all_carried, among, looked_at, shared}
 use Rattle.iv_gate.proofs.CommandEnds.{shown-stepped}

@@ -11,11 +11,11 @@ use Rattle.iv_machine.specs.State.{State, start}
 use Rattle.iv_once.specs.Names.{Ask}
 use Rattle.iv_steps.specs.Steps.{Fact, all_carried, carried, shared, stepped}
 use Rattle.iv_clients.specs.Clients.{Shown, at_client, saying}
-use Rattle.iv_clients.specs.Journal.{Entry, Request, is_shared}
-use Rattle.iv_clients.specs.Laws.{ReadsBack}
+use Rattle.iv_records.specs.Journal.{Entry, Request, is_shared}
+use Rattle.iv_records.specs.Laws.{ReadsBack}
 use Rattle.iv_clients.specs.Tokens.{Token}
 use Rattle.iv_journal.specs.Journal.{Line}
-use Rattle.iv_gate.specs.Arriving.{Step, entry_of, fact_of, fault_of, is_behind, landed, takes}
+use Rattle.iv_gate.specs.Arriving.{Step, entry_of, fact_of, fault_of, was_taken, landed, takes}
 use Rattle.iv_gate.specs.Events.{Event, presented, message, gone, known, ticked, synced, handed, arrived, forgave, failed, happens, next}
 use Rattle.iv_gate.specs.Gate.{Gate, Head, answering, done_in, in_session, is_accepted, ran, replies_to, reply_in}
 use Rattle.iv_gate.specs.Laws.{CrashesAreSafe, LeadsBack}
@@ -109,7 +109,7 @@ landed_led : Sounds → (cap : ℕ) (g : Gate) (s : Step) (o : Outcome) → step
 landed_led sounds cap g s o h b l = entry_more cap g.entries (entry_of s) g.machine o.state (sounds.told (map fact_of s.requests) g.machine o b.state h).shared l
 
 takes_led : Sounds → (cap : ℕ) (g : Gate) (s : Step) → IsSoundGate g → IsLed cap g → IsLed cap (takes g s)
-takes_led sounds cap g s b l = by (is_some (fault_of g s)) (is_behind g s) (stepped (map fact_of s.requests) g.machine) refl
+takes_led sounds cap g s b l = by (is_some (fault_of g s)) (was_taken g s) (stepped (map fact_of s.requests) g.machine) refl
   where
     by : (d p : Bool) (o : Option Outcome) → stepped (map fact_of s.requests) g.machine ≡ o → IsLed cap (cond d (record g { dead = true }) (cond p g (if_some o g (landed g (entry_of s)))))
     by true p o e = l

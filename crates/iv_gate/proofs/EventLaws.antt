@@ -9,20 +9,20 @@ use Rattle.iv_machine.specs.declared.Cause.{Cause}
 use Rattle.iv_machine.specs.Machine.{Outcome, difference}
 use Rattle.iv_message.specs.Told.{Told, over}
 use Rattle.iv_clients.specs.Clients.{Client, Shown, all_shown, client_at, followed_by, fresh, handing, may_say, saying, told}
-use Rattle.iv_clients.specs.Journal.{IsRequest, Request, is_shared, said_by}
-use Rattle.iv_clients.specs.Names.{holder_of, place_text}
+use Rattle.iv_records.specs.Journal.{IsRequest, Request, is_shared, said_by}
+use Rattle.iv_records.specs.Names.{holder_of, place_text}
 use Rattle.iv_steps.specs.Laws.{RefusalsAreFound}
 use Rattle.iv_steps.specs.Steps.{stepped}
 use Rattle.iv_clients.proofs.Slots.{same-Some}
-use Rattle.iv_gate.specs.Arriving.{Step, entry_of, fact_of, fault_of, is_behind}
+use Rattle.iv_gate.specs.Arriving.{Step, entry_of, fact_of, fault_of, was_taken}
 use Rattle.iv_gate.specs.Events.{Event, presented, message, gone, known, ticked, synced, handed, arrived, forgave, failed, IsWell, happens, next}
 use Rattle.iv_gate.specs.Gate.{Gate, hears, place_of}
 use Rattle.iv_gate.specs.Implied.{EndsForCause}
 use Rattle.iv_gate.specs.Laws.{AddsOnly, AreShown, HasMarks, LeavesMarks, marked}
-use Rattle.iv_gate.specs.Replies.{ByClient, IsClient, added_by, heard_by, is_opened, place_behind, told_by}
+use Rattle.iv_gate.specs.Replies.{ByClient, IsClient, added_by, heard_by, is_opened, place_after, told_by}
 use Rattle.iv_gate.specs.Seen.{IsEnd, TellsDifference, hindrance, is_told_of, read_by}
-use Rattle.iv_gate.specs.Touched.{AreTouched, IsNewcomer, StaysItself, itself_behind}
-use Rattle.iv_gate.proofs.NameVerdicts.{place_text-place_behind}
+use Rattle.iv_gate.specs.Touched.{AreTouched, IsNewcomer, StaysItself, itself_after}
+use Rattle.iv_gate.proofs.NameVerdicts.{place_text-place_after}
 use Rattle.iv_gate.proofs.ClientAnswers.{told_by-told_more, is_own-not_followed_by, IsOwn-heard_by, followed_by-not_is_own, Hears-heard_by, OwnAnswer-IsOwn}
 use Rattle.iv_gate.proofs.AddedEntries.{entries-came, IsNext-fault_of, entries-went}
 use Rattle.iv_gate.proofs.GrownTexts.{drop-append_front, map-append_front}
@@ -76,7 +76,7 @@ facts_shared [] w = tt
 facts_shared (q ∷ qs) w = (w.0.shared, facts_shared qs w.1)
 
 -- a step without a fault that is not behind is taken
-step_taken : RefusalsAreFound → (g : Gate) (s : Step) → AllByRecursion IsRequest s.requests → is_some (fault_of g s) ≡ false → is_behind g s ≡ false → is_some (stepped (map fact_of s.requests) g.machine) ≡ true
+step_taken : RefusalsAreFound → (g : Gate) (s : Step) → AllByRecursion IsRequest s.requests → is_some (fault_of g s) ≡ false → was_taken g s ≡ false → is_some (stepped (map fact_of s.requests) g.machine) ≡ true
 step_taken found g s w f b =
     taken_if (is_some (stepped (map fact_of s.requests) g.machine)) (sym (found (map fact_of s.requests) g.machine (facts_shared s.requests w)) ∙ (IsNext-fault_of g s f b).accepted)
   where
@@ -86,12 +86,12 @@ step_taken found g s w f b =
 
 adds_only : RefusalsAreFound → (g : Gate) (e : Event) → IsWell e → g.dead ≡ false → AddsOnly g e (added_by g e)
 adds_only found g (arrived s) w live =
-    drop_more (ap (λ (x : Gate). x.entries) (awake g (arrived s) live) ∙ ap (λ (x : Sign). x.entries) (sign-takes g s)) ∙ by (is_some (fault_of g s)) refl (is_behind g s) refl (stepped (map fact_of s.requests) g.machine) refl
+    drop_more (ap (λ (x : Gate). x.entries) (awake g (arrived s) live) ∙ ap (λ (x : Sign). x.entries) (sign-takes g s)) ∙ by (is_some (fault_of g s)) refl (was_taken g s) refl (stepped (map fact_of s.requests) g.machine) refl
   where
     drop_more : (next g (arrived s)).entries ≡ g.entries ++ taken_by g s → added_by g (arrived s) ≡ taken_by g s
     drop_more h = ap (drop (length g.entries)) h ∙ drop-append_front g.entries (taken_by g s)
 
-    by : (d : Bool) → is_some (fault_of g s) ≡ d → (p : Bool) → is_behind g s ≡ p → (o : Option Outcome) → stepped (map fact_of s.requests) g.machine ≡ o
+    by : (d : Bool) → is_some (fault_of g s) ≡ d → (p : Bool) → was_taken g s ≡ p → (o : Option Outcome) → stepped (map fact_of s.requests) g.machine ≡ o
         → cond d [] (cond p [] (if_some o [] (λ x. entry_of s ∷ []))) ≡ cond (p || d) [] (entry_of s ∷ [])
     by true e true k o h = refl
     by true e false k o h = refl
@@ -121,7 +121,7 @@ LeavesMarks-IsWell found g e w live = record { grows = entries-next g e live; on
 
 -- ---- clients
 
-itself_card : (m : ℕ) (c : Client) (e : Event) → card_behind m c e ≡ card (itself_behind m c e)
+itself_card : (m : ℕ) (c : Client) (e : Event) → card_behind m c e ≡ card (itself_after m c e)
 itself_card m c (message n text) = by (n == m && may_say c)
   where
     by : (b : Bool) → cond b (card (saying text c)) (card c) ≡ card (if_some (cond b (Some text) None) c (λ t. saying t c))
@@ -173,8 +173,8 @@ newcomer g e m d live x =
     let head : (next g e).head ≡ g.head = ap (λ (z : Event). (next g z).head) x.event ∙ ap (λ (z : Gate). z.head) (has_marks g (presented m x.text) live) in
     let entries : (next g e).entries ≡ g.entries =
     ap (λ (z : Event). (next g z).entries) x.event ∙ (ap (λ (z : Gate). z.entries) (awake g (presented m x.text) live) ∙ entries-came g m x.text) in
-    let place : place_text (place_of (next g e) holder) ≡ place_behind g holder 0 =
-    place_text-place_behind (next g e) holder ∙ (λ i. place_behind (record g { head = head i; entries = entries i }) holder 0) in
+    let place : place_text (place_of (next g e) holder) ≡ place_after g holder 0 =
+    place_text-place_after (next g e) holder ∙ (λ i. place_after (record g { head = head i; entries = entries i }) holder 0) in
     record { text = x.text; token = x.token; event = x.event; opened = x.opened; is = x.is ∙ ap (fresh (next g e).entries x.token) place }
 
 pub AreTouched-event : (g : Gate) (e : Event) → g.dead ≡ false → AreTouched g e

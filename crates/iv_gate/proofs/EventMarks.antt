@@ -7,12 +7,12 @@ use Rattle.iv_rows.specs.Names.{is_name}
 use Rattle.iv_rows.specs.Options.{if_some}
 use Rattle.iv_clients.specs.Clients.{Client, Slots, at_all, at_client, beating, checked, client_at, dropping, fresh, handing, is_free, is_slow, may_say, opens, released, saying}
 use Rattle.iv_clients.specs.Feeds.{is_of_role}
-use Rattle.iv_clients.specs.Journal.{Entry}
+use Rattle.iv_records.specs.Journal.{Entry}
 use Rattle.iv_machine.specs.Machine.{Outcome}
 use Rattle.iv_steps.specs.Steps.{stepped}
 use Rattle.iv_clients.specs.Tokens.{Token, token_of}
 use Rattle.iv_clients.proofs.Slots.{client_at-at_all, client_at-at_other_client, client_at-at_client, is_free-client_at, same-Some, client_at-set_None, client_at-set_other, client_at-set_free, not_None-Some}
-use Rattle.iv_gate.specs.Arriving.{Step, entry_of, fact_of, fault_of, is_behind, landed, takes}
+use Rattle.iv_gate.specs.Arriving.{Step, entry_of, fact_of, fault_of, was_taken, landed, takes}
 use Rattle.iv_gate.specs.Events.{Event, presented, message, gone, known, ticked, synced, handed, arrived, forgave, failed, happens, next}
 use Rattle.iv_gate.specs.Gate.{Gate, all_rested, all_swept, at_text, came, has_session, hears, said, settles, token_for, went, with_session}
 use Rattle.iv_gate.specs.Replies.{added_by}
@@ -289,10 +289,10 @@ unchanged c = ap (λ d. Some ((marking (card c) d))) (sym (or_false c.dropped))
 
 -- what a step adds to the journal
 abbrev pub taken_by : Gate → Step → List Entry
-taken_by g s = cond (is_some (fault_of g s)) [] (cond (is_behind g s) [] (if_some (stepped (map fact_of s.requests) g.machine) [] (λ o. entry_of s ∷ [])))
+taken_by g s = cond (is_some (fault_of g s)) [] (cond (was_taken g s) [] (if_some (stepped (map fact_of s.requests) g.machine) [] (λ o. entry_of s ∷ [])))
 
 pub sign-takes : (g : Gate) (s : Step) → sign (takes g s) ≡ record { marks = marks_behind g (arrived s); entries = g.entries ++ taken_by g s; slots = marks_in g.clients }
-sign-takes g s = by (is_some (fault_of g s)) (is_behind g s) (stepped (map fact_of s.requests) g.machine)
+sign-takes g s = by (is_some (fault_of g s)) (was_taken g s) (stepped (map fact_of s.requests) g.machine)
   where
     with_marks : Marks → List Entry → Sign
     with_marks m es = record { marks = m; entries = es; slots = marks_in g.clients }

@@ -10,7 +10,7 @@ use Rattle.iv_machine.specs.Sound.{IsSoundState}
 use Rattle.iv_message.specs.Told.{Told, alive, changed, settled, granted}
 use Rattle.iv_clients.specs.Clients.{Client, Shown, Slots, Sub, answered, at_all, at_client, beating, checked, client_at, dropping, fresh, handing, is_slow, may_say, opens, released, saying, settling, told, told_one, own_lines, staying, telling}
 use Rattle.iv_clients.specs.Feeds.{is_of_role}
-use Rattle.iv_clients.specs.Journal.{Entry, said_by, requests_in, shape_for}
+use Rattle.iv_records.specs.Journal.{Entry, said_by, requests_in, shape_for}
 use Rattle.iv_clients.specs.Tokens.{Token}
 use Rattle.iv_clients.proofs.Slots.{client_at-at_all, client_at-at_other_client, client_at-at_client, is_free-client_at, same-Some, client_at-set_other, not_None-Some}
 use Rattle.iv_gate.specs.Events.{Event, presented, message, gone, known, ticked, synced, handed, failed, happens, next, arrived, forgave}
@@ -29,7 +29,7 @@ use Rattle.iv_gate.proofs.EventMarks.{next-alive as is_alive, came_as, sign-came
 use Rattle.iv_gate.proofs.ClientFacts.{Later, to_done, to_settles, to_then}
 use Rattle.iv_gate.specs.Laws.{is_made}
 use Rattle.std.proofs.lemmas.List.Elements.{filter-append}
-use Rattle.iv_gate.specs.Arriving.{Step, entry_of, fact_of, fault_of, is_behind, landed, newly, takes}
+use Rattle.iv_gate.specs.Arriving.{Step, entry_of, fact_of, fault_of, was_taken, landed, newly, takes}
 use Rattle.iv_steps.specs.Steps.{stepped}
 
 -- ---- one step and the next
@@ -361,7 +361,7 @@ data TakesBy (g : Gate) (s : Step) (h : Gate) (c d : Client) : Type 0 where
   lands : IsToldStep g h s c d → TakesBy g s h c d
 
 takes_all : (g : Gate) (s : Step) (j : ℕ) (c d : Client) → client_at g.clients j ≡ Some c → client_at (takes g s).clients j ≡ Some d → TakesBy g s (takes g s) c d
-takes_all g s j c d t k = by (is_some (fault_of g s)) (is_behind g s) (stepped (map fact_of s.requests) g.machine) refl k
+takes_all g s j c d t k = by (is_some (fault_of g s)) (was_taken g s) (stepped (map fact_of s.requests) g.machine) refl k
   where
     by : (x y : Bool) (o : Option Outcome) → stepped (map fact_of s.requests) g.machine ≡ o → let h = cond x (record g { dead = true }) (cond y g (if_some o g (landed g (entry_of s)))) in
         client_at h.clients j ≡ Some d → TakesBy g s h c d

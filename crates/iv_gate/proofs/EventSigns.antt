@@ -9,7 +9,7 @@ use Rattle.iv_message.specs.Told.{Told, granted, settled}
 use Rattle.iv_clients.specs.Clients as clients
 use Rattle.iv_clients.specs.Clients.{Client, Shown, Slots, at_all, at_client, closing, following, moved, own_lines, saying, settling, staying, telling, told_one}
 use Rattle.iv_clients.specs.Feeds.{Seat}
-use Rattle.iv_clients.specs.Journal.{Entry, Request, said_by, shape_for}
+use Rattle.iv_records.specs.Journal.{Entry, Request, said_by, shape_for}
 use Rattle.iv_once.specs.Names.{Ask}
 use Rattle.iv_clients.specs.Tokens.{Token}
 use Rattle.iv_gate.specs.Arriving.{landed, newly}

@@ -16,7 +16,7 @@ use Rattle.iv_message.specs.Told.{Told, replied, opened, fault, unasked, settled
 use Rattle.iv_clients.specs.Bounds.{most_subs}
 use Rattle.iv_clients.specs.Clients.{Client, Shown, Slots, Sub, answered, at_all, at_client, beating, checked, client_at, closing, dropping, followed_by, following, fresh, handing, is_followed, is_slow, may_say, moved, moved_sub, opens, released, saying, settling, staying, telling, told_one}
 use Rattle.iv_clients.specs.Feeds.{Feed, Seat, feed_for, feed_of, is_of_role, is_reading, room_for, seat_of, without_seat}
-use Rattle.iv_clients.specs.Journal.{Entry, said_by, shape_for, Request, claim_said}
+use Rattle.iv_records.specs.Journal.{Entry, said_by, shape_for, Request, claim_said}
 use Rattle.iv_clients.specs.Tokens.{Token}
 use Rattle.iv_clients.proofs.Slots.{client_at-at_all, client_at-at_client, client_at-is_free, IsFrom-option_map, not_client_at-replicate, same-Some, not_None-Some}
 use Rattle.iv_gate.specs.Events.{Event, presented, message, gone, known, ticked, synced, handed, failed, happens, next, forgave, arrived}
@@ -39,13 +39,13 @@ use Rattle.iv_gate.proofs.NumberSums.{AreOwn, AllByRecursion-zip, eq-false_turne
 use Rattle.iv_gate.proofs.EventMarks.{came_as, Opens-token_for, cond-same}
 use Rattle.iv_gate.proofs.FeedFollowers.{IsUsing-ran, AreFit, AreFollowed, Fits, IsUsing, AreFit-at_all, AreFit-at_client, is_followed-at_all, is_followed-at_one, is_followed-set_None, is_followed-at_client, is_followed-set, follows, follows-filter, none_but, IsUsing-subscribe, Shrinks-same_subs, IsUsing-shut, IsUsing-went_on}
 use Rattle.iv_gate.proofs.ShapeTexts.{cond-either}
-use Rattle.iv_clients.specs.Names.{Claim}
+use Rattle.iv_records.specs.Names.{Claim}
 use Rattle.iv_once.specs.Names.{Ask}
 use Rattle.iv_gate.proofs.RequestFates.{shares_so}
 use Rattle.iv_gate.proofs.StepRelations.{request_of}
 use Rattle.iv_journal.specs.Journal.{Line}
 use Rattle.iv_steps.specs.Steps.{Fact, stepped}
-use Rattle.iv_gate.specs.Arriving.{Step, entry_of, fact_of, fault_of, is_behind, landed, takes}
+use Rattle.iv_gate.specs.Arriving.{Step, entry_of, fact_of, fault_of, was_taken, landed, takes}
 use Rattle.iv_gate.proofs.ClientFacts.{step_told}
 
 -- ---- clients that follow what they did
@@ -538,7 +538,7 @@ using_landed sounds g e fs o h b a =
     using_settles (informs behind (e ∷ [])) (using_informs behind (e ∷ []) (IsUsing-went_on none_but now o (step_told g o) (omega (arith, same)) (record { followed = a.followed; fit = a.fit })))
 
 using_takes : Sounds → (g : Gate) (x : Step) → IsSoundGate g → IsUsing none_but g → IsUsing none_but (takes g x)
-using_takes sounds g x b a = by (is_some (fault_of g x)) (is_behind g x) (stepped (map fact_of x.requests) g.machine) refl
+using_takes sounds g x b a = by (is_some (fault_of g x)) (was_taken g x) (stepped (map fact_of x.requests) g.machine) refl
   where
     by : (d p : Bool) (o : Option Outcome) → stepped (map fact_of x.requests) g.machine ≡ o → IsUsing none_but (cond d (record g { dead = true }) (cond p g (if_some o g (landed g (entry_of x)))))
     by true p o e = record { followed = a.followed; fit = a.fit }

@@ -21,7 +21,7 @@ use Rattle.iv_machine.specs.declared.Cause.{Cause}
 use Rattle.iv_message.specs.Told.{Told, changed, over, granted}
 use Rattle.iv_clients.specs.Clients.{Client, Sub, followed_by, own_line, own_lines, told}
 use Rattle.iv_clients.specs.Feeds.{Feed, feed_of, rel_read}
-use Rattle.iv_clients.specs.Journal.{is_shared, Entry}
+use Rattle.iv_records.specs.Journal.{is_shared, Entry}
 use Rattle.iv_clients.proofs.Slots.{same-Some, not_None-Some}
 use Rattle.iv_gate.specs.Events.{Event, next}
 use Rattle.iv_gate.specs.Gate.{Gate, granted_by, in_session, is_accepted, reply_in, entries_of, reply_to}

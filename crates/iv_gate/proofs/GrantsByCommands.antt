@@ -28,8 +28,7 @@ use Rattle.iv_machine.specs.State.{Frame, State, rel_of}
 use Rattle.iv_machine.specs.Well.{is_grantee, is_well_act}
 use Rattle.iv_message.specs.Message.{Message, no_json, too_long, no_object, no_request, request, is_well_message, message_of, message_of_value, most_bytes, on_one_line}
 use Rattle.iv_message.proofs.Meaning.{ReadsWell, is_well_message-ReadsWell}
-use Rattle.iv_clients.specs.Bounds.{most_said}
-use Rattle.iv_clients.specs.Journal.{Parts, begins_object, not_request, said_by, said_in, with_front, id_parts, line_said}
+use Rattle.iv_records.specs.Journal.{Parts, begins_object, id_parts, line_said, most_said, not_request, said_by, said_in, with_front}
 use Rattle.iv_request.specs.Reading.{value_of}
 use Rattle.iv_gate.specs.Gate.{granted_by, has_some, is_member}
 use Rattle.iv_gate.proofs.SameFeeds.{and-both_true, bytes_eq-itself}

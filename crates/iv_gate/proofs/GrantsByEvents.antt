@@ -17,7 +17,7 @@ use Rattle.iv_message.proofs.Meaning.{ReadsWell}
 use Rattle.iv_message.specs.Told.{Told, changed, over, granted}
 use Rattle.iv_clients.specs.Clients.{Client, Shown, Sub, at_client, client_at, may_say, own_line, own_lines, saying, told}
 use Rattle.iv_clients.specs.Feeds.{Feed, Seat, is_of_role, rel_read, seat_of, without_seat}
-use Rattle.iv_clients.specs.Journal.{Entry, said_by, requests_in}
+use Rattle.iv_records.specs.Journal.{Entry, said_by, requests_in}
 use Rattle.iv_clients.specs.Tokens.{Token}
 use Rattle.iv_clients.proofs.Slots.{same-Some, not_None-Some}
 use Rattle.iv_journal.specs.Journal as journals
@@ -41,7 +41,7 @@ use Rattle.iv_gate.proofs.SessionFacts.{Sits, at_all_swept, at_done, at_with}
 use Rattle.iv_gate.proofs.SoundCommands.{Adds, IsSoundGate, Sounds}
 use Rattle.iv_gate.proofs.EventMarks.{came_as}
 use Rattle.iv_steps.specs.Steps.{Fact, all_carried, among, carried, is_shared, looked_at, shared, stepped, passed}
-use Rattle.iv_gate.specs.Arriving.{Step, entry_of, fact_of, fault_of, is_behind, landed, newly, takes}
+use Rattle.iv_gate.specs.Arriving.{Step, entry_of, fact_of, fault_of, was_taken, landed, newly, takes}
 
 -- ---- the superuser stays the first role
 
@@ -88,7 +88,7 @@ stepped_admin sounds fs s o b h = by (all_carried fs (shared s)) refl h
     by (Some t) q e = subst (λ (z : Outcome). HasAdmin z.state) (same-Some (looked_at s (among s t)) o e) (all_admin sounds fs (shared s) t b q)
 
 takes_admin : Sounds → (g : Gate) (s : Step) → HasAdmin g.machine → HasAdmin (takes g s).machine
-takes_admin sounds g s h = by (is_some (fault_of g s)) (is_behind g s) (stepped (map fact_of s.requests) g.machine) refl
+takes_admin sounds g s h = by (is_some (fault_of g s)) (was_taken g s) (stepped (map fact_of s.requests) g.machine) refl
   where
     by : (x y : Bool) (o : Option Outcome) → stepped (map fact_of s.requests) g.machine ≡ o → HasAdmin (cond x (record g { dead = true }) (cond y g (if_some o g (landed g (entry_of s))))).machine
     by true y o e = h

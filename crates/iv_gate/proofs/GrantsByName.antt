@@ -9,7 +9,7 @@ use Rattle.iv_machine.specs.Machine.{Outcome, difference, step}
 use Rattle.iv_message.specs.Told.{Told, changed, over, granted}
 use Rattle.iv_clients.specs.Clients.{Client, Sub, own_line, own_lines, told}
 use Rattle.iv_clients.specs.Feeds.{Feed, rel_read}
-use Rattle.iv_clients.specs.Journal.{Entry, requests_in, Request}
+use Rattle.iv_records.specs.Journal.{Entry, requests_in, Request}
 use Rattle.iv_gate.specs.Events.{Event, next, arrived, failed, forgave, gone, handed, known, message, presented, synced, ticked}
 use Rattle.iv_gate.specs.Gate.{Gate, granted_by, is_accepted, entries_of, has_some, reply_to}
 use Rattle.iv_gate.specs.Laws.{GrantsAreTold, granted_at, is_granted}

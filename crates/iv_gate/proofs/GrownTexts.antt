@@ -5,7 +5,7 @@ use Rattle.iv_machine.specs.Act.{Command}
 use Rattle.iv_machine.specs.Machine.{step}
 use Rattle.iv_message.specs.Told.{Told, made, settled}
 use Rattle.iv_clients.specs.Clients.{Client, Shown, all_shown, settling, staying, telling, told_one}
-use Rattle.iv_clients.specs.Journal.{Entry}
+use Rattle.iv_records.specs.Journal.{Entry}
 use Rattle.iv_gate.specs.Gate.{Gate, told_of}
 use Rattle.iv_gate.proofs.ClientFacts.{Kit}
 

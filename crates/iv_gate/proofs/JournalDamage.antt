@@ -10,10 +10,10 @@ use Rattle.iv_machine.specs.State.{State}
 use Rattle.iv_once.specs.Names.{Known, Named, learned, named}
 use Rattle.iv_journal.specs.Journal.{Line}
 use Rattle.iv_steps.specs.Steps.{Fact, all_carried, carried}
-use Rattle.iv_clients.specs.Journal.{Entry, IsEntry, journal_of, names_in, record_of, requests_in, texts_of}
-use Rattle.iv_clients.specs.Laws.{Begins, ReadsBack}
-use Rattle.iv_clients.specs.Names.{limits}
-use Rattle.iv_clients.specs.Parsed.{record_in}
+use Rattle.iv_records.specs.Journal.{Entry, IsEntry, journal_of, names_in, record_of, requests_in, texts_of}
+use Rattle.iv_records.specs.Laws.{Begins, ReadsBack}
+use Rattle.iv_records.specs.Names.{limits}
+use Rattle.iv_records.specs.Parsed.{record_in}
 use Rattle.iv_clients.proofs.Slots.{same-Some, not_None-Some}
 use Rattle.iv_gate.specs.Arriving.{Fault, fact_of, first_known, is_new, not_new, position}
 use Rattle.iv_gate.specs.Gate.{Gate, known_of}
@@ -228,7 +228,7 @@ either_way reads g lines = by (far reads (length lines) g lines [] lines refl (l
         rest = x ∷ xs;
         all = a;
         leads = l.on;
-        behind = refl;
+        after = refl;
         some = less (length (journal_of es)) (length xs) (length lines) (ap length a ∙ length-append (journal_of es) (x ∷ xs));
         bad = s;
       },
@@ -284,7 +284,7 @@ damaged_once : ReadsBack → (g : Gate) (lines : List Line) (p q : ℕ) → IsDa
 damaged_once reads g lines p q x y = by (Compared-journal_of reads x.entries y.entries x.rest y.rest x.leads.well y.leads.well (sym x.all ∙ y.all))
   where
     by : Compared x.entries y.entries x.rest y.rest → p ≡ q
-    by (same a b) = x.behind ∙ (ap (λ z. length (journal_of z)) a ∙ sym y.behind)
+    by (same a b) = x.after ∙ (ap (λ z. length (journal_of z)) a ∙ sym y.after)
     by (shorter f more a b) = absurd (no_further g x.entries y.entries y.gate x.rest y.rest f more x.bad y.leads a b)
     by (longer e more a b) = absurd (no_further g y.entries x.entries x.gate y.rest x.rest e more y.bad x.leads a b)
 
@@ -295,7 +295,7 @@ never_both reads g lines h place x y = by (Compared-journal_of reads y.entries h
     itself n m h k = omega (arith, h, k)
 
     by : Compared y.entries h.entries y.rest [] → ⊥
-    by (same a b) = itself place (length lines) (y.behind ∙ (ap length (sym (append-nil (journal_of y.entries)) ∙ ap (λ z. journal_of y.entries ++ z) (sym b)) ∙ ap length (sym y.all))) y.some
+    by (same a b) = itself place (length lines) (y.after ∙ (ap length (sym (append-nil (journal_of y.entries)) ∙ ap (λ z. journal_of y.entries ++ z) (sym b)) ∙ ap length (sym y.all))) y.some
     by (shorter f more a b) = no_further g y.entries h.entries h y.rest [] f more y.bad x.leads a b
     by (longer e more a b) = not_nothing-journal_of e more y.rest (IsEntry-append h.entries y.entries e more a y.leads.well) b
 

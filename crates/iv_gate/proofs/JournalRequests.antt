@@ -10,11 +10,10 @@ use Rattle.iv_access.specs.Rights.{Name}
 use Rattle.iv_machine.specs.Act.{Act}
 use Rattle.iv_request.specs.Reading.{value_of}
 use Rattle.iv_message.specs.Message.{Message, no_json, too_long, no_object, no_request, request, id_in, message_of, on_one_line}
-use Rattle.iv_clients.specs.Bounds.{most_said}
-use Rattle.iv_clients.specs.Journal.{IsRequest, Parts, begins_object, has_newline, id_in_front, id_parts, is_blank, is_shared, line_said, not_request, parts_of, said_by, said_in, unindented, with_brace, with_front}
-use Rattle.iv_clients.specs.Names.{Claim, Spelled, behind_count, behind_epoch, behind_name, between, claim_in, claimed, count_in, is_epoch, is_random, spelled_in}
-use Rattle.iv_clients.specs.Tokens.{behind, cut_at}
-use Rattle.iv_clients.proofs.Cuts.{same-behind, same-cut_at, Found-option_and_then}
+use Rattle.iv_records.specs.Journal.{IsRequest, Parts, begins_object, has_newline, id_in_front, id_parts, is_blank, is_shared, line_said, most_said, not_request, parts_of, said_by, said_in, unindented, with_brace, with_front}
+use Rattle.iv_records.specs.Names.{Claim, Spelled, behind_count, behind_epoch, behind_name, claim_in, claimed, count_in, is_epoch, is_random, spelled_in}
+use Rattle.iv_records.specs.Cuts.{between, behind, cut_at}
+use Rattle.iv_records.proofs.CutParts.{same-behind, same-cut_at, Found-option_and_then}
 use Rattle.iv_clients.proofs.Slots.{same-Some, not_None-Some}
 use Rattle.iv_gate.proofs.NumberSums.{or-both_false}
 

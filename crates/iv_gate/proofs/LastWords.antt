@@ -10,7 +10,7 @@ use Rattle.iv_machine.specs.Machine.{Outcome, step}
 use Rattle.iv_message.specs.Told.{Told, alive, changed, granted, opened, over, settled}
 use Rattle.iv_clients.specs.Clients.{Client, Sub, answered, at_client, beating, checked, client_at, dropping, following, handing, is_slow, may_say, opens, own_line, own_lines, released, saying, settling, staying, telling, told, told_one, at_all}
 use Rattle.iv_clients.specs.Feeds.{Feed, rel_read}
-use Rattle.iv_clients.specs.Journal.{Entry, said_by, shape_for}
+use Rattle.iv_records.specs.Journal.{Entry, said_by, shape_for}
 use Rattle.iv_clients.specs.Tokens.{Token}
 use Rattle.iv_clients.proofs.Slots.{client_at-at_all, client_at-at_other_client, client_at-at_client, same-Some}
 use Rattle.iv_gate.specs.Events.{Event, presented, message, gone, known, ticked, synced, handed, failed, happens, next, arrived, forgave}
@@ -30,7 +30,7 @@ use Rattle.iv_gate.proofs.SoundCommands.{Adds, IsSoundGate, Seer, Sounds, or_non
 use Rattle.iv_gate.proofs.EventMarks.{next-alive as is_alive, next-dead, AreTouched-next, cond-same}
 use Rattle.iv_gate.proofs.ClientFacts.{Later, step_told}
 use Rattle.iv_gate.proofs.ShapeTexts.{all_made, list_any-all_false}
-use Rattle.iv_gate.specs.Arriving.{Step, entry_of, fact_of, fault_of, is_behind, landed, newly, takes}
+use Rattle.iv_gate.specs.Arriving.{Step, entry_of, fact_of, fault_of, was_taken, landed, newly, takes}
 use Rattle.iv_steps.specs.Steps.{stepped}
 
 -- ---- what a command tells
@@ -315,7 +315,7 @@ by_step s c d x = record { told = λ stays. by (subst (λ z. (z ≡ []) ⊎ Ends
     by (inr a) = inr (a.first, a.more, a.all, a.plain)
 
 takes_told : (g : Gate) (s : Step) (j : ℕ) (c d : Client) → client_at g.clients j ≡ Some c → c.owed ≡ false → client_at (takes g s).clients j ≡ Some d → IsTold (arrived s) c d
-takes_told g s j c d t none k = by (is_some (fault_of g s)) (is_behind g s) (stepped (map fact_of s.requests) g.machine) k
+takes_told g s j c d t none k = by (is_some (fault_of g s)) (was_taken g s) (stepped (map fact_of s.requests) g.machine) k
   where
     same : client_at g.clients j ≡ Some d → IsTold (arrived s) c d
     same i = still_told (arrived s) c d (inl refl) (same-Some c d (sym t ∙ i)) none

@@ -56,6 +56,7 @@ pub mod LastWords
 pub mod MachineSessions
 pub mod EventLaws
 pub mod NameVerdicts
+pub mod NamedReplies
 pub mod RefusedNames
 pub mod StepsTaken
 pub mod RequestFates

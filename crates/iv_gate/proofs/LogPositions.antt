@@ -5,8 +5,8 @@ use Rattle.std.proofs.Math.Seq.{take-length}
 use Rattle.std.proofs.lemmas.Bool.{ltb-true}
 use Rattle.std.proofs.lemmas.List.{take-append-drop, take-append-le}
 use Rattle.iv_rows.specs.Options.{if_some}
-use Rattle.iv_clients.specs.Journal.{Entry, IsEntry, position_of}
-use Rattle.iv_clients.specs.Laws.{ReadsBack}
+use Rattle.iv_records.specs.Journal.{Entry, IsEntry, position_of}
+use Rattle.iv_records.specs.Laws.{ReadsBack}
 use Rattle.iv_gate.specs.Arriving.{fault_of, position, settled_at}
 use Rattle.iv_gate.specs.Events.{Event, presented, message, gone, known, ticked, synced, handed, arrived, forgave, failed, IsWell, next}
 use Rattle.iv_gate.specs.Gate.{Gate, Head}

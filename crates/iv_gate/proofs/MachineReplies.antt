@@ -22,11 +22,11 @@ use Rattle.iv_message.specs.Told.{Told, replied, denied, unasked, undecided, ans
 use Rattle.iv_clients.specs.Bounds.{most_feeds, most_seats, most_subs}
 use Rattle.iv_clients.specs.Clients.{Client, Slots, client_at}
 use Rattle.iv_clients.specs.Feeds.{Feed, Seat, feed_for, is_begun, next_seat, room_for, seat_of, without_feed, without_seat}
-use Rattle.iv_clients.specs.Journal.{said_by, Request, claim_said, names_in, Entry}
+use Rattle.iv_records.specs.Journal.{said_by, Request, claim_said, names_in, Entry}
 use Rattle.iv_clients.proofs.Slots.{not_None-Some}
 use Rattle.iv_gate.specs.Events.{Event}
 use Rattle.iv_gate.specs.Gate.{Gate, begun_for, in_session, is_accepted, reply_in, reply_to, seated, has_shape_room, Log, answer_text, answering, asked_by, entered, entries_of, may_have, names_of, place_at, place_of}
-use Rattle.iv_gate.specs.Replies.{ActsAs, AreReplied, IsFull, IsReadingReply, IsReplyTo, IsReplyToAct, reading_told, IsNamedReply, IsReplyToShared, IsSharedReply, added_by, count_of, elsewhere, is_repeated, names_by, place_behind, is_done, is_left}
+use Rattle.iv_gate.specs.Replies.{ActsAs, AreReplied, HasToWait, IsFull, IsReadingReply, IsReplyTo, IsReplyToAct, reading_told, IsNamedReply, IsReplyToShared, IsSharedReply, added_by, MayBeDone, count_of, elsewhere, is_repeated, names_by, place_after, is_done, is_left, waits}
 use Rattle.iv_gate.proofs.ClientAnswers.{IsOwn-heard_by, replies-heard_by, OwnAnswer-IsOwn, told_by-OwnAnswer, next-IsOwn, IsOwn}
 use Rattle.iv_gate.proofs.SoundRequests.{refusal-begun_for, ActsAs-feed_for, ActsAs-begun_for, ActsAs-room_for, ActsAs-seat_of}
 use Rattle.iv_gate.proofs.QuietBegins.{BeginsQuietly-IsSoundState, begun_state}
@@ -38,8 +38,9 @@ use Rattle.iv_gate.proofs.SeatsAndFeeds.{IsFed, numbers_in, has_role-client_at, 
 use Rattle.iv_gate.proofs.SoundCommands.{IsSoundGate, Sounds, feed_of-filter}
 use Rattle.iv_gate.proofs.NumberSums.{or-both_false}
 use Rattle.iv_once.specs.Names.{Ask, Verdict, verdict, Named}
-use Rattle.iv_clients.specs.Names.{Claim, place_text}
-use Rattle.iv_gate.proofs.NameVerdicts.{IsAnswer-find_named, IsUndecided-ahead, IsUndecided-other_digest, IsUndecided-other_epoch, has_to_wait, is_again, is_ahead, is_another, is_carried, is_foreign, is_late, IsUndecided-late, IsUndecided-is_over, place_text-place_behind, Reason, Reason-verdict}
+use Rattle.iv_records.specs.Names.{Claim, place_text}
+use Rattle.iv_gate.proofs.NameVerdicts.{has_to_wait, is_again, is_ahead, is_another, is_carried, is_foreign, is_late, place_text-place_after, Reason, Reason-verdict}
+use Rattle.iv_gate.proofs.NamedReplies.{AreNew, HasToWait-ahead, HasToWait-is_over, IsAnswer-find_named, IsBarred-late, IsBarred-other_digest, IsBarred-other_epoch, MayBeDone-IsFree, NoneAnswers-other_digest, NoneAnswers-remembered_by, not_HasToWait}
 use Rattle.std.proofs.lemmas.Slice.Eq.{bytes_eq-Decides}
 use Rattle.iv_gate.proofs.GrownTexts.{drop-append_front}
 use Rattle.std.proofs.lemmas.List.Elements.{filter-append}
@@ -281,9 +282,9 @@ carried_true g c q role seat b = by (has_shape_room g q.act) refl (seat_of g.sea
     by false e o f = inr (e, refl)
 
 -- its name stands one further
-place_more : (g : Gate) (q : Request) (a : Ask) (r : Reply) → is_shared q.act ≡ true → place_text (place_of (entered g (entries_of q (Some a) r)) a.holder) ≡ place_behind g a.holder 1
+place_more : (g : Gate) (q : Request) (a : Ask) (r : Reply) → is_shared q.act ≡ true → place_text (place_of (entered g (entries_of q (Some a) r)) a.holder) ≡ place_after g a.holder 1
 place_more g q a r h =
-    place_text-place_behind (entered g (entries_of q (Some a) r)) a.holder
+    place_text-place_after (entered g (entries_of q (Some a) r)) a.holder
     ∙ (let n : count_of (entered g (entries_of q (Some a) r)) a.holder + 0 ≡ count_of g a.holder + 1 = omega (arith, more) in
     λ i. place_text (record { epoch = (place_at g.head a.holder).epoch; count = n i }))
   where
@@ -311,34 +312,36 @@ log_none : (o : Option Log) → is_some o ≡ false → o ≡ None
 log_none None h = refl
 log_none (Some l) h = absurd (false≢true (sym h))
 
-named_true : (g : Gate) (c : Client) (id : Option Data) (q : Request) (a : Ask) → q.role ≡ c.role → is_shared q.act ≡ true → is_some (seat_of g.seats c.role) ≡ true → IsSoundGate g
+named_true : (g : Gate) (c : Client) (id : Option Data) (q : Request) (a : Ask) → MayBeDone g a → (is_some g.head.log ≡ false → (number : ℕ) → HasToWait g a number → ⊥)
+    → q.role ≡ c.role → is_shared q.act ≡ true → is_some (seat_of g.seats c.role) ≡ true → IsSoundGate g
     → IsNamedReply g c id q a (decided_reply g id q (Some a)) (decided_added g q (Some a))
-named_true g c id q a role shared seat b = by (is_some g.head.log) refl
+named_true g c id q a may waits_not role shared seat b = by (is_some g.head.log) refl
   where
     r : Reply
     r = carried_reply g q
 
     by : (t : Bool) → is_some g.head.log ≡ t → IsNamedReply g c id q a (cond t (undecided id 100) (done_reply g id q (Some a) (carried_reply g q))) (cond t [] (entries_of q (Some a) (carried_reply g q)))
-    by true e = is_left 100 (elsewhere e)
+    by true e = waits 100 may (elsewhere e)
     by false e = subst (λ at. IsNamedReply g c id q a (answered id false at (answer_text (carried_reply g q))) (entries_of q (Some a) (carried_reply g q))) (sym (place_more g q a r shared))
-        (is_done r (log_none g.head.log e) (carried_true g c q role seat b))
+        (is_done r may (waits_not e) (carried_true g c q role seat b))
 
-verdict_true : (g : Gate) (c : Client) (id : Option Data) (q : Request) (a : Ask) (v : Verdict) → Reason (names_of g) a v → q.role ≡ c.role → is_shared q.act ≡ true → is_some (seat_of g.seats c.role) ≡ true → IsSoundGate g
+verdict_true : (g : Gate) → AreNew g → (c : Client) (id : Option Data) (q : Request) (a : Ask) (v : Verdict) → Reason (names_of g) a v
+    → q.role ≡ c.role → is_shared q.act ≡ true → is_some (seat_of g.seats c.role) ≡ true → IsSoundGate g
     → IsNamedReply g c id q a (verdict_reply g id q a v) (verdict_added g q a v)
-verdict_true g c id q a _ (is_carried w) role shared seat b = named_true g c id q a role shared seat b
-verdict_true g c id q a _ (is_again x f t) role shared seat b =
-    subst (λ at. IsNamedReply g c id q a (answered id true at x.answer) []) (sym (place_text-place_behind g a.holder))
+verdict_true g new c id q a _ (is_carried f w d) role shared seat b = named_true g c id q a (MayBeDone-IsFree g a new f) (λ e. not_HasToWait g a e w d) role shared seat b
+verdict_true g new c id q a _ (is_again x f t) role shared seat b =
+    subst (λ at. IsNamedReply g c id q a (answered id true at x.answer) []) (sym (place_text-place_after g a.holder))
     (is_repeated x.answer (IsAnswer-find_named g a x f t))
-verdict_true g c id q a _ (is_another x f t) role shared seat b = is_left 101 (IsUndecided-other_digest g a x f t)
-verdict_true g c id q a _ (is_late t) role shared seat b = is_left 102 (IsUndecided-late g a t)
-verdict_true g c id q a _ (is_foreign t) role shared seat b = is_left 103 (IsUndecided-other_epoch g a t)
-verdict_true g c id q a _ (is_ahead t) role shared seat b = is_left 104 (IsUndecided-ahead g a t)
-verdict_true g c id q a _ (has_to_wait t) role shared seat b = is_left 104 (IsUndecided-is_over g a t)
+verdict_true g new c id q a _ (is_another x f t) role shared seat b = is_left 101 (NoneAnswers-other_digest g a new x f t) (IsBarred-other_digest g a x f t)
+verdict_true g new c id q a _ (is_late n t) role shared seat b = is_left 102 (NoneAnswers-remembered_by g a n) (IsBarred-late g a t)
+verdict_true g new c id q a _ (is_foreign n t) role shared seat b = is_left 103 (NoneAnswers-remembered_by g a n) (IsBarred-other_epoch g a t)
+verdict_true g new c id q a _ (is_ahead f t) role shared seat b = waits 104 (MayBeDone-IsFree g a new f) (HasToWait-ahead g a t)
+verdict_true g new c id q a _ (has_to_wait f t) role shared seat b = waits 104 (MayBeDone-IsFree g a new f) (HasToWait-is_over g a t)
 
-shared_true : (g : Gate) (c : Client) (id : Option Data) (q : Request) (claim : Option Claim) → q.role ≡ c.role → is_shared q.act ≡ true → is_some (seat_of g.seats c.role) ≡ true → IsSoundGate g
+shared_true : (g : Gate) → AreNew g → (c : Client) (id : Option Data) (q : Request) (claim : Option Claim) → q.role ≡ c.role → is_shared q.act ≡ true → is_some (seat_of g.seats c.role) ≡ true → IsSoundGate g
     → IsReplyToShared g c id q claim (shared_reply g c id q claim) (shared_added g c q claim)
-shared_true g c id q (Some k) role shared seat b = let a = asked_by c q.line k in verdict_true g c id q a (verdict (names_of g) a) (Reason-verdict (names_of g) a) role shared seat b
-shared_true g c id q None role shared seat b = by (is_some g.head.log) refl
+shared_true g new c id q (Some k) role shared seat b = let a = asked_by c q.line k in verdict_true g new c id q a (verdict (names_of g) a) (Reason-verdict (names_of g) a) role shared seat b
+shared_true g new c id q None role shared seat b = by (is_some g.head.log) refl
   where
     by : (t : Bool) → is_some g.head.log ≡ t
         → IsReplyToShared g c id q None (cond t (denied id 100) (done_reply g id q None (carried_reply g q))) (cond t [] (entries_of q None (carried_reply g q)))
@@ -347,14 +350,14 @@ shared_true g c id q None role shared seat b = by (is_some g.head.log) refl
 
 -- ---- the reply to a message
 
-module _ (sounds : Sounds) (g : Gate) (slots : Slots) (c : Client) (seat : is_some (seat_of g.seats c.role) ≡ true) (b : IsSoundGate g) (k : IsKept g) where
+module _ (sounds : Sounds) (g : Gate) (new : AreNew g) (slots : Slots) (c : Client) (seat : is_some (seat_of g.seats c.role) ≡ true) (b : IsSoundGate g) (k : IsKept g) where
   abbrev h : Gate
   h = record g { clients = slots }
 
   other_true : (id : Option Data) (text : List ℕ) (act : Act) → is_shared act ≡ true
       → IsReplyToShared g c id (request_of c text act) (claim_said text) (shared_reply (record g { clients = slots }) c id (request_of c text act) (claim_said text))
       (shared_added (record g { clients = slots }) c (request_of c text act) (claim_said text))
-  other_true id text act s = shared_true g c id (request_of c text act) (claim_said text) refl s seat b
+  other_true id text act s = shared_true g new c id (request_of c text act) (claim_said text) refl s seat b
 
   act_true : (id : Option Data) (text : List ℕ) (act : Act) → IsReplyToAct g c id text act (act_reply (record g { clients = slots }) c id text act) (act_added (record g { clients = slots }) c text act)
   act_true id text (begin role) = (refl, refl)
@@ -395,8 +398,8 @@ added_true g e m c text live t o =
     ∙ drop-append_front g.entries (said_added (asked g m text) c text (said_by text))
 
 -- a client is told first the reply to its message, and others are told none
-pub AreReplied-IsKept : Sounds → (g : Gate) (e : Event) → IsSoundGate g → IsKept g → g.dead ≡ false → AreReplied g e
-AreReplied-IsKept sounds g e b k live = record {
+pub AreReplied-IsKept : Sounds → (g : Gate) (e : Event) → IsSoundGate g → IsKept g → AreNew g → g.dead ≡ false → AreReplied g e
+AreReplied-IsKept sounds g e b k new live = record {
   own = λ m c d x y text u.
       let o = IsOwn-heard_by m c e text u in
       let a = OwnAnswer-IsOwn g e m c d text live x.there y.there o in
@@ -405,7 +408,7 @@ AreReplied-IsKept sounds g e b k live = record {
         a.others,
         told_by-OwnAnswer g m c text d a ∙ ap (λ z. z ++ said_reply (asked g m text) c text (said_by text) ∷ a.others) (a.first (BeginsQuietly-IsSoundState (asked g m text) b.state)),
         subst (IsReplyTo g c text (said_by text) (said_reply (asked g m text) c text (said_by text))) (sym (added_true g e m c text live x.there o))
-            (said_true sounds g (asked g m text).clients c seat b k text (said_by text)),
+            (said_true sounds g new (asked g m text).clients c seat b k text (said_by text)),
         a.alone,
       );
   others = λ m c d x y u. replies-heard_by g e m c d live x y u;

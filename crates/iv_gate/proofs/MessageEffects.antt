@@ -16,7 +16,7 @@ use Rattle.iv_message.specs.Told.{Told, changed, over, granted, replied, fault, 
 use Rattle.iv_clients.specs.Bounds.{most_subs}
 use Rattle.iv_clients.specs.Clients.{Client, Slots, Sub, at_client, closing, followed_by, is_followed, moved, moved_sub, told, told_one}
 use Rattle.iv_clients.specs.Feeds.{Feed, feed_for, feed_of, is_reading, room_for}
-use Rattle.iv_clients.specs.Journal.{Entry, is_shared, said_by, Request, claim_said, requests_in}
+use Rattle.iv_records.specs.Journal.{Entry, is_shared, said_by, Request, claim_said, requests_in}
 use Rattle.iv_gate.specs.Gate.{Gate, acts, begun_for, closes, done_for, feed_begun, in_session, joined, joined_by, joins, ran, reads, reads_first, reply_to, done_in, seated, shut, subscribes, swept, tells, answering, entered, entries_of, may_have, replies_to, reply_told, shares, is_accepted}
 use Rattle.iv_gate.proofs.QuietCommands.{ran-one_line, seated-IsSoundState, clients-shut, last-shut, clients-swept, last-swept}
 use Rattle.iv_gate.proofs.SameFeeds.{list_any-moved_sub}
@@ -25,7 +25,7 @@ use Rattle.iv_gate.proofs.SoundCommands.{Seer, Sounds, seer-told_one}
 use Rattle.iv_gate.specs.Laws.{is_made, is_word}
 use Rattle.iv_gate.proofs.ShapeTexts.{cond-either}
 use Rattle.iv_once.specs.Names.{Ask}
-use Rattle.iv_clients.specs.Names.{Claim}
+use Rattle.iv_records.specs.Names.{Claim}
 use Rattle.iv_gate.proofs.RequestFates.{IsAside, leaves, refers, repeats, shares_so}
 use Rattle.std.proofs.lemmas.List.Concat.{flat_map-append}
 use Rattle.iv_gate.proofs.StepRelations.{request_of}

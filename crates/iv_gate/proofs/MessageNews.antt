@@ -16,7 +16,7 @@ use Rattle.iv_message.specs.Told.{Told, changed, granted, opened}
 use Rattle.iv_clients.specs.Bounds.{most_subs}
 use Rattle.iv_clients.specs.Clients.{Client, Slots, Sub, at_client, client_at, following, own_line, own_lines, staying, telling, told, told_one}
 use Rattle.iv_clients.specs.Feeds.{Feed, ends_in}
-use Rattle.iv_clients.specs.Journal.{Entry, is_shared, shape_for, Request, requests_in}
+use Rattle.iv_records.specs.Journal.{Entry, is_shared, shape_for, Request, requests_in}
 use Rattle.iv_clients.proofs.Slots.{client_at-at_all, client_at-at_other_client, client_at-at_client}
 use Rattle.iv_gate.specs.Gate.{Gate, columns_in, entered, feed_begun, in_session, is_accepted, next_own, ran, reply_in, reply_to, done_in, told_of, entries_of, granted_by, replies_to, reply_told}
 use Rattle.iv_gate.proofs.QuietCommands.{flat_map-own_line, le-step_last}

@@ -2,21 +2,16 @@
 use Rattle.std.proofs.Common.{◌≡◌, ℕ, zero, suc, ◌+◌, ◌<◌, ◌≤◌, Bool, true, false, cond, not, List, [], ◌∷◌, take, length, Option, Some, None, is_some, refl, ap, ◌∙◌, sym, subst, arith, ◌||◌, inl, inr}
 use Rattle.std.specs.Prelude.{◌&&◌, ◌++◌, bytes_eq, count_by, filter, nat_le, nat_lt, unwrap_or, option_map, Contains, drop, ◌⊎◌}
 use Rattle.std.proofs.lemmas.Bool.Decides.{nat_tests}
-use Rattle.iv_clients.specs.Journal.{names_in}
-use Rattle.iv_clients.specs.Names.{limits, place_text}
+use Rattle.iv_records.specs.Journal.{names_in}
+use Rattle.iv_records.specs.Names.{limits, place_text}
 use Rattle.iv_once.specs.Names.{Ask, Known, Limits, Named, Names, Own, Place, carry, by_count, by_found, find_named, is_over, is_place, learned, named, own_of, spent_by, spent_more, verdict, with_entry, Verdict}
 use Rattle.iv_once.specs.Names as verdicts
-use Rattle.iv_once.specs.Laws.{times, Among}
-use Rattle.iv_once.proofs.Lists.{and-both_true, bytes_eq-itself, le-nat_le, le-nat_lt_false, same-bytes_eq, same-is_place, not_None-Some, take-take_more, plus-zero_left, Among-take, is_place-itself}
-use Rattle.iv_gate.specs.Gate as gates
-use Rattle.iv_gate.specs.Replies as replies
+use Rattle.iv_once.specs.Laws.{times}
+use Rattle.iv_once.proofs.Lists.{and-both_true, bytes_eq-itself, le-nat_le, le-nat_lt_false, same-bytes_eq, same-is_place, not_None-Some, take-take_more, plus-zero_left}
 use Rattle.iv_gate.specs.Arriving as arriving
 use Rattle.iv_gate.specs.Arriving.{first_known, is_new}
 use Rattle.iv_gate.specs.Gate.{Gate, known_by, known_of, place_of, spent_in, Head, place_at, known_at}
-use Rattle.iv_gate.specs.Replies.{count_of, place_behind, IsAnswer, IsUndecided, many, names_by, refused_often}
-use Rattle.std.proofs.lemmas.List.Elements.{Contains-append_left, Contains-append_right, Contains-push}
-use Rattle.std.proofs.lemmas.Bool.{ltb-true, false≢true}
-use Rattle.iv_once.proofs.HolderEntries.{Among-find_named}
+use Rattle.iv_gate.specs.Replies.{count_of, place_after}
 use Rattle.std.proofs.lemmas.List.Sums.{sum_by-cons}
 
 abbrev pub names_of : List ℕ → List Named → List Named
@@ -24,13 +19,13 @@ names_of holder es = filter (λ e. bytes_eq e.ask.holder holder) es
 
 -- ---- what a name adds
 
-own_same : (e : Named) (k : Known) (holder : List ℕ) → bytes_eq e.ask.holder holder ≡ true → own_of (learned limits (named e) k) holder ≡ with_entry limits.names e (own_of k holder)
+pub own_same : (e : Named) (k : Known) (holder : List ℕ) → bytes_eq e.ask.holder holder ≡ true → own_of (learned limits (named e) k) holder ≡ with_entry limits.names e (own_of k holder)
 own_same e k holder t =
     let o = own_of k e.ask.holder in
     ap (λ b. unwrap_or (cond b (Some (with_entry limits.names e o)) (k.owns holder)) (record { epoch = k.epoch; count = 0; recent = [] })) t
     ∙ ap (λ z. with_entry limits.names e (own_of k z)) (same-bytes_eq e.ask.holder holder t)
 
-own_other : (e : Named) (k : Known) (holder : List ℕ) → bytes_eq e.ask.holder holder ≡ false → own_of (learned limits (named e) k) holder ≡ own_of k holder
+pub own_other : (e : Named) (k : Known) (holder : List ℕ) → bytes_eq e.ask.holder holder ≡ false → own_of (learned limits (named e) k) holder ≡ own_of k holder
 own_other e k holder t =
     let o = own_of k e.ask.holder in
     ap (λ b. unwrap_or (cond b (Some (with_entry limits.names e o)) (k.owns holder)) (record { epoch = k.epoch; count = 0; recent = [] })) t
@@ -40,7 +35,7 @@ own_other e k holder t =
 -- j entries of the holder came after one with the name, whose place was not ahead then: while that is kept, it is among the last ones
 pub record IsUsed (name : List ℕ) (at : Place) (j : ℕ) (o : Own) : Type 0 where
   pub count : at.count + (1 + j) ≤ o.count
-  pub Among-find_named : j < 64 → is_some (find_named name (take (suc j) o.recent)) ≡ true
+  pub found : j < 64 → is_some (find_named name (take (suc j) o.recent)) ≡ true
 
 found_here : (name : List ℕ) (e : Named) (es : List Named) → bytes_eq e.ask.name name ≡ true → is_some (find_named name (e ∷ es)) ≡ true
 found_here name e es t = ap (λ b. is_some (cond b (Some e) (find_named name es))) t
@@ -52,7 +47,7 @@ found_behind name e es h = by (bytes_eq e.ask.name name)
     by true = refl
     by false = h
 
-found_in_more : (name : List ℕ) (k : ℕ) (es : List Named) → is_some (find_named name (take k es)) ≡ true → is_some (find_named name es) ≡ true
+pub found_in_more : (name : List ℕ) (k : ℕ) (es : List Named) → is_some (find_named name (take k es)) ≡ true → is_some (find_named name es) ≡ true
 found_in_more name zero es h = cc h
 found_in_more name (suc k) [] h = h
 found_in_more name (suc k) (e ∷ es) h = by (bytes_eq e.ask.name name) h (λ g. found_in_more name k es g)
@@ -62,10 +57,10 @@ found_in_more name (suc k) (e ∷ es) h = by (bytes_eq e.ask.name name) h (λ g.
     by true g more = refl
     by false g more = more g
 
-used_first : (e : Named) (o : Own) → e.ask.at.count ≤ o.count → IsUsed e.ask.name e.ask.at 0 (with_entry limits.names e o)
+pub used_first : (e : Named) (o : Own) → e.ask.at.count ≤ o.count → IsUsed e.ask.name e.ask.at 0 (with_entry limits.names e o)
 used_first e o h = record { count = omega (arith, h); found = λ l. found_here e.ask.name e [] (bytes_eq-itself e.ask.name) }
 
-used_more : (name : List ℕ) (at : Place) (j : ℕ) (e : Named) (o : Own) → IsUsed name at j o → IsUsed name at (suc j) (with_entry limits.names e o)
+pub used_more : (name : List ℕ) (at : Place) (j : ℕ) (e : Named) (o : Own) → IsUsed name at j o → IsUsed name at (suc j) (with_entry limits.names e o)
 used_more name at j e o u = record {
   count = let c = u.count in omega (arith, c);
   found = λ l. found_behind name e (take (suc j) (take 63 o.recent))
@@ -231,7 +226,7 @@ abbrev own_with : Place → Own
 own_with p = record { epoch = p.epoch; count = p.count; recent = [] }
 
 -- so it is before the first entry, where the journal's head says
-own_at : (h : Head) (holder : List ℕ) → own_of (known_at h) holder ≡ own_with (place_at h holder)
+pub own_at : (h : Head) (holder : List ℕ) → own_of (known_at h) holder ≡ own_with (place_at h holder)
 own_at h holder = by (h.places holder)
   where
     by : (o : Option Place) → unwrap_or {T = Own} (option_map (λ (p : Place). own_with p) o) (own_with (record { epoch = h.epoch; count = 0 })) ≡ own_with (unwrap_or o (record { epoch = h.epoch; count = 0 }))
@@ -245,8 +240,8 @@ pub count_is : (g : Gate) (holder : List ℕ) → (own_of (known_of g) holder).c
 count_is g holder = (known_own (names_in g.entries) (known_at g.head) holder).1 ∙ ap (λ (o : Own). o.count + length (names_of holder (names_in g.entries))) (own_at g.head holder)
 
 -- where its names stand, as laws say it
-pub place_text-place_behind : (g : Gate) (holder : List ℕ) → place_text (place_of g holder) ≡ place_behind g holder 0
-place_text-place_behind g holder =
+pub place_text-place_after : (g : Gate) (holder : List ℕ) → place_text (place_of g holder) ≡ place_after g holder 0
+place_text-place_after g holder =
     let c : (own_of (known_of g) holder).count ≡ count_of g holder + 0 = let n = count_is g holder in omega (arith, n) in
     λ i. place_text (record { epoch = epoch_is g holder i; count = c i })
 
@@ -270,14 +265,20 @@ spent_by-count_by (e ∷ es) holder = by e.refused (bytes_eq e.ask.holder holder
 
 -- ---- why a request gets its verdict
 
+-- nothing that is kept of its holder says anything of it: no name that is kept is its own, and its place is of that epoch, and not too old
+pub record IsFree (n : Names) (a : Ask) : Type 0 where
+  pub none : find_named a.name (own_of n.known a.holder).recent ≡ None
+  pub epoch : bytes_eq a.at.epoch (own_of n.known a.holder).epoch ≡ true
+  pub recent : nat_lt (a.at.count + n.limits.names) (own_of n.known a.holder).count ≡ false
+
 pub data Reason (n : Names) (a : Ask) : Verdict → Type 0 where
   is_again : (x : Named) → find_named a.name (own_of n.known a.holder).recent ≡ Some x → (is_place x.ask.at a.at && bytes_eq x.ask.digest a.digest) ≡ true → Reason n a (verdicts.again x.answer)
   is_another : (x : Named) → find_named a.name (own_of n.known a.holder).recent ≡ Some x → (is_place x.ask.at a.at && bytes_eq x.ask.digest a.digest) ≡ false → Reason n a verdicts.another
-  is_foreign : bytes_eq a.at.epoch (own_of n.known a.holder).epoch ≡ false → Reason n a verdicts.foreign
-  is_late : nat_lt (a.at.count + n.limits.names) (own_of n.known a.holder).count ≡ true → Reason n a verdicts.late
-  has_to_wait : is_over n a.holder ≡ true → Reason n a verdicts.over
-  is_ahead : nat_lt (own_of n.known a.holder).count a.at.count ≡ true → Reason n a verdicts.ahead
-  is_carried : is_over n a.holder ≡ false → Reason n a carry
+  is_foreign : find_named a.name (own_of n.known a.holder).recent ≡ None → bytes_eq a.at.epoch (own_of n.known a.holder).epoch ≡ false → Reason n a verdicts.foreign
+  is_late : find_named a.name (own_of n.known a.holder).recent ≡ None → nat_lt (a.at.count + n.limits.names) (own_of n.known a.holder).count ≡ true → Reason n a verdicts.late
+  has_to_wait : IsFree n a → is_over n a.holder ≡ true → Reason n a verdicts.over
+  is_ahead : IsFree n a → nat_lt (own_of n.known a.holder).count a.at.count ≡ true → Reason n a verdicts.ahead
+  is_carried : IsFree n a → is_over n a.holder ≡ false → nat_lt (own_of n.known a.holder).count a.at.count ≡ false → Reason n a carry
 
 pub Reason-verdict : (n : Names) (a : Ask) → Reason n a (verdict n a)
 Reason-verdict n a = by (find_named a.name (own_of n.known a.holder).recent) refl
@@ -285,16 +286,18 @@ Reason-verdict n a = by (find_named a.name (own_of n.known a.holder).recent) ref
     o : Own
     o = own_of n.known a.holder
 
-    count : (l w d : Bool) → nat_lt (a.at.count + n.limits.names) (own_of n.known a.holder).count ≡ l → is_over n a.holder ≡ w → nat_lt (own_of n.known a.holder).count a.at.count ≡ d
+    count : find_named a.name (own_of n.known a.holder).recent ≡ None → bytes_eq a.at.epoch (own_of n.known a.holder).epoch ≡ true
+        → (l w d : Bool) → nat_lt (a.at.count + n.limits.names) (own_of n.known a.holder).count ≡ l → is_over n a.holder ≡ w → nat_lt (own_of n.known a.holder).count a.at.count ≡ d
         → Reason n a (cond l verdicts.late (cond w verdicts.over (cond d verdicts.ahead carry)))
-    count true w d e f g = is_late e
-    count false true d e f g = has_to_wait f
-    count false false true e f g = is_ahead g
-    count false false false e f g = is_carried f
+    count f p true w d e i j = is_late f e
+    count f p false true d e i j = has_to_wait (record { none = f; epoch = p; recent = e }) i
+    count f p false false true e i j = is_ahead (record { none = f; epoch = p; recent = e }) j
+    count f p false false false e i j = is_carried (record { none = f; epoch = p; recent = e }) i j
 
-    place : (b : Bool) → bytes_eq a.at.epoch (own_of n.known a.holder).epoch ≡ b → Reason n a (cond b (by_count n (own_of n.known a.holder) a) verdicts.foreign)
-    place true e = count (nat_lt (a.at.count + n.limits.names) o.count) (is_over n a.holder) (nat_lt o.count a.at.count) refl refl refl
-    place false e = is_foreign e
+    place : find_named a.name (own_of n.known a.holder).recent ≡ None → (b : Bool) → bytes_eq a.at.epoch (own_of n.known a.holder).epoch ≡ b
+        → Reason n a (cond b (by_count n (own_of n.known a.holder) a) verdicts.foreign)
+    place f true e = count f e (nat_lt (a.at.count + n.limits.names) o.count) (is_over n a.holder) (nat_lt o.count a.at.count) refl refl refl
+    place f false e = is_foreign f e
 
     entry : (x : Named) → find_named a.name (own_of n.known a.holder).recent ≡ Some x → (b : Bool) → (is_place x.ask.at a.at && bytes_eq x.ask.digest a.digest) ≡ b
         → Reason n a (cond b (verdicts.again x.answer) verdicts.another)
@@ -302,91 +305,5 @@ Reason-verdict n a = by (find_named a.name (own_of n.known a.holder).recent) ref
     entry x f false e = is_another x f e
 
     by : (f : Option Named) → find_named a.name (own_of n.known a.holder).recent ≡ f → Reason n a (by_found n (own_of n.known a.holder) a f)
-    by None f = place (bytes_eq a.at.epoch o.epoch) refl
+    by None f = place f (bytes_eq a.at.epoch o.epoch) refl
     by (Some x) f = entry x f (is_place x.ask.at a.at && bytes_eq x.ask.digest a.digest) refl
-
--- ---- what is kept of a holder stands in the journal
-
-among_known : (es : List Named) (k : Known) (holder : List ℕ) (x : Named) → Among x (own_of (known_by k es) holder).recent → Among x (own_of k holder).recent ⊎ Among x (names_of holder es)
-among_known [] k holder x h = inl h
-among_known (e ∷ es) k holder x h = by (bytes_eq e.ask.holder holder) refl (among_known es (learned limits (named e) k) holder x h)
-  where
-    here : Among x (e ∷ (own_of k holder).recent) → Among x (own_of k holder).recent ⊎ Among x (e ∷ names_of holder es)
-    here (inl i) = inr (inl i)
-    here (inr i) = inl i
-
-    by : (d : Bool) → bytes_eq e.ask.holder holder ≡ d → Among x (own_of (learned limits (named e) k) holder).recent ⊎ Among x (names_of holder es)
-        → Among x (own_of k holder).recent ⊎ Among x (cond d (e ∷ names_of holder es) (names_of holder es))
-    by true q (inl i) = here (Among-take 64 x (e ∷ (own_of k holder).recent) (subst (λ (o : Own). Among x o.recent) (own_same e k holder q) i))
-    by true q (inr i) = inr (inr i)
-    by false q (inl i) = inl (subst (λ (o : Own). Among x o.recent) (own_other e k holder q) i)
-    by false q (inr i) = inr i
-
-kept_named : (g : Gate) (holder : List ℕ) (x : Named) → Among x (own_of (known_of g) holder).recent → Among x (names_by g holder)
-kept_named g holder x h = by (among_known (names_in g.entries) (known_at g.head) holder x h)
-  where
-    by : Among x (own_of (known_at g.head) holder).recent ⊎ Among x (names_of holder (names_in g.entries)) → Among x (names_by g holder)
-    by (inl i) = absurd (subst (λ (o : Own). Among x o.recent) (own_at g.head holder) i)
-    by (inr i) = i
-
-among_filtered : (p : Named → Bool) (x : Named) (xs : List Named) → Among x (filter p xs) → Among x xs × (p x ≡ true)
-among_filtered p x [] h = absurd h
-among_filtered p x (y ∷ ys) h = by (p y) refl h (among_filtered p x ys)
-  where
-    by : (b : Bool) → p y ≡ b → Among x (cond b (y ∷ filter p ys) (filter p ys)) → (Among x (filter p ys) → Among x ys × (p x ≡ true)) → Among x (y ∷ ys) × (p x ≡ true)
-    by true e (inl i) more = (inl i, ap p (sym i) ∙ e)
-    by true e (inr i) more = let m = more i in (inr m.0, m.1)
-    by false e i more = let m = more i in (inr m.0, m.1)
-
-contains_among : (x : Named) (xs : List Named) → Among x xs → Contains xs x
-contains_among x [] h = absurd h
-contains_among x (y ∷ ys) (inl h) = subst (λ z. Contains (z ∷ ys) x) (sym h) (Contains-append_left (x ∷ []) ys x (Contains-push [] x))
-contains_among x (y ∷ ys) (inr h) = Contains-append_right (y ∷ []) ys x (contains_among x ys h)
-
--- ---- as laws say it
-
--- a request is the one that was entered
-same_ask : (a : Ask) (x : Named) → bytes_eq x.ask.holder a.holder ≡ true → x.ask.name ≡ a.name → (is_place x.ask.at a.at && bytes_eq x.ask.digest a.digest) ≡ true → x.ask ≡ a
-same_ask a x h n t =
-    let p = and-both_true (is_place x.ask.at a.at) (bytes_eq x.ask.digest a.digest) t in
-    let holder = same-bytes_eq x.ask.holder a.holder h in let at = same-is_place x.ask.at a.at p.0 in let digest = same-bytes_eq x.ask.digest a.digest p.1 in
-    λ i. record { holder = holder i; name = n i; at = at i; digest = digest i }
-
-pub IsAnswer-find_named : (g : Gate) (a : Ask) (x : Named) → find_named a.name (own_of (known_of g) a.holder).recent ≡ Some x → (is_place x.ask.at a.at && bytes_eq x.ask.digest a.digest) ≡ true → IsAnswer g.entries a x.answer
-IsAnswer-find_named g a x f t =
-    let m = Among-find_named a.name (own_of (known_of g) a.holder).recent x f in
-    let p = among_filtered (λ (e : Named). bytes_eq e.ask.holder a.holder) x (names_in g.entries) (kept_named g a.holder x m.0) in
-    let same = same_ask a x p.1 m.1 t in
-    (x.refused, subst (λ z. Contains (names_in g.entries) (record { ask = z; refused = x.refused; answer = x.answer })) same (contains_among x (names_in g.entries) p.0))
-
-pub IsUndecided-other_digest : (g : Gate) (a : Ask) (x : Named) → find_named a.name (own_of (known_of g) a.holder).recent ≡ Some x → (is_place x.ask.at a.at && bytes_eq x.ask.digest a.digest) ≡ false → IsUndecided g a 101
-IsUndecided-other_digest g a x f t =
-    let m = Among-find_named a.name (own_of (known_of g) a.holder).recent x f in
-    replies.another x (contains_among x (names_by g a.holder) (kept_named g a.holder x m.0)) m.1 (λ h.
-    false≢true (sym t ∙ (ap (λ (z : Ask). is_place z.at a.at && bytes_eq z.digest a.digest) h ∙ (λ i. is_place-itself a.at i && bytes_eq-itself a.digest i))))
-
-pub IsUndecided-other_epoch : (g : Gate) (a : Ask) → bytes_eq a.at.epoch (own_of (known_of g) a.holder).epoch ≡ false → IsUndecided g a 103
-IsUndecided-other_epoch g a t =
-    replies.foreign (λ h. false≢true (sym t ∙ (ap (bytes_eq a.at.epoch) (epoch_is g a.holder ∙ sym h) ∙ bytes_eq-itself a.at.epoch)))
-
-pub IsUndecided-late : (g : Gate) (a : Ask) → nat_lt (a.at.count + limits.names) (own_of (known_of g) a.holder).count ≡ true → IsUndecided g a 102
-IsUndecided-late g a t =
-    replies.late (subst (λ n. a.at.count + 64 < n) (count_is g a.holder) (ltb-true (a.at.count + 64) (own_of (known_of g) a.holder).count t))
-
-pub IsUndecided-ahead : (g : Gate) (a : Ask) → nat_lt (own_of (known_of g) a.holder).count a.at.count ≡ true → IsUndecided g a 104
-IsUndecided-ahead g a t = replies.ahead (subst (λ n. n < a.at.count) (count_is g a.holder) (ltb-true (own_of (known_of g) a.holder).count a.at.count t))
-
-pub IsUndecided-is_over : (g : Gate) (a : Ask) → is_over (gates.names_of g) a.holder ≡ true → IsUndecided g a 104
-IsUndecided-is_over g a t = by (nat_le limits.refusals spent) (nat_le limits.holders (known_of g).holders) ((known_of g).owns a.holder) refl refl refl t
-  where
-    spent : ℕ
-    spent = spent_by (spent_in (names_in (drop g.forgiven g.entries))) a.holder
-
-    none : (known_of g).owns a.holder ≡ None → count_of g a.holder ≡ 0
-    none e = sym (count_is g a.holder) ∙ ap (λ o. (unwrap_or {T = Own} o (record { epoch = (known_of g).epoch; count = 0; recent = [] })).count) e
-
-    by : (r h : Bool) (o : Option Own) → nat_le limits.refusals spent ≡ r → nat_le limits.holders (known_of g).holders ≡ h → (known_of g).owns a.holder ≡ o → (r || (h && not (is_some o))) ≡ true → IsUndecided g a 104
-    by true h o e f k u = refused_often (subst (λ n. limits.refusals ≤ n) (spent_by-count_by (names_in (drop g.forgiven g.entries)) a.holder) (le-nat_le limits.refusals spent e))
-    by false true None e f k u = many (le-nat_le limits.holders (known_of g).holders f) (none k)
-    by false true (Some o) e f k u = absurd (false≢true u)
-    by false false o e f k u = absurd (false≢true u)

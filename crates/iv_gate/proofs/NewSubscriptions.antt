@@ -19,7 +19,7 @@ use Rattle.iv_message.specs.Message.{request}
 use Rattle.iv_message.specs.Told.{replied, opened}
 use Rattle.iv_clients.specs.Clients.{Client, Sub, at_client, client_at, following, told, told_one}
 use Rattle.iv_clients.specs.Feeds.{Feed, ends_in, feed_of}
-use Rattle.iv_clients.specs.Journal.{said_by}
+use Rattle.iv_records.specs.Journal.{said_by}
 use Rattle.iv_clients.proofs.Slots.{same-Some, not_None-Some}
 use Rattle.iv_gate.specs.Gate.{Gate, columns_in, feed_begun, in_session, next_own, ran, reply_in, subscribes, tells}
 use Rattle.iv_gate.specs.Replies.{ActsAs, replies}
@@ -156,7 +156,7 @@ pub record IsAsker (c : Client) (id : Option Data) (role rel : Name) : Type 0 wh
   pub text : List ℕ
   pub messages : c.messages ≡ before ++ text ∷ []
   pub asks : said_by text ≡ request id (subscribe rel)
-  pub pending : length (replies (told c)) ≡ length before + 1
+  pub pending : length (replies (told c)) ≡ length before + 2
 
 asked_new : (c : Client) (id : Option Data) (role rel : Name) (columns : List Column) → IsAsker c id role rel → IsAskedIn c.messages (told c ++ opened id (c.given + 1) columns ∷ []) (c.given + 1) rel
 asked_new c id role rel columns a = record {
@@ -166,7 +166,7 @@ asked_new c id role rel columns a = record {
   text = a.text;
   there = ap (λ z. slice_get z (length a.before)) a.messages ∙ slice_get-append_length a.before a.text [];
   asks = a.asks;
-  reply = ap (λ z. slice_get z (length a.before + 1)) (replies-append (told c) (opened id (c.given + 1) columns ∷ []))
+  reply = ap (λ z. slice_get z (length a.before + 2)) (replies-append (told c) (opened id (c.given + 1) columns ∷ []))
       ∙ (ap (λ i. slice_get (replies (told c) ++ opened id (c.given + 1) columns ∷ []) i) (sym a.pending) ∙ slice_get-append_length (replies (told c)) (opened id (c.given + 1) columns) []);
 }
 

@@ -11,7 +11,7 @@ use Rattle.iv_machine.specs.Machine.{step, Outcome}
 use Rattle.iv_message.specs.Told.{Told, over, settled, made, alive, granted}
 use Rattle.iv_clients.specs.Clients.{Client, Shown, Slots, Sub, all_shown, answered, at_all, at_client, beating, checked, client_at, dropping, fresh, handing, is_slow, may_say, moved, opens, own_line, own_lines, released, saying, settling, staying, telling, told, told_one}
 use Rattle.iv_clients.specs.Feeds.{Feed, ends_in, is_end, is_of_role, rel_read}
-use Rattle.iv_clients.specs.Journal.{Entry, said_by}
+use Rattle.iv_records.specs.Journal.{Entry, said_by}
 use Rattle.iv_clients.specs.Tokens.{Token}
 use Rattle.iv_clients.proofs.Slots.{client_at-at_all, client_at-at_other_client, client_at-at_client, is_free-client_at, same-Some, client_at-set_other, not_None-Some}
 use Rattle.iv_gate.specs.Events.{Event, presented, message, gone, known, ticked, synced, handed, failed, happens, arrived, forgave}

@@ -14,7 +14,7 @@ use Rattle.iv_message.specs.Told as texts
 use Rattle.iv_clients.specs.Bounds.{most_subs}
 use Rattle.iv_clients.specs.Clients.{Client, Slots, Sub, answered, at_all, at_client, client_at, closing, followed_by, following, is_followed, moved, saying, settling, staying, telling, told, told_one}
 use Rattle.iv_clients.specs.Feeds.{Feed, feed_for, feed_of, is_reading, room_for, seat_of, without_feed}
-use Rattle.iv_clients.specs.Journal.{Entry, said_by, shape_for, Request, claim_said}
+use Rattle.iv_records.specs.Journal.{Entry, said_by, shape_for, Request, claim_said}
 use Rattle.iv_clients.proofs.Slots.{client_at-at_all, client_at-at_client, same-Some}
 use Rattle.iv_gate.specs.Gate.{Gate, acts, begun_for, closes, columns_in, done_for, entered, feed_begun, hears, in_session, joined, joined_by, joins, next_own, ran, reads, reads_first, reply_to, done_in, seated, settles, shut, subscribes, swept, tells, told_of, informs, entries_of, has_shape_room, asked_by, by_verdict, decided_elsewhere, decides, may_have, names_of, place_of, replies_to, reply_told, shares}
 use Rattle.iv_gate.specs.Replies.{is_opened, reading_told, replies, is_reply}
@@ -28,7 +28,7 @@ use Rattle.iv_gate.proofs.NumberSums.{or-both_false, eq-itself}
 use Rattle.iv_gate.proofs.ClientFacts.{Later, to_done, to_settles, to_then}
 use Rattle.iv_gate.proofs.ShapeTexts.{all_made}
 use Rattle.iv_once.specs.Names.{Ask, verdict, Verdict, carry, again, another, late, foreign, ahead, over}
-use Rattle.iv_clients.specs.Names.{Claim, place_text}
+use Rattle.iv_records.specs.Names.{Claim, place_text}
 use Rattle.iv_gate.proofs.StepRelations.{Steps, request_of, step_closes, step_reads}
 
 -- ---- its own message

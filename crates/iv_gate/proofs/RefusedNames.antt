@@ -9,8 +9,8 @@ use Rattle.iv_rows.specs.Options.{if_some}
 use Rattle.iv_machine.specs.Act.{Act, begin, finish, create_role, create_table, create_view, grant, revoke, grant_role, revoke_role, row_security, create_policy, drop_policy, subscribe, unsubscribe, write, Reply}
 use Rattle.iv_message.specs.Message.{Message, no_json, too_long, no_object, no_request, request}
 use Rattle.iv_clients.specs.Clients.{Client, Shown, client_at, may_say}
-use Rattle.iv_clients.specs.Journal.{Entry, Request, claim_said, names_in, said_by}
-use Rattle.iv_clients.specs.Names.{Claim, limits}
+use Rattle.iv_records.specs.Journal.{Entry, Request, claim_said, names_in, said_by}
+use Rattle.iv_records.specs.Names.{Claim, limits}
 use Rattle.iv_clients.specs.Tokens.{Token}
 use Rattle.iv_journal.specs.Journal.{Line}
 use Rattle.iv_once.specs.Names.{Ask, Named, Verdict, is_over, spent_by, verdict}
@@ -112,16 +112,16 @@ module _ (g : Gate) (s : IsSpent (view g)) where
       by false = entries name w
 
   verdict_room : (q : Request) (a : Ask) (v : Verdict) → Reason (names_of g) a v → HasRoom (view g) (verdict_added g q a v)
-  verdict_room q a _ (is_carried w) = decided_room q (Some a) (λ b e. ap (λ (z : Ask). is_over (names_of g) z.holder) (same b e) ∙ w)
+  verdict_room q a _ (is_carried f w d) = decided_room q (Some a) (λ b e. ap (λ (z : Ask). is_over (names_of g) z.holder) (same b e) ∙ w)
     where
       same : (b : Ask) → Some a ≡ Some b → b ≡ a
       same b e = cc
   verdict_room q a _ (is_again x f t) = none_more (view g) s
   verdict_room q a _ (is_another x f t) = none_more (view g) s
-  verdict_room q a _ (is_late t) = none_more (view g) s
-  verdict_room q a _ (is_foreign t) = none_more (view g) s
-  verdict_room q a _ (is_ahead t) = none_more (view g) s
-  verdict_room q a _ (has_to_wait t) = none_more (view g) s
+  verdict_room q a _ (is_late f t) = none_more (view g) s
+  verdict_room q a _ (is_foreign f t) = none_more (view g) s
+  verdict_room q a _ (is_ahead f t) = none_more (view g) s
+  verdict_room q a _ (has_to_wait f t) = none_more (view g) s
 
   shared_room : (c : Client) (q : Request) (claim : Option Claim) → HasRoom (view g) (shared_added g c q claim)
   shared_room c q None = decided_room q None (λ a e. never a e)

@@ -6,8 +6,8 @@ use Rattle.iv_machine.specs.Act.{Refusal, refused, no_session, limit}
 use Rattle.iv_message.specs.Told.{Told, answered, undecided, denied}
 use Rattle.iv_clients.specs.Clients.{Client}
 use Rattle.iv_clients.specs.Feeds.{seat_of}
-use Rattle.iv_clients.specs.Journal.{Request}
-use Rattle.iv_clients.specs.Names.{Claim, place_text}
+use Rattle.iv_records.specs.Journal.{Request}
+use Rattle.iv_records.specs.Names.{Claim, place_text}
 use Rattle.iv_once.specs.Names.{Ask, Verdict, carry, again, another, late, foreign, ahead, over, verdict}
 use Rattle.iv_gate.specs.Gate.{Gate, asked_by, by_verdict, carries, decided_elsewhere, decides, has_shape_room, names_of, place_of, replies_to, done_in, shares, tells}
 use Rattle.iv_gate.proofs.ShapeTexts.{cond-either}

@@ -14,8 +14,8 @@ use Rattle.iv_machine.specs.Changing.{after}
 use Rattle.iv_machine.specs.Machine.{outcome, reply_to, settled, step}
 use Rattle.iv_machine.specs.Refusing.{entries_present, first, frame_refusal, or_else, refusal, rows_refusal, session_test, test, tests_by}
 use Rattle.iv_machine.specs.State.{State, Frame, Session, Subscription, actor, is_within}
-use Rattle.iv_clients.specs.Journal.{Request, is_shared}
-use Rattle.iv_clients.proofs.Cuts.{Found-option_and_then}
+use Rattle.iv_records.specs.Journal.{Request, is_shared}
+use Rattle.iv_records.proofs.CutParts.{Found-option_and_then}
 use Rattle.iv_clients.proofs.Slots.{same-Some, not_None-Some}
 use Rattle.iv_gate.specs.Gate.{in_session, is_accepted, reply_in}
 use Rattle.iv_gate.specs.Replies.{ActsAs}

@@ -31,7 +31,7 @@ use Rattle.iv_gate.proofs.NewSubscriptions.{eq-le_next, reply_in-None, reply_in-
 use Rattle.iv_gate.proofs.SoundSteps.{AllByRecursion-map, AllByRecursion-filter}
 use Rattle.iv_gate.proofs.SoundCommands.{IsFeed, Seer, AllByRecursion-filter_not, feed_of-filter, seer-telling, Sounds}
 use Rattle.iv_gate.proofs.NumberSums.{AllByRecursion-zip, eq-itself}
-use Rattle.iv_clients.specs.Journal.{Entry}
+use Rattle.iv_records.specs.Journal.{Entry}
 use Rattle.iv_steps.specs.Steps.{Fact, all_carried, among, looked_at, shared, stepped}
 use Rattle.iv_machine.specs.Sound.{IsSoundState}
 

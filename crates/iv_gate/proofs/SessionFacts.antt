@@ -12,9 +12,9 @@ use Rattle.iv_message.specs.Told.{replied, unasked}
 use Rattle.iv_clients.specs.Bounds.{most_subs}
 use Rattle.iv_clients.specs.Clients.{Client, at_client, closing, followed_by, is_followed, moved}
 use Rattle.iv_clients.specs.Feeds.{Feed, Seat, feed_for, feed_of, is_reading, room_for, seat_of}
-use Rattle.iv_clients.specs.Journal.{Request, claim_said}
+use Rattle.iv_records.specs.Journal.{Request, claim_said}
 use Rattle.iv_gate.specs.Gate.{Gate, acts, all_swept, begun_for, closes, done_for, feed_begun, in_session, joined, joined_by, joins, reads, reads_first, reply_to, seated, shut, subscribes, swept, tells, with_session, shares, may_have}
-use Rattle.iv_clients.specs.Names.{Claim}
+use Rattle.iv_records.specs.Names.{Claim}
 use Rattle.iv_gate.proofs.RequestFates.{shares_so}
 use Rattle.iv_gate.proofs.StepRelations.{request_of}
 

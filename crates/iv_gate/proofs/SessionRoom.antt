@@ -15,7 +15,7 @@ use Rattle.iv_message.specs.Told.{Told, replied, fault, unasked, settled, grante
 use Rattle.iv_clients.specs.Bounds.{most_feeds, most_subs}
 use Rattle.iv_clients.specs.Clients.{Client, Shown, Slots, Sub, answered, at_all, at_client, beating, checked, client_at, closing, dropping, followed_by, fresh, handing, has_role, is_followed, is_slow, may_say, moved, opens, released, saying, settling, telling, told_one, own_lines}
 use Rattle.iv_clients.specs.Feeds.{Feed, Seat, ends_in, feed_for, feed_of, is_of_role, is_reading, room_for, seat_of, without_seat}
-use Rattle.iv_clients.specs.Journal.{Entry, said_by, shape_for, Request, claim_said, requests_in}
+use Rattle.iv_records.specs.Journal.{Entry, said_by, shape_for, Request, claim_said, requests_in}
 use Rattle.iv_clients.specs.Tokens.{Token}
 use Rattle.iv_clients.proofs.Slots.{client_at-at_client, same-Some, not_None-Some}
 use Rattle.iv_gate.specs.Events.{Event, presented, message, gone, known, ticked, synced, handed, failed, happens, next, arrived, forgave}
@@ -35,13 +35,13 @@ use Rattle.iv_gate.proofs.SoundCommands.{Adds, IsFeed, IsSoundGate, Sounds, seer
 use Rattle.iv_gate.proofs.NumberSums.{or-both_false}
 use Rattle.iv_gate.proofs.EventMarks.{came_as, Opens-token_for, cond-same}
 use Rattle.iv_gate.proofs.ShapeTexts.{cond-either}
-use Rattle.iv_clients.specs.Names.{Claim}
+use Rattle.iv_records.specs.Names.{Claim}
 use Rattle.iv_once.specs.Names.{Ask}
 use Rattle.iv_gate.proofs.RequestFates.{shares_so}
 use Rattle.iv_gate.proofs.StepRelations.{request_of}
 use Rattle.iv_steps.specs.Steps.{Fact, stepped}
 use Rattle.iv_machine.specs.Sound.{IsSoundState}
-use Rattle.iv_gate.specs.Arriving.{Step, entry_of, fact_of, fault_of, is_behind, landed, newly, takes}
+use Rattle.iv_gate.specs.Arriving.{Step, entry_of, fact_of, fault_of, was_taken, landed, newly, takes}
 use Rattle.iv_gate.proofs.StepsTaken.{IsBegun-all_carried}
 
 -- what holds of a gateway besides that its clients are in step
@@ -390,7 +390,7 @@ kept_landed sounds g e fs o h s b =
     kept_settles (informs behind (e ∷ [])) (kept_informs behind (e ∷ []) (record { shared = IsShared-stepped sounds g (e ∷ []) fs o (λ c. own_lines g.feeds o.lines c.subs ++ map granted (newly g.machine.frame o.state.frame c.role)) h s.state b.shared; few = AreFew-filter _ g.feeds b.few }))
 
 kept_takes : Sounds → (g : Gate) (x : Step) → IsSoundGate g → IsKept g → IsKept (takes g x)
-kept_takes sounds g x s b = by (is_some (fault_of g x)) (is_behind g x)
+kept_takes sounds g x s b = by (is_some (fault_of g x)) (was_taken g x)
   where
     lands : (o : Option Outcome) → stepped (map fact_of x.requests) g.machine ≡ o → IsKept (if_some o g (landed g (entry_of x)))
     lands None h = b

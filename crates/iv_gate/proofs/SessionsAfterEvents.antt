@@ -10,20 +10,20 @@ use Rattle.iv_message.specs.Told.{replied, unasked}
 use Rattle.iv_clients.specs.Bounds.{most_feeds, most_subs}
 use Rattle.iv_clients.specs.Clients.{Client, at_client, client_at, closing, followed_by, is_followed, may_say, moved, saying}
 use Rattle.iv_clients.specs.Feeds.{Feed, Seat, feed_for, feed_of, has_room, is_of_role, is_reading, load, room_for, seat_of, without_seat}
-use Rattle.iv_clients.specs.Journal.{said_by, Request, claim_said}
+use Rattle.iv_records.specs.Journal.{said_by, Request, claim_said}
 use Rattle.iv_clients.proofs.Slots.{not_None-Some}
 use Rattle.iv_gate.specs.Events.{Event, presented, message, gone, known, ticked, synced, handed, failed, happens, next, arrived, forgave}
 use Rattle.iv_gate.specs.Gate.{Gate, acts, all_rested, all_swept, begun_for, closes, done_for, feed_begun, hears, in_session, is_needed, joined, joined_by, joins, ran, reads, reads_first, reply_to, rested, token_for, said, seated, settles, shut, subscribes, swept, tells, went, with_session, shares, may_have}
-use Rattle.iv_gate.specs.Needed.{AreSeatsBehind, left, begun}
+use Rattle.iv_gate.specs.Needed.{AreSeatsAfter, left, begun}
 use Rattle.iv_gate.specs.Replies.{AreFull}
 use Rattle.iv_gate.proofs.FeedCounts.{AreFull-no_room}
 use Rattle.iv_gate.proofs.EventMarks.{came_as}
 use Rattle.iv_gate.proofs.ShapeTexts.{cond-either}
 use Rattle.iv_clients.specs.Tokens.{Token}
-use Rattle.iv_gate.specs.Arriving.{Step, fault_of, is_behind, landed, entry_of, fact_of, takes}
+use Rattle.iv_gate.specs.Arriving.{Step, fault_of, was_taken, landed, entry_of, fact_of, takes}
 use Rattle.iv_steps.specs.Steps.{stepped}
 use Rattle.iv_machine.specs.Machine.{Outcome}
-use Rattle.iv_clients.specs.Names.{Claim}
+use Rattle.iv_records.specs.Names.{Claim}
 use Rattle.iv_gate.proofs.RequestFates.{shares_so}
 use Rattle.iv_gate.proofs.StepRelations.{request_of}
 
@@ -227,7 +227,7 @@ module _ (R : Name → Type 0) where
           subst (IsBehind R g) (sym (a.1 ∙ ap (filter a.0) (seats-all_swept (record g { clients = set g.clients m None }) (map (λ s. s.feed) c.subs)))) (stayed a.0)
 
   takes_behind : (g : Gate) (s : Step) → IsBehind R g (takes g s).seats
-  takes_behind g s = by (is_some (fault_of g s)) (is_behind g s) (stepped (map fact_of s.requests) g.machine)
+  takes_behind g s = by (is_some (fault_of g s)) (was_taken g s) (stepped (map fact_of s.requests) g.machine)
     where
       by : (b d : Bool) (o : Option Outcome) → IsBehind R g (cond b (record g { dead = true }) (cond d g (if_some o g (landed g (entry_of s))))).seats
       by true d o = same g
@@ -256,7 +256,7 @@ module _ (R : Name → Type 0) where
 
 -- ---- as the law says it
 
-as_told : (g : Gate) (xs : List Seat) → IsBehind (λ role. Unit {0}) g xs → AreSeatsBehind g xs
+as_told : (g : Gate) (xs : List Seat) → IsBehind (λ role. Unit {0}) g xs → AreSeatsAfter g xs
 as_told g _ (stayed stays) = left stays
 as_told g _ (further s full r) = begun s full
 
@@ -272,5 +272,5 @@ for_any g (arrived s) = tt
 for_any g forgave = tt
 for_any g failed = tt
 
-pub AreSeatsBehind-next : (g : Gate) (e : Event) → AreSeatsBehind g (next g e).seats
-AreSeatsBehind-next g e = as_told g (next g e).seats (next_behind (λ role. Unit {0}) g e (for_any g e))
+pub AreSeatsAfter-next : (g : Gate) (e : Event) → AreSeatsAfter g (next g e).seats
+AreSeatsAfter-next g e = as_told g (next g e).seats (next_behind (λ role. Unit {0}) g e (for_any g e))

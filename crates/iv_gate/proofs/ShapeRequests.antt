@@ -12,8 +12,8 @@ use Rattle.iv_machine.specs.Machine.{settled}
 use Rattle.iv_machine.specs.Refusing.{refusal}
 use Rattle.iv_machine.specs.State.{State, start}
 use Rattle.iv_steps.specs.Steps.{Fact, all_carried, carried, passed, shared}
-use Rattle.iv_clients.specs.Journal.{Request, is_shape, is_shared, requests_in}
-use Rattle.iv_clients.proofs.Cuts.{Found-option_and_then}
+use Rattle.iv_records.specs.Journal.{Request, is_shape, is_shared, requests_in}
+use Rattle.iv_records.proofs.CutParts.{Found-option_and_then}
 use Rattle.iv_clients.proofs.Slots.{same-Some}
 use Rattle.iv_gate.specs.Arriving.{fact_of}
 use Rattle.iv_gate.specs.Gate.{Gate}

@@ -8,7 +8,7 @@ use Rattle.std.proofs.lemmas.List.Elements.{filter-append}
 use Rattle.iv_access.specs.Rights.{Name}
 use Rattle.iv_message.specs.Told.{Told, made, placed, settled, welcome}
 use Rattle.iv_clients.specs.Clients.{Shown, fresh, greeting, told}
-use Rattle.iv_clients.specs.Journal.{Entry, Request, is_shape, requests_in, shape_for, shape_of}
+use Rattle.iv_records.specs.Journal.{Entry, Request, is_shape, requests_in, shape_for, shape_of}
 use Rattle.iv_clients.specs.Tokens.{Token}
 
 -- ---- the shape

@@ -12,8 +12,8 @@ use Rattle.iv_message.specs.Message.{Message, no_json, too_long, no_object, no_r
 use Rattle.iv_message.specs.Told.{Told, changed, over, granted, made, settled, told_text}
 use Rattle.iv_clients.specs.Clients.{Client, Sub, client_at, fresh, may_say, own_line, own_lines, told}
 use Rattle.iv_clients.specs.Feeds.{Feed, rel_read, seat_of}
-use Rattle.iv_clients.specs.Journal.{Entry, Request, claim_said, is_shape, is_shared, requests_in, said_by, shape_for, shape_of}
-use Rattle.iv_clients.specs.Names.{Claim}
+use Rattle.iv_records.specs.Journal.{Entry, Request, claim_said, is_shape, is_shared, requests_in, said_by, shape_for, shape_of}
+use Rattle.iv_records.specs.Names.{Claim}
 use Rattle.iv_clients.specs.Tokens.{Token}
 use Rattle.iv_once.specs.Names.{Ask, Verdict, carry, again, another, late, foreign, ahead, verdict}
 use Rattle.iv_clients.proofs.Slots.{same-Some, not_None-Some}

@@ -11,7 +11,7 @@ use Rattle.iv_machine.specs.Act.{Command, Reply, refused}
 use Rattle.iv_machine.specs.Machine.{step, Outcome}
 use Rattle.iv_message.specs.Told.{Told, alive, settled}
 use Rattle.iv_clients.specs.Clients.{Client, Shown, Slots, all_shown, answered, at_all, at_client, beating, checked, client_at, closing, dropping, following, fresh, handing, is_slow, may_say, moved, opens, released, saying, settling, staying, telling, told_one}
-use Rattle.iv_clients.specs.Journal.{Entry, said_by, shape_for, Request}
+use Rattle.iv_records.specs.Journal.{Entry, said_by, shape_for, Request}
 use Rattle.iv_clients.specs.Tokens.{Token}
 use Rattle.iv_clients.proofs.Slots.{client_at-at_all, client_at-at_other_client, client_at-at_client, is_free-client_at, same-Some, client_at-set_None, client_at-set_other, not_None-Some}
 use Rattle.iv_gate.specs.Events.{Event, presented, message, gone, known, ticked, synced, handed, failed, happens, next, arrived, forgave}
@@ -23,7 +23,7 @@ use Rattle.iv_gate.proofs.SoundSteps.{AllByRecursion-map}
 use Rattle.iv_gate.proofs.StepRelations.{Keeps, Steps, came_keeps, step_done, went_keeps, request_of}
 use Rattle.iv_gate.proofs.EventMarks.{next-alive as is_alive, client_at-is_gone, Opens-token_for, next-dead}
 use Rattle.iv_once.specs.Names.{Ask}
-use Rattle.iv_gate.specs.Arriving.{Step, entry_of, fact_of, fault_of, is_behind, landed, takes}
+use Rattle.iv_gate.specs.Arriving.{Step, entry_of, fact_of, fault_of, was_taken, landed, takes}
 use Rattle.iv_gate.proofs.ClientFacts.{client_at-landed, landed_client, step_told}
 use Rattle.iv_steps.specs.Steps.{stepped}
 
@@ -330,7 +330,7 @@ landed_shows g e o c =
     (told_settling es (telling es more z))
 
 takes_shows : (g : Gate) (s : Step) (j : ℕ) (c d : Client) → client_at g.clients j ≡ Some c → client_at (takes g s).clients j ≡ Some d → IsShowing (takes g s).entries false c d
-takes_shows g s j c d t k = by (is_some (fault_of g s)) (is_behind g s) (stepped (map fact_of s.requests) g.machine) k
+takes_shows g s j c d t k = by (is_some (fault_of g s)) (was_taken g s) (stepped (map fact_of s.requests) g.machine) k
   where
     by : (x y : Bool) (o : Option Outcome) → let h = cond x (record g { dead = true }) (cond y g (if_some o g (landed g (entry_of s)))) in client_at h.clients j ≡ Some d → IsShowing h.entries false c d
     by true y o i = same_client g.entries false g.clients j c d t i

@@ -22,7 +22,7 @@ use Rattle.iv_message.specs.Message.{request}
 use Rattle.iv_message.specs.Told.{Told, changed, opened, over, granted}
 use Rattle.iv_clients.specs.Clients.{Client, Shown, Sub, all_shown, client_at, own_line, own_lines, staying, telling, told, told_one}
 use Rattle.iv_clients.specs.Feeds.{Feed, ends_in, feed_of, feeds_left, is_end, rel_read}
-use Rattle.iv_clients.specs.Journal.{Entry, said_by}
+use Rattle.iv_records.specs.Journal.{Entry, said_by}
 use Rattle.iv_clients.proofs.Slots.{IsFrom, client_at-at_all, IsFrom-option_map}
 use Rattle.iv_steps.specs.Laws.{StepsAreTold}
 use Rattle.iv_gate.specs.Gate.{Gate, granted_by, is_accepted, ran, reply_in, went_on}
@@ -160,7 +160,7 @@ pub record IsAskedIn (messages : List (List ℕ)) (ts : List Told) (own : ℕ) (
   pub text : List ℕ
   pub there : slice_get messages place ≡ Some text
   pub asks : said_by text ≡ request id (subscribe rel)
-  pub reply : slice_get (replies ts) (place + 1) ≡ Some (opened id own columns)
+  pub reply : slice_get (replies ts) (place + 2) ≡ Some (opened id own columns)
 
 pub IsAskedIn-told : (messages : List (List ℕ)) (ts us : List Told) (own : ℕ) (rel : Name) → IsAskedIn messages ts own rel
     → IsAskedIn messages (ts ++ us) own rel
@@ -172,7 +172,7 @@ IsAskedIn-told messages ts us own rel a = record {
   there = a.there;
   asks = a.asks;
   reply =
-      ap (λ z. slice_get z (a.place + 1)) (replies-append ts us) ∙ slice_get-append (replies ts) (replies us) (a.place + 1) (opened a.id own a.columns) a.reply;
+      ap (λ z. slice_get z (a.place + 2)) (replies-append ts us) ∙ slice_get-append (replies ts) (replies us) (a.place + 2) (opened a.id own a.columns) a.reply;
 }
 
 pub IsAskedIn-said : (messages : List (List ℕ)) (text : List ℕ) (ts : List Told) (own : ℕ) (rel : Name) → IsAskedIn messages ts own rel → IsAskedIn (messages ++ text ∷ []) ts own rel

@@ -7,7 +7,7 @@ use Rattle.iv_access.specs.Rights.{Name}
 use Rattle.iv_clients.specs.Bounds.{most_requests, most_waiting}
 use Rattle.iv_clients.specs.Clients.{Client, Shown, Slots, answered, at_client, client_at, fresh, may_say, saying, told, waiting, greeting}
 use Rattle.iv_clients.specs.Feeds.{is_of_role, seat_of}
-use Rattle.iv_clients.specs.Journal.{said_by, Entry}
+use Rattle.iv_records.specs.Journal.{said_by, Entry}
 use Rattle.iv_clients.proofs.Slots.{client_at-at_client, same-Some, client_at-set_other, not_None-Some}
 use Rattle.iv_gate.specs.Events.{Event, presented, message, gone, known, ticked, synced, handed, failed, happens, next, arrived, forgave}
 use Rattle.iv_gate.specs.Gate.{Gate, all_rested, all_swept, begun_for, done_for, hears, token_for, said, seated, settles, went, with_session, at_text}
@@ -100,7 +100,7 @@ told-answered b c x =
 
 -- it was told as many replies as it sent messages, and one to its token
 abbrev pub IsEven : Client → Type 0
-IsEven c = length (replies (told c)) ≡ length c.messages + 1
+IsEven c = length (replies (told c)) ≡ length c.messages + 2
 
 hears_sound : Adds → Sounds → (g : Gate) (m : ℕ) (c : Client) (text : List ℕ) → client_at g.clients m ≡ Some c → IsEven c → IsSoundGate g → IsSoundGate (hears g m c text)
 hears_sound adds sounds g m c text t even b = IsSoundGate-at_client (settles did) m (answered c)

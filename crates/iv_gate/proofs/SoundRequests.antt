@@ -15,7 +15,7 @@ use Rattle.iv_message.specs.Told.{replied, fault, unasked, Told}
 use Rattle.iv_clients.specs.Bounds.{most_feeds, most_subs}
 use Rattle.iv_clients.specs.Clients.{Client, at_client, client_at, closing, followed_by, staying, telling, told}
 use Rattle.iv_clients.specs.Feeds.{Feed, Seat, ends_in, feed_for, has_room, is_of_role, is_reading, load, next_seat, room_for, seat_of}
-use Rattle.iv_clients.specs.Journal.{Entry, said_by, Request, claim_said}
+use Rattle.iv_records.specs.Journal.{Entry, said_by, Request, claim_said}
 use Rattle.iv_clients.proofs.Slots.{client_at-at_all, IsFrom-option_map, same-Some, not_None-Some}
 use Rattle.iv_gate.specs.Gate.{Gate, acts, begun_for, closes, done_for, entered, in_session, is_accepted, joins, ran, reads, reads_first, reply_in, reply_to, done_in, seated, subscribes, swept, tells, told_of, entries_of, shares, may_have, reply_told, replies_to}
 use Rattle.iv_gate.specs.Replies.{ActsAs, replies}
@@ -25,7 +25,7 @@ use Rattle.iv_gate.proofs.ReplyPlaces.{replies-append, replies-told_of}
 use Rattle.iv_gate.proofs.SoundSteps.{IsQuiet, ActsAs-step, AllByRecursion-map, closes_none, IsSoundClient-closing, IsSoundGate-at_client, IsSoundGate-ran, Spares-closes_none, IsSoundGate-swept, IsSoundGate-tells, IsSoundGate-informs}
 use Rattle.iv_gate.proofs.SoundCommands.{Adds, IsFeed, IsSoundGate, Seer, Sounds, IsFeed-step, IsSoundGate-IsReady, seer-telling}
 use Rattle.iv_gate.proofs.ShapeTexts.{cond-either}
-use Rattle.iv_clients.specs.Names.{Claim}
+use Rattle.iv_records.specs.Names.{Claim}
 use Rattle.iv_once.specs.Names.{Ask}
 use Rattle.iv_gate.proofs.RequestFates.{shares_so, IsAside, refers, leaves, repeats}
 use Rattle.iv_gate.proofs.StepRelations.{request_of}
@@ -184,7 +184,7 @@ pub record IsHeard (g : Gate) (m : ℕ) (c : Client) (text : List ℕ) (d : Clie
   pub role : d.role ≡ c.role
   pub before : List (List ℕ)
   pub messages : d.messages ≡ before ++ text ∷ []
-  pub pending : length (replies (told d)) ≡ length before + 1
+  pub pending : length (replies (told d)) ≡ length before + 2
 
 pub IsAsker-IsHeard : (g : Gate) (m : ℕ) (c : Client) (id : Option Data) (text : List ℕ) (rel : Name) (d : Client) → said_by text ≡ request id (subscribe rel) → IsHeard g m c text d → IsAsker d id c.role rel
 IsAsker-IsHeard g m c id text rel d e h = record { same = h.role; before = h.before; text = text; messages = h.messages; asks = e; pending = h.pending }

@@ -19,6 +19,7 @@ use Rattle.iv_gate.proofs.StepsTaken.{IsBegun-all_carried}
 use Rattle.iv_gate.proofs.SoundRequests.{ActsAs-seat_of}
 use Rattle.iv_gate.proofs.JournalDamage.{facts_of}
 use Rattle.iv_gate.proofs.MachineReplies.{AreReplied-IsKept}
+use Rattle.iv_gate.proofs.NamedReplies.{AreNew}
 use Rattle.iv_gate.proofs.SessionRoom.{IsKept, IsKept-next, IsKept-Restores}
 use Rattle.iv_gate.proofs.ClientViews.{AddsToView-IsSoundGate, hindrance-IsSoundGate}
 use Rattle.iv_gate.proofs.SoundEvents.{AreEven, IsSoundGate-next}
@@ -56,7 +57,7 @@ Came-Runs P k cap _ (begins_again h disk tokens most i r l y) m c x = absurd (no
 pub AreEven-Runs : (cap : ℕ) (g : Gate) → Runs cap g → AreEven g
 AreEven-Runs cap g r m c x = even (length (replies (told c))) (length c.messages) (Came-Runs IsAnswered Came-IsAnswered cap g r m c x).each
   where
-    even : (n k : ℕ) → n ≡ 1 + k → n ≡ k + 1
+    even : (n k : ℕ) → n ≡ 2 + k → n ≡ k + 2
     even n k e = omega (arith, e)
 
 pub IsSoundGate-Runs : Adds → Starts → Sounds → (cap : ℕ) (g : Gate) → Runs cap g → IsSoundGate g
@@ -70,9 +71,9 @@ IsKept-Runs adds starts sounds cap _ (begins tokens most head journal g r) = IsK
 IsKept-Runs adds starts sounds cap _ (goes_on h e w r) = IsKept-next adds sounds h e (AreEven-Runs cap h r) (IsSoundGate-Runs adds starts sounds cap h r) (IsKept-Runs adds starts sounds cap h r)
 IsKept-Runs adds starts sounds cap _ (begins_again h disk tokens most i r l x) = IsKept-Restores sounds cap (starts cap) tokens most h.head h.sent disk i x
 
-pub AreReplied-Runs : Adds → Starts → Sounds → (cap : ℕ) (g : Gate) (e : Event) → Runs cap g → g.dead ≡ false → AreReplied g e
-AreReplied-Runs adds starts sounds cap g e r live =
-    AreReplied-IsKept sounds g e (IsSoundGate-Runs adds starts sounds cap g r) (IsKept-Runs adds starts sounds cap g r) live
+pub AreReplied-Runs : Adds → Starts → Sounds → (cap : ℕ) (g : Gate) (e : Event) → Runs cap g → AreNew g → g.dead ≡ false → AreReplied g e
+AreReplied-Runs adds starts sounds cap g e r new live =
+    AreReplied-IsKept sounds g e (IsSoundGate-Runs adds starts sounds cap g r) (IsKept-Runs adds starts sounds cap g r) new live
 
 pub SeesViews-Runs : Adds → Starts → Sounds → (cap : ℕ) (g : Gate) → Runs cap g → SeesViews g
 SeesViews-Runs adds starts sounds cap g r m c own k x h =

@@ -15,7 +15,7 @@ use Rattle.iv_machine.specs.State.{State}
 use Rattle.iv_message.specs.Told.{Told, alive, settled, made}
 use Rattle.iv_clients.specs.Clients.{Client, Shown, Slots, Sub, at_all, at_client, beating, checked, client_at, closing, dropping, handing, is_followed, is_slow, opens, released, settling, told, told_one, telling, greeting}
 use Rattle.iv_clients.specs.Feeds.{Feed, feed_of, without_feed}
-use Rattle.iv_clients.specs.Journal.{Entry, shape_for}
+use Rattle.iv_records.specs.Journal.{Entry, shape_for}
 use Rattle.iv_clients.specs.Tokens.{Token}
 use Rattle.iv_clients.proofs.Slots.{client_at-at_all, client_at-at_other_client, client_at-at_client, IsFrom-option_map, same-Some, not_None-Some}
 use Rattle.iv_gate.specs.Events.{hands, knowing, on_disk, ticking}

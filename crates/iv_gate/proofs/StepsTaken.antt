@@ -12,10 +12,10 @@ use Rattle.iv_machine.specs.State.{Frame, State, Subscription, session_of, subsc
 use Rattle.iv_message.specs.Told.{Told, granted}
 use Rattle.iv_clients.specs.Clients.{Client, own_lines}
 use Rattle.iv_clients.specs.Feeds.{Feed, ends_in}
-use Rattle.iv_clients.specs.Journal.{Entry}
+use Rattle.iv_records.specs.Journal.{Entry}
 use Rattle.iv_steps.specs.Laws.{IsStep}
 use Rattle.iv_steps.specs.Steps.{Fact, all_carried, among, carried, is_shared, looked_at, passed, shared, stepped}
-use Rattle.iv_gate.specs.Arriving.{Step, entry_of, fact_of, fault_of, is_behind, landed, newly, takes}
+use Rattle.iv_gate.specs.Arriving.{Step, entry_of, fact_of, fault_of, was_taken, landed, newly, takes}
 use Rattle.iv_gate.specs.Gate.{Gate, entered, informs, went_on}
 use Rattle.iv_gate.specs.Replies.{ActsAs}
 use Rattle.iv_gate.proofs.CommandEnds.{not_IsToldEnd-ends_in, shown-stepped}
@@ -147,7 +147,7 @@ landed_sound sounds g e fs o h b =
 
 -- a step that comes, whatever it is
 pub IsSoundGate-takes : Sounds → (g : Gate) (s : Step) → IsSoundGate g → IsSoundGate (takes g s)
-IsSoundGate-takes sounds g s b = by (is_some (fault_of g s)) (is_behind g s)
+IsSoundGate-takes sounds g s b = by (is_some (fault_of g s)) (was_taken g s)
   where
     dead : IsSoundGate (record g { dead = true })
     dead = record { state = b.state; seats = b.seats; feeds = b.feeds; clients = b.clients }

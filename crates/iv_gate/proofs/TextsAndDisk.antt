@@ -13,13 +13,13 @@ use Rattle.iv_machine.specs.Act.{Command, Reply, refused}
 use Rattle.iv_machine.specs.Machine.{Outcome, step}
 use Rattle.iv_message.specs.Told.{Told, alive, settled}
 use Rattle.iv_clients.specs.Clients.{Client, Shown, Slots, answered, may_say, at_all, at_client, beating, checked, client_at, closing, dropping, following, fresh, handing, is_free, is_slow, moved, opens, released, saying, settling, staying, telling, told_one, greeting}
-use Rattle.iv_clients.specs.Journal.{Entry, IsEntry, Request, journal_of, names_in, said_by, shape_for}
-use Rattle.iv_clients.specs.Laws.{ReadsBack}
+use Rattle.iv_records.specs.Journal.{Entry, IsEntry, Request, journal_of, names_in, said_by, shape_for}
+use Rattle.iv_records.specs.Laws.{ReadsBack}
 use Rattle.iv_once.specs.Names.{Ask}
 use Rattle.iv_steps.specs.Steps.{stepped}
 use Rattle.iv_clients.specs.Tokens.{Token, token_of}
 use Rattle.iv_clients.proofs.Slots.{client_at-at_all, client_at-at_other_client, client_at-at_client, not_client_at-replicate, same-Some, client_at-set_other, not_None-Some}
-use Rattle.iv_gate.specs.Arriving.{Step, entry_of, fact_of, fault_of, first_known, is_behind, landed, takes}
+use Rattle.iv_gate.specs.Arriving.{Step, entry_of, fact_of, fault_of, first_known, was_taken, landed, takes}
 use Rattle.iv_gate.specs.Events.{Event, presented, message, gone, known, ticked, synced, handed, arrived, forgave, failed, IsWell, happens, hands, knowing, next, on_disk, ticking}
 use Rattle.iv_gate.specs.Gate.{Gate, Head, at_text, hears, known_at, came, done_in, entered, entries_of, has_session, in_session, informs, ran, replies_to, reply_to, reply_told, said, tells, token_for, told_of, went, went_on}
 use Rattle.iv_gate.specs.Laws.{IsFront, SentIsKept}
@@ -260,7 +260,7 @@ module _ (base : List Entry) where
       (held_kit 0).settle (informs i (e ∷ [])) (informs_held i (e ∷ []) (outcome_held h o told (more_held g (e ∷ []) b)))
 
   takes_held : (g : Gate) (s : Step) → IsHeld base g → IsHeld base (takes g s)
-  takes_held g s b = by (is_some (fault_of g s)) (is_behind g s) (stepped (map fact_of s.requests) g.machine)
+  takes_held g s b = by (is_some (fault_of g s)) (was_taken g s) (stepped (map fact_of s.requests) g.machine)
     where
       by : (d p : Bool) (o : Option Outcome) → IsHeld base (cond d (record g { dead = true }) (cond p g (if_some o g (landed g (entry_of s)))))
       by true p o = record { front = b.front; kept = b.kept; sent = b.sent; clients = b.clients }
@@ -456,9 +456,9 @@ said_booked texts g m text b k = by (client_at g.clients m) refl
     by (Some c) e = heard c e (may_say c)
 
 takes_booked : (g : Gate) (s : Step) → IsEntry (entry_of s) → IsBooked g → IsBooked (takes g s)
-takes_booked g s w k = by (is_some (fault_of g s)) refl (is_behind g s) refl (stepped (map fact_of s.requests) g.machine)
+takes_booked g s w k = by (is_some (fault_of g s)) refl (was_taken g s) refl (stepped (map fact_of s.requests) g.machine)
   where
-    by : (d : Bool) → is_some (fault_of g s) ≡ d → (p : Bool) → is_behind g s ≡ p → (o : Option Outcome)
+    by : (d : Bool) → is_some (fault_of g s) ≡ d → (p : Bool) → was_taken g s ≡ p → (o : Option Outcome)
         → IsBooked (cond d (record g { dead = true }) (cond p g (if_some o g (landed g (entry_of s)))))
     by true e p f o = IsBooked-same_entries g (record g { dead = true }) refl refl k
     by false e true f o = k

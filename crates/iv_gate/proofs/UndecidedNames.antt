@@ -4,8 +4,8 @@ use Rattle.std.specs.Prelude.{bytes_eq, filter}
 use Rattle.std.proofs.lemmas.List.{length-append}
 use Rattle.std.proofs.lemmas.List.Concat.{flat_map-append}
 use Rattle.std.proofs.lemmas.List.Elements.{filter-append}
-use Rattle.iv_clients.specs.Journal.{Entry, names_in}
-use Rattle.iv_clients.specs.Names.{limits}
+use Rattle.iv_records.specs.Journal.{Entry, names_in}
+use Rattle.iv_records.specs.Names.{limits}
 use Rattle.iv_once.specs.Names.{Named}
 use Rattle.iv_gate.specs.Events.{Event, next}
 use Rattle.iv_gate.specs.Gate.{Gate, Head, place_at}

@@ -7,8 +7,8 @@ use Rattle.iv_machine.specs.Machine.{Outcome}
 use Rattle.iv_machine.specs.State.{Frame}
 use Rattle.iv_message.specs.Told.{granted}
 use Rattle.iv_clients.specs.Clients.{own_lines}
-use Rattle.iv_clients.specs.Journal.{Entry, Request, position_of}
-use Rattle.iv_clients.specs.Names.{limits}
+use Rattle.iv_records.specs.Journal.{Entry, Request, position_of}
+use Rattle.iv_records.specs.Names.{limits}
 use Rattle.iv_once.specs.Names as once
 use Rattle.iv_once.specs.Names.{Ask, Known, Named, learned, named}
 use Rattle.iv_steps.specs.Steps.{Fact, first_refused, shared, stepped}
@@ -53,12 +53,12 @@ first_known n [] k = None
 first_known n (e ∷ es) k = if is_new k e.ask then first_known (n + 1) es (learned limits (named e) k) else Some (not_new n)
 
 -- it was taken already
-abbrev pub is_behind : Gate → Step → Bool
-is_behind g s = if_some g.head.log false (is_log s.log) && nat_le s.to (position g)
+abbrev pub was_taken : Gate → Step → Bool
+was_taken g s = if_some g.head.log false (is_log s.log) && nat_le s.to (position g)
 
 abbrev pub fault_of : Gate → Step → Option Fault
 fault_of g s =
-    if is_behind g s then None else (
+    if was_taken g s then None else (
     if not (if_some g.head.log false (is_log s.log)) then Some other_log else (
     if not ((s.from == position g) && nat_lt s.from s.to) then Some (gap (position g)) else (
     if_some (first_known 1 s.names (known_of g)) (option_map (λ p. not_accepted p.0 p.1) (first_refused 1 (map fact_of s.requests) (shared g.machine))) Some)))
@@ -69,7 +69,7 @@ entry_of s = record { requests = s.requests; names = s.names; position = Some s.
 
 -- the relations on which the role has some privilege after it, and had none before
 abbrev pub newly : Frame → Frame → Name → List Name
-newly before behind role = filter (λ rel. has_some behind role rel && not (has_some before role rel)) (map (λ e. e.name) behind.catalog)
+newly before after role = filter (λ rel. has_some after role rel && not (has_some before role rel)) (map (λ e. e.name) after.catalog)
 
 -- it is carried out whole: each client is told once what differs, also of what it may read from now on and of the shape, and that this is all
 abbrev pub landed : Gate → Entry → Outcome → Gate
@@ -79,4 +79,4 @@ landed g e o = settles (informs (went_on (entered g (e ∷ [])) o
 -- a step is taken, or was taken before and changes nothing, or the gateway is dead
 abbrev pub takes : Gate → Step → Gate
 takes g s = if is_some (fault_of g s) then record g { dead = true } else (
-    if is_behind g s then g else if_some (stepped (map fact_of s.requests) g.machine) g (landed g (entry_of s)))
+    if was_taken g s then g else if_some (stepped (map fact_of s.requests) g.machine) g (landed g (entry_of s)))

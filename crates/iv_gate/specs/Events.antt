@@ -4,8 +4,7 @@ use Rattle.std.specs.List.{AllByRecursion, list_all}
 use Rattle.serde_json.specs.Find.{as_object}
 use Rattle.iv_rows.specs.Options.{if_some}
 use Rattle.iv_clients.specs.Clients.{at_all, at_client, beating, checked, client_at, handing, released}
-use Rattle.iv_clients.specs.Bounds.{most_said}
-use Rattle.iv_clients.specs.Journal.{IsEntry, texts_of}
+use Rattle.iv_records.specs.Journal.{IsEntry, most_said, texts_of}
 use Rattle.iv_clients.specs.Tokens.{Token}
 use Rattle.iv_journal.specs.Journal.{is_text}
 use Rattle.iv_once.specs.Names.{Named}

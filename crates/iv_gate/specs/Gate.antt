@@ -23,8 +23,8 @@ use Rattle.iv_clients.specs.Bounds.{most_subs}
 use Rattle.iv_clients.specs.Clients.{Client, Shown, Slots, at_all, at_client, client_at, closing, followed_by, following, fresh, has_role, is_followed, is_free, may_say, moved, own_lines, saying, settling, staying, telling, told_one}
 use Rattle.iv_clients.specs.Clients as clients
 use Rattle.iv_clients.specs.Feeds.{Feed, Seat, feed_for, feed_of, feeds_left, is_of_role, is_reading, next_seat, room_for, seat_of, without_feed, without_seat}
-use Rattle.iv_clients.specs.Journal.{Entry, Request, claim_said, is_shape, is_shared, line_said, names_in, said_by, shape_for, shape_of}
-use Rattle.iv_clients.specs.Names.{Claim, holder_of, limits, place_text}
+use Rattle.iv_records.specs.Journal.{Entry, Request, claim_said, is_shape, is_shared, line_said, names_in, said_by, shape_for, shape_of}
+use Rattle.iv_records.specs.Names.{Claim, holder_of, limits, place_text}
 use Rattle.iv_clients.specs.Tokens.{Token, token_of}
 
 -- a log that others keep, and its epoch: 32 digits that no other beginning of it has

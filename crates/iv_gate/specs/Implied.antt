@@ -7,7 +7,7 @@ use Rattle.iv_machine.specs.declared.Cause.{Cause}
 use Rattle.iv_message.specs.Told.{granted, over}
 use Rattle.iv_clients.specs.Clients.{Client, followed_by, is_followed}
 use Rattle.iv_clients.specs.Feeds.{rel_read}
-use Rattle.iv_clients.specs.Names.{limits}
+use Rattle.iv_records.specs.Names.{limits}
 use Rattle.iv_clients.specs.Tokens.{Token}
 use Rattle.iv_journal.specs.Journal.{Line}
 use Rattle.iv_once.specs.Names.{Ask}
@@ -62,8 +62,7 @@ PositionsLast cap g = (disk : List Line) (tokens : List Token) (most : ℕ) (h :
 
 -- ---- names
 
--- all entries of the holder that were after the place and may have borne a name are forgotten, or the place is of another epoch: what was
--- told 102 or 103 is told it for ever
+-- the place is too old or of another epoch: what was told 102 or 103 is barred for ever
 abbrev pub IsPast : Gate → Ask → Type 0
 IsPast g a = (a.at.count + limits.names < count_of g a.holder) ⊎ (a.at.epoch ≢ (place_at g.head a.holder).epoch)
 

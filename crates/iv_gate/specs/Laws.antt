@@ -7,19 +7,19 @@ use Rattle.iv_machine.specs.State.{start}
 use Rattle.iv_message.specs.Told.{Told, alive, granted, made, settled}
 use Rattle.iv_clients.specs.Bounds.{most_piled, most_requests, most_subs}
 use Rattle.iv_clients.specs.Clients.{Client, Shown, all_shown, by_others, client_at, may_say, text_shown, told}
-use Rattle.iv_clients.specs.Journal.{Entry, is_shape, requests_in, shape_for}
-use Rattle.iv_clients.specs.Names.{limits}
+use Rattle.iv_records.specs.Journal.{Entry, is_shape, requests_in, shape_for}
+use Rattle.iv_records.specs.Names.{limits}
 use Rattle.iv_journal.specs.Journal.{Line}
 use Rattle.iv_once.specs.Laws.{times}
 use Rattle.iv_once.specs.Names.{Place}
 use Rattle.iv_steps.specs.Steps.{all_carried, shared}
 use Rattle.iv_clients.specs.Tokens.{Token}
 use Rattle.iv_gate.specs.Events.{Event, IsWell, arrived, failed, forgave, handed, known, message, next, synced, ticked}
-use Rattle.iv_gate.specs.Arriving.{entry_of, fact_of, fault_of, is_behind, newly}
+use Rattle.iv_gate.specs.Arriving.{entry_of, fact_of, fault_of, was_taken, newly}
 use Rattle.iv_gate.specs.Gate.{Gate, granted_by}
 use Rattle.iv_gate.specs.Replies.{AreReplied, ByClient, IsAnswered, IsClient, added_by, heard_by, names_by, refused_by, told_by}
 use Rattle.iv_gate.specs.Touched.{ActsByToken, AreTouched, LetsIn}
-use Rattle.iv_gate.specs.Needed.{AreSeatsBehind, KnowsMachine}
+use Rattle.iv_gate.specs.Needed.{AreSeatsAfter, KnowsMachine}
 use Rattle.iv_gate.specs.Restoring.{Restores, gate_at_start}
 use Rattle.iv_gate.specs.Runs.{LeavesOnDisk, Runs}
 use Rattle.iv_gate.specs.Seen.{AreOver, SeesViews, StaysClosed, TellsDifference}
@@ -62,9 +62,9 @@ NamesAreOnce g = (holder name : List ℕ) (at : Place) → times name at (names_
 
 -- ---- marks
 
--- a step that is behind the position adds nothing, one that is taken is one entry; a client's message adds what its reply says; nothing else adds
+-- a step that was taken already adds nothing, one that is taken is one entry; a client's message adds what its reply says; nothing else adds
 abbrev pub AddsOnly : Gate → Event → List Entry → Type 0
-AddsOnly g (arrived s) es = es ≡ (if is_behind g s || is_some (fault_of g s) then [] else entry_of s ∷ [])
+AddsOnly g (arrived s) es = es ≡ (if was_taken g s || is_some (fault_of g s) then [] else entry_of s ∷ [])
 AddsOnly g (message m text) es = if_some (client_at g.clients m) false may_say ≡ false → es ≡ []
 AddsOnly g e es = es ≡ []
 
@@ -186,7 +186,7 @@ pub record HoldsBy (g : Gate) (e : Event) : Type 0 where
   pub told : g.dead ≡ false → GrantsAreTold g e
   pub settles : g.dead ≡ false → ByClient g e (λ m c d. IsSettledBy e (told_by c d))
   pub shows : AreShown g e
-  pub begins : AreSeatsBehind g (next g e).seats
+  pub begins : AreSeatsAfter g (next g e).seats
 
 -- in whatever runs, over restarts
 abbrev pub HoldAlways : Type 0

@@ -24,6 +24,6 @@ pub record KnowsMachine (g : Gate) : Type 0 where
   pub read : AllByRecursion (λ e. is_followed e.number g.clients ≡ true) g.machine.frame.subscriptions
 
 -- the sessions after an event: some of those before, or one more, of a role that has none with a place
-pub data AreSeatsBehind (g : Gate) : List Seat → Type 0 where
-  left : (stays : Seat → Bool) → AreSeatsBehind g (filter stays g.seats)
-  begun : (s : Seat) → AreFull g.seats g.feeds s.role → AreSeatsBehind g (g.seats ++ s ∷ [])
+pub data AreSeatsAfter (g : Gate) : List Seat → Type 0 where
+  left : (stays : Seat → Bool) → AreSeatsAfter g (filter stays g.seats)
+  begun : (s : Seat) → AreFull g.seats g.feeds s.role → AreSeatsAfter g (g.seats ++ s ∷ [])

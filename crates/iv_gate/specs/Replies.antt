@@ -1,5 +1,5 @@
 -- What a client is replied.
-use Rattle.std.specs.Prelude.{◌≡◌, ◌≢◌, ◌≤◌, ◌<◌, bytes_eq, codes, count_by, ◌⊎◌, ℕ, ◌+◌, ◌==◌, ◌&&◌, Bool, true, false, if◌then◌else◌, List, [], ◌∷◌, Contains, filter, drop, length, slice_get, Option, Some, None, is_some}
+use Rattle.std.specs.Prelude.{◌≡◌, ◌≢◌, ◌≤◌, ◌<◌, bytes_eq, codes, count_by, ◌⊎◌, ℕ, ◌+◌, ◌==◌, ◌&&◌, Bool, true, false, if◌then◌else◌, List, [], ◌∷◌, Contains, filter, drop, take, reverse, length, slice_get, Option, Some, None, is_some}
 use Rattle.std.specs.List.{AllByRecursion}
 use Rattle.serde_json.specs.Data.{Data}
 use Rattle.iv_rows.specs.Columns.{Column}
@@ -9,12 +9,12 @@ use Rattle.iv_machine.specs.Act.{Act, begin, finish, subscribe, unsubscribe, don
 use Rattle.iv_machine.specs.Machine.{step}
 use Rattle.iv_machine.specs.State.{Session, State, session_of}
 use Rattle.iv_message.specs.Message.{Message, no_json, too_long, no_object, no_request, request, unknown}
-use Rattle.iv_message.specs.Told.{Told, welcome, replied, opened, fault, unasked, answered, undecided, denied}
+use Rattle.iv_message.specs.Told.{Told, welcome, placed, replied, opened, fault, unasked, answered, undecided, denied}
 use Rattle.iv_clients.specs.Clients.{Client, client_at, followed_by, may_say, told}
 use Rattle.iv_clients.specs.Bounds.{most_feeds, most_seats, most_subs}
 use Rattle.iv_clients.specs.Feeds.{Feed, Seat, feed_for}
-use Rattle.iv_clients.specs.Journal.{Entry, Request, claim_said, line_said, names_in, said_by}
-use Rattle.iv_clients.specs.Names.{Claim, limits, place_text}
+use Rattle.iv_records.specs.Journal.{Entry, Request, claim_said, line_said, names_in, said_by}
+use Rattle.iv_records.specs.Names.{Claim, limits, place_text}
 use Rattle.iv_once.specs.Names.{Ask, Named}
 use Rattle.iv_gate.specs.Events.{Event, message, next}
 use Rattle.iv_gate.specs.Gate.{Gate, answer_text, asked_by, columns_in, entries_of, has_shape_room, in_session, known_of, may_have, place_at, reply_in}
@@ -39,6 +39,7 @@ told_by c d = drop (length (told c)) (told d)
 -- to the token, or to a message
 abbrev pub is_reply : Told → Bool
 is_reply (welcome role) = true
+is_reply (placed at) = true
 is_reply (replied id r) = true
 is_reply (opened id own columns) = true
 is_reply (fault number) = true
@@ -100,29 +101,51 @@ count_of g holder = (place_at g.head holder).count + length (names_by g holder)
 abbrev pub refused_by : Gate → List ℕ → ℕ
 refused_by g holder = count_by (λ e. e.refused && bytes_eq e.ask.holder holder) (names_in (drop g.forgiven g.entries))
 
-abbrev pub IsAnswer : List Entry → Ask → List ℕ → Type 0
-IsAnswer es a answer = (refused : Bool) × Contains (names_in es) (record { ask = a; refused = refused; answer = answer })
+-- the last of them, the latest first: those that are remembered
+abbrev pub remembered_by : Gate → List ℕ → List Named
+remembered_by g holder = take limits.names (reverse (names_by g holder))
 
--- why nobody says whether a request with a name was done
-pub data IsUndecided (g : Gate) (a : Ask) : ℕ → Type 0 where
-  elsewhere : is_some g.head.log ≡ true → IsUndecided g a 100
-  another : (e : Named) → Contains (names_by g a.holder) e → e.ask.name ≡ a.name → e.ask ≢ a → IsUndecided g a 101
-  late : a.at.count + limits.names < count_of g a.holder → IsUndecided g a 102
-  foreign : a.at.epoch ≢ (place_at g.head a.holder).epoch → IsUndecided g a 103
-  ahead : count_of g a.holder < a.at.count → IsUndecided g a 104
-  refused_often : limits.refusals ≤ refused_by g a.holder → IsUndecided g a 104
-  many : limits.holders ≤ (known_of g).holders → count_of g a.holder ≡ 0 → IsUndecided g a 104
+-- one of these names has the answer to the request
+abbrev pub IsAnswer : List Named → Ask → List ℕ → Type 0
+IsAnswer es a answer = (refused : Bool) × Contains es (record { ask = a; refused = refused; answer = answer })
+
+-- none of them has one
+abbrev pub NoneAnswers : List Named → Ask → Type 0
+NoneAnswers es a = (answer : List ℕ) → IsAnswer es a answer → ⊥
+
+-- what bars a request with a name: its name is another request's; its place is so old that its answer may be forgotten; or its place is of
+-- another epoch
+pub data IsBarred (g : Gate) (a : Ask) : ℕ → Type 0 where
+  another : (e : Named) → Contains (remembered_by g a.holder) e → e.ask.name ≡ a.name → e.ask ≢ a → IsBarred g a 101
+  late : a.at.count + limits.names < count_of g a.holder → IsBarred g a 102
+  foreign : a.at.epoch ≢ (place_at g.head a.holder).epoch → IsBarred g a 103
+
+-- it may be done: none of its holder's names answers it, and nothing bars it
+pub record MayBeDone (g : Gate) (a : Ask) : Type 0 where
+  pub new : NoneAnswers (names_by g a.holder) a
+  pub free : (number : ℕ) → IsBarred g a number → ⊥
+
+-- why it has to wait: what is shared is decided elsewhere; its place is ahead; too many of its holder's names were refused; or too many holders
+-- have names
+pub data HasToWait (g : Gate) (a : Ask) : ℕ → Type 0 where
+  elsewhere : is_some g.head.log ≡ true → HasToWait g a 100
+  ahead : count_of g a.holder < a.at.count → HasToWait g a 104
+  refused_often : limits.refusals ≤ refused_by g a.holder → HasToWait g a 104
+  many : limits.holders ≤ (known_of g).holders → (known_of g).owns a.holder ≡ None → HasToWait g a 104
 
 -- where the names of a holder stand when as many more have an answer
-abbrev pub place_behind : Gate → List ℕ → ℕ → List ℕ
-place_behind g holder more = place_text (record { epoch = (place_at g.head holder).epoch; count = count_of g holder + more })
+abbrev pub place_after : Gate → List ℕ → ℕ → List ℕ
+place_after g holder more = place_text (record { epoch = (place_at g.head holder).epoch; count = count_of g holder + more })
 
--- the reply to a request with a name, and what it adds to the journal: it is done now; or it was, and its answer is told again; or it is undecided
+-- the reply to a request with a name, and what it adds to the journal: if it may be done, it is done now or has to wait; if its answer is
+-- remembered, that is told again; if it is barred and no answer is remembered, nobody says whether it was done
 pub data IsNamedReply (g : Gate) (c : Client) (id : Option Data) (q : Request) (a : Ask) : Told → List Entry → Type 0 where
-  is_done : (r : Reply) → g.head.log ≡ None → IsSharedReply g c q.act r
-      → IsNamedReply g c id q a (answered id false (place_behind g a.holder 1) (answer_text r)) (entries_of q (Some a) r)
-  is_repeated : (answer : List ℕ) → IsAnswer g.entries a answer → IsNamedReply g c id q a (answered id true (place_behind g a.holder 0) answer) []
-  is_left : (number : ℕ) → IsUndecided g a number → IsNamedReply g c id q a (undecided id number) []
+  is_done : (r : Reply) → MayBeDone g a → ((number : ℕ) → HasToWait g a number → ⊥) → IsSharedReply g c q.act r
+      → IsNamedReply g c id q a (answered id false (place_after g a.holder 1) (answer_text r)) (entries_of q (Some a) r)
+  waits : (number : ℕ) → MayBeDone g a → HasToWait g a number → IsNamedReply g c id q a (undecided id number) []
+  is_repeated : (answer : List ℕ) → IsAnswer (remembered_by g a.holder) a answer
+      → IsNamedReply g c id q a (answered id true (place_after g a.holder 0) answer) []
+  is_left : (number : ℕ) → NoneAnswers (remembered_by g a.holder) a → IsBarred g a number → IsNamedReply g c id q a (undecided id number) []
 
 -- ---- acts
 
@@ -168,16 +191,16 @@ abbrev pub is_opened : Told → Bool
 is_opened (opened id own columns) = true
 is_opened _ = false
 
--- a client was told a welcome, and then one reply to each of its messages; each subscription that was opened has the next number
+-- a client was told a welcome and its place, and then one reply to each of its messages; each subscription that was opened has the next number
 pub record IsAnswered (c : Client) : Type 0 where
-  pub welcome : (ts : List Told) × (told c ≡ welcome c.role ∷ ts)
-  pub each : length (replies (told c)) ≡ 1 + length c.messages
+  pub welcome : (at : List ℕ) × (ts : List Told) × (told c ≡ welcome c.role ∷ placed at ∷ ts)
+  pub each : length (replies (told c)) ≡ 2 + length c.messages
   pub given : c.given ≡ length (filter is_opened (told c))
 
--- its message at this place has the reply
+-- its message at this place has the reply: those to its token come before
 abbrev pub IsReplyAt : Client → ℕ → Option Data → Act → Told → Type 0
 IsReplyAt c place id act t = (text : List ℕ) × (slice_get c.messages place ≡ Some text) × (said_by text ≡ request id act)
-    × (slice_get (replies (told c)) (place + 1) ≡ Some t)
+    × (slice_get (replies (told c)) (place + 2) ≡ Some t)
 
 -- the client asked the relation by its own number: the reply to a message that asks it gave the number
 abbrev pub IsAskedBy : Client → ℕ → Name → Type 0

@@ -4,7 +4,7 @@ use Rattle.std.specs.List.{AllByRecursion}
 use Rattle.iv_rows.specs.Options.{if_some}
 use Rattle.iv_machine.specs.State.{State, start}
 use Rattle.iv_clients.specs.Clients.{Shown}
-use Rattle.iv_clients.specs.Journal.{Entry, IsEntry, journal_of, names_in, requests_in}
+use Rattle.iv_records.specs.Journal.{Entry, IsEntry, journal_of, names_in, requests_in}
 use Rattle.iv_clients.specs.Tokens.{Token}
 use Rattle.iv_journal.specs.Journal.{Line}
 use Rattle.iv_steps.specs.Steps.{all_carried}
@@ -54,7 +54,7 @@ pub record IsDamagedAt (g : Gate) (lines : List Line) (place : ℕ) : Type 0 whe
   pub rest : List Line
   pub all : lines ≡ journal_of entries ++ rest
   pub leads : LeadOn g entries gate
-  pub behind : place ≡ length (journal_of entries)
+  pub after : place ≡ length (journal_of entries)
   pub some : place < length lines
   pub bad : (e : Entry) (more : List Line) (h : Gate) → rest ≡ journal_of (e ∷ []) ++ more → LeadOn g (entries ++ e ∷ []) h → ⊥
 

@@ -1,6 +1,6 @@
 -- Whatever happens to a gateway, over restarts.
 use Rattle.std.specs.Prelude.{◌≡◌, ◌≤◌, ℕ, List, [], take}
-use Rattle.iv_clients.specs.Journal.{journal_of}
+use Rattle.iv_records.specs.Journal.{journal_of}
 use Rattle.iv_clients.specs.Tokens.{Token}
 use Rattle.iv_journal.specs.Journal.{Line}
 use Rattle.iv_gate.specs.Events.{Event, IsWell, next}

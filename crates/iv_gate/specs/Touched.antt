@@ -8,16 +8,16 @@ use Rattle.iv_access.specs.Rights.{Name}
 use Rattle.iv_clients.specs.Bounds.{most_seats}
 use Rattle.iv_clients.specs.Clients.{Client, client_at, fresh, handing, is_free, is_slow, opens, saying}
 use Rattle.iv_clients.specs.Feeds.{seat_of}
-use Rattle.iv_clients.specs.Names.{holder_of}
+use Rattle.iv_records.specs.Names.{holder_of}
 use Rattle.iv_clients.specs.Tokens.{Token, role_opened, token_of}
 use Rattle.iv_gate.specs.Events.{Event, presented, gone, known, synced, handed, next}
 use Rattle.iv_gate.specs.Gate.{Gate}
-use Rattle.iv_gate.specs.Replies.{heard_by, place_behind}
+use Rattle.iv_gate.specs.Replies.{heard_by, place_after}
 
 -- the client after an event, as far as others cannot change it: its own message that is heard, and what is handed to it
-abbrev pub itself_behind : ℕ → Client → Event → Client
-itself_behind m c (handed n) = if n == m then handing c else c
-itself_behind m c e = if_some (heard_by m c e) c (λ text. saying text c)
+abbrev pub itself_after : ℕ → Client → Event → Client
+itself_after m c (handed n) = if n == m then handing c else c
+itself_after m c e = if_some (heard_by m c e) c (λ text. saying text c)
 
 -- the event drops the client: it does not take what it is offered, or its token is known no more
 abbrev pub drops : Client → Event → Bool
@@ -33,7 +33,7 @@ as_told now c = record c { given = now.given; subs = now.subs; unsynced = now.un
 pub record StaysItself (g : Gate) (e : Event) (m : ℕ) (c : Client) : Type 0 where
   pub now : Client
   pub there : client_at (next g e).clients m ≡ Some now
-  pub is : now ≡ record (as_told now (itself_behind m c e)) { dropped = c.dropped || drops c e }
+  pub is : now ≡ record (as_told now (itself_after m c e)) { dropped = c.dropped || drops c e }
 
 -- a number that nobody had has a client who presented a token that is known, and who is told its greeting alone
 pub record IsNewcomer (g : Gate) (e : Event) (m : ℕ) (d : Client) : Type 0 where
@@ -41,7 +41,7 @@ pub record IsNewcomer (g : Gate) (e : Event) (m : ℕ) (d : Client) : Type 0 whe
   pub token : Token
   pub event : e ≡ presented m text
   pub opened : token_of g.tokens (sha256 text) ≡ Some token
-  pub is : d ≡ fresh (next g e).entries token (place_behind g (holder_of token.role token.user) 0)
+  pub is : d ≡ fresh (next g e).entries token (place_after g (holder_of token.role token.user) 0)
 
 pub record AreTouched (g : Gate) (e : Event) : Type 0 where
   pub stays : (m : ℕ) (c : Client) → client_at g.clients m ≡ Some c → (e ≡ gone m → ⊥) → StaysItself g e m c

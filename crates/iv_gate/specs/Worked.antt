@@ -8,8 +8,8 @@ use Rattle.iv_access.specs.Rights.{Name}
 use Rattle.iv_machine.specs.Act.{Act, create_role, create_table, create_view, done, grant, insert, revoke, write}
 use Rattle.iv_message.specs.Told.{Told, answered, changed, settled}
 use Rattle.iv_clients.specs.Clients.{client_at, told, untold}
-use Rattle.iv_clients.specs.Journal.{Request}
-use Rattle.iv_clients.specs.Names.{holder_of, place_text}
+use Rattle.iv_records.specs.Journal.{Request}
+use Rattle.iv_records.specs.Names.{holder_of, place_text}
 use Rattle.iv_clients.specs.Tokens.{Token}
 use Rattle.iv_once.specs.Names.{Ask, verdict}
 use Rattle.iv_gate.specs.Arriving.{Step, takes}
@@ -107,8 +107,8 @@ abbrev pub too_large : Step
 too_large = step 1 2 (by_admin (put (2 ^ 62)) ∷ by_admin (put (2 ^ 62)) ∷ [])
 
 -- what was taken already; what begins elsewhere; of another log; what ann may not do
-abbrev pub behind : Step
-behind = step 0 1 (by_admin (put 3) ∷ [])
+abbrev pub taken_before : Step
+taken_before = step 0 1 (by_admin (put 3) ∷ [])
 
 abbrev pub later : Step
 later = step 2 3 []

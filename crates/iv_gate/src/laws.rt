@@ -7,7 +7,7 @@ ghost use Rattle.iv_gate.specs.Events.{Event, IsWell, next};
 ghost use Rattle.iv_gate.specs.Gate.{Gate};
 ghost use Rattle.iv_gate.specs.Laws.{HoldAlways, IsSettledBy, LeavesMarks};
 ghost use Rattle.iv_gate.specs.Implied.{ReadsForClients};
-ghost use Rattle.iv_gate.specs.Needed.{AreSeatsBehind, KnowsMachine};
+ghost use Rattle.iv_gate.specs.Needed.{AreSeatsAfter, KnowsMachine};
 ghost use Rattle.iv_gate.specs.Replies.{ActsAs, AreReplied, ByClient, IsAnswered, IsClient, told_by};
 ghost use Rattle.iv_gate.specs.Runs.{Runs};
 ghost use Rattle.iv_gate.specs.Seen.{AreOver, SeesViews, StaysClosed};
@@ -19,6 +19,8 @@ pub mod journal;
 use iv_machine::laws::{
     ends_are_told, lines_add_up, requests_open_what_they_name, steps_keep_sound, what_stands_lasts,
 };
+use iv_message::laws::told_texts_are_lines;
+use iv_records::laws::{names_are_texts, records_are_read_back};
 use iv_steps::laws::{refusals_are_found, steps_are_told};
 
 pub mod hearing;
@@ -93,7 +95,7 @@ pub fn sessions_act_in_their_roles()
 
 /// By an event no more than one session is begun, for a role that has none with a place.
 pub fn sessions_are_begun_by_need()
-    ensures { (g : Gate) (e : Event) → AreSeatsBehind g (next g e).seats }
+    ensures { (g : Gate) (e : Event) → AreSeatsAfter g (next g e).seats }
 {}
 
 // ---- replies
@@ -109,10 +111,13 @@ pub fn messages_are_replied()
     ends_are_told();
     requests_open_what_they_name();
     steps_are_told();
+    records_are_read_back();
+    names_are_texts();
+    told_texts_are_lines();
 }
 
-/// In whatever runs, over restarts, each client that is not to go was told a welcome first, and as many replies after it as messages
-/// of it were heard; and the last of its own numbers is how many subscriptions were opened for it.
+/// In whatever runs, over restarts, each client that is not to go was told a welcome and its place first, and as many replies after
+/// them as messages of it were heard; and the last of its own numbers is how many subscriptions were opened for it.
 pub fn clients_are_answered()
     ensures { (cap : ℕ) (g : Gate) (m : ℕ) (c : Client) → Runs cap g → IsClient g m c → IsAnswered c }
 {}

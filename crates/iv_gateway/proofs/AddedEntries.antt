@@ -1,7 +1,6 @@
 -- What the code keeps of entries that are added: names, positions, lines and the shape.
-use Rattle.std.proofs.Common.{◌≡◌, ◌∙◌, ◌≤◌, ℕ, ◌+◌, ◌-◌, Bool, true, false, cond, not, ◌||◌, List, [], ◌∷◌, ◌++◌, length, drop, take, Option, Some, None, is_some, refl, ap, sym, subst, append-nil, arith, length-append}
-use Rattle.std.specs.Prelude.{◌&&◌, bytes_eq, option_map, unwrap_or}
-use Rattle.std.proofs.Math.Seq.{take-length}
+use Rattle.std.proofs.Common.{◌≡◌, ◌∙◌, ◌≤◌, ℕ, ◌+◌, ◌-◌, Bool, true, false, cond, not, ◌||◌, List, [], ◌∷◌, ◌++◌, length, drop, map, Option, Some, None, is_some, refl, ap, sym, subst, append-nil, arith, length-append}
+use Rattle.std.specs.Prelude.{◌&&◌, bytes_eq, flat_map, option_map, unwrap_or}
 use Rattle.std.proofs.lemmas.Bool.{false≢true}
 use Rattle.std.proofs.lemmas.List.{drop-append-le, take-append-le}
 use Rattle.std.proofs.lemmas.List.Concat.{flat_map-append}
@@ -11,24 +10,17 @@ use Rattle.iv_once.specs.Names as once
 use Rattle.iv_machine.specs.Act.{Act, Reply}
 use Rattle.iv_once.specs.Names.{Ask, Known, Named, Names, blamed, learned, own_of, pushed, spent_by, spent_more}
 use Rattle.iv_once.specs.Views.{names_of as names_in_code}
-use Rattle.iv_clients.specs.Journal.{Entry, Request, is_shared, journal_of, names_in, position_of, record_of, texts_of}
-use Rattle.iv_clients.specs.Names.{limits, place_text}
+use Rattle.iv_message.specs.Told.{made, told_text}
+use Rattle.iv_records.specs.Journal.{Entry, Request, is_shape, is_shared, journal_of, names_in, position_of, record_of, shape_of, texts_of}
+use Rattle.iv_records.specs.Names.{limits, place_text}
 use Rattle.iv_gate.specs.Arriving.{position, settled_at}
 use Rattle.iv_gate.specs.Gate.{Gate, answer_text, answering, entered, entries_of, is_accepted, known_at, known_by, names_of, place_of, shape_text, spent_in}
+use Rattle.iv_gate.proofs.ShapeTexts.{shape_of-append}
 use Rattle.iv_rows.specs.Options.{if_some}
-use Rattle.iv_gateway.specs.Shaping.{shape_in}
-use Rattle.iv_gateway.specs.Speaking.{Asking, lines_entered, request_of}
+use Rattle.iv_arrivals.specs.Entering.{lines_entered, shape_in}
+use Rattle.iv_arrivals.specs.Speaking.{Asking, request_of}
 use Rattle.iv_gateway.specs.Views.{IsAlive, IsPending}
 use Rattle.iv_gateway.specs.declared.gateway.Gateway.{Gateway}
-use Rattle.iv_gateway.proofs.ShapeLines.{shape_text-added}
-
--- without the last, as the newline of a line
-pub take-but_last : (xs : List ℕ) (x n : ℕ) → n ≡ length (xs ++ x ∷ []) → take (n - 1) (xs ++ x ∷ []) ≡ xs
-take-but_last xs x n h = ap (λ k. take k (xs ++ x ∷ [])) (one_less (length xs) n (h ∙ length-append xs (x ∷ [])))
-    ∙ (take-append-le (length xs) xs (x ∷ []) (omega arith) ∙ take-length xs)
-  where
-    one_less : (m n : ℕ) → n ≡ m + 1 → n - 1 ≡ m
-    one_less m n h = omega (arith, h)
 
 -- ---- where names stand
 
@@ -144,6 +136,22 @@ pends_more kept es fs old new p h = record {
   within = let l = length-append es fs in let w = p.within in omega (arith, l, w);
   lines = h ∙ (ap (λ z. z ++ journal_of fs) p.lines ∙ (sym (flat_map-append lines_of (drop kept es) fs) ∙ ap journal_of (sym (drop-append-le kept es fs p.within))));
 }
+
+-- ---- the shape
+
+pub shape_text-append : (es fs : List Entry) → shape_text (es ++ fs) ≡ shape_text es ++ shape_text fs
+shape_text-append es fs = ap (flat_map told_text) (shape_of-append es fs) ∙ flat_map-append told_text (shape_of es) (shape_of fs)
+
+pub one_shape : (q : Request) → is_shape q.act ≡ true → told_text (made q.role q.line) ≡ shape_in q
+one_shape q h = sym (append-nil (told_text (made q.role q.line))) ∙ ap (λ b. flat_map told_text (map (λ (x : Request). made x.role x.line) (cond b (q ∷ []) [])))
+    (sym h)
+
+pub no_shape : (q : Request) → is_shape q.act ≡ false → shape_in q ≡ []
+no_shape q h = ap (λ b. flat_map told_text (map (λ (x : Request). made x.role x.line) (cond b (q ∷ []) []))) h
+
+pub shape_text-added : (es fs : List Entry) (old new text : List ℕ) → old ≡ shape_text es → text ≡ shape_text fs → new ≡ old ++ text
+    → new ≡ shape_text (es ++ fs)
+shape_text-added es fs old new text o t n = n ∙ ((λ i. o i ++ t i) ∙ sym (shape_text-append es fs))
 
 -- ---- what a request adds
 

@@ -5,10 +5,10 @@ use Rattle.iv_machine.specs.Act.{Line}
 use Rattle.iv_message.specs.Told.{Told, granted, settled, told_text}
 use Rattle.iv_clients.specs.Clients.{Client, Slots, at_all, at_client, own_lines, settling, staying, telling, told_one}
 use Rattle.iv_clients.specs.Feeds.{Feed}
-use Rattle.iv_clients.specs.Journal.{Entry}
+use Rattle.iv_records.specs.Journal.{Entry}
 use Rattle.iv_clients.specs.Kept.{Places, holding, holding_all, holding_owed, keeping_on, kept, kept_slots}
 use Rattle.iv_hall.specs.Hearing.{hearing_lines}
-use Rattle.iv_gateway.proofs.ClientChanges.{at_all-kept_slots, at_client-kept_slots, kept-told_one, kept-settling, kept-telling}
+use Rattle.iv_notices.proofs.ClientChanges.{at_all-kept_slots, at_client-kept_slots, kept-told_one, kept-settling, kept-telling}
 
 pub at_client-told_one : (es : List Entry) (slots : Slots) (places : Places) (m : ℕ) (t : Told) (text : List ℕ) → told_text t ≡ text → places ≡ kept_slots slots
     → at_client m (holding text) places ≡ kept_slots (at_client m (told_one es t) slots)

@@ -10,7 +10,7 @@ use Rattle.iv_clients.specs.Kept.{Kept, Places, kept, kept_slots}
 use Rattle.iv_gate.specs.Gate.{Gate, closes, swept, tells}
 use Rattle.iv_gateway.specs.Views.{IsAlive}
 use Rattle.iv_gateway.specs.declared.gateway.Gateway.{Gateway}
-use Rattle.iv_gateway.proofs.ClientChanges.{client_at-kept_slots}
+use Rattle.iv_notices.proofs.ClientChanges.{client_at-kept_slots}
 
 pub followed_by-kept_slots : (g : Gate) (c : Client) (m own : ℕ) (places : Places) (o : Option ℕ) → places ≡ kept_slots g.clients
     → client_at g.clients m ≡ Some c

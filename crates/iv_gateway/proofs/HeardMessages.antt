@@ -19,9 +19,9 @@ use Rattle.iv_once.specs.Views.{names_of as names_in_code, verdict_of}
 use Rattle.iv_once.specs.declared.asks.Verdict as code_once
 use Rattle.iv_clients.specs.Feeds.{seat_of}
 use Rattle.iv_clients.specs.Clients.{Client, Slots, answered, at_client, client_at, may_say, saying}
-use Rattle.iv_clients.specs.Journal.{Entry, Request, claim_said, is_shared, line_said, said_by}
+use Rattle.iv_records.specs.Journal.{Entry, Request, claim_said, is_shared, line_said, said_by}
 use Rattle.iv_clients.specs.Kept.{Kept, Places, answering, kept, kept_slots}
-use Rattle.iv_clients.specs.Names.{Claim}
+use Rattle.iv_records.specs.Names.{Claim}
 use Rattle.iv_clients.proofs.Slots.{client_at-at_client, same-Some}
 use Rattle.iv_gate.specs.Events.{message}
 use Rattle.iv_gate.specs.Gate.{Gate, acts, done_for, hears, in_session, is_heard, replies_to, reply_in, reply_to, said, shares}
@@ -29,10 +29,10 @@ use Rattle.iv_gate.specs.Gate.{asked_by, by_verdict, carries, decided_elsewhere,
 use Rattle.iv_gate.specs.Laws.{LeavesMarks}
 use Rattle.iv_gate.proofs.GrownTexts.{Grown, Kit-Grown}
 use Rattle.iv_gate.proofs.ClientFacts.{to_done, to_settles, to_then}
-use Rattle.iv_gateway.specs.Speaking.{Speaking, speaker_in, speaking}
+use Rattle.iv_arrivals.specs.Speaking.{Speaking, speaker_in, speaking}
 use Rattle.iv_gateway.specs.Views.{IsAlive, IsRun}
 use Rattle.iv_gateway.specs.declared.gateway.Gateway.{Gateway}
-use Rattle.iv_gateway.proofs.ClientChanges.{kept-answered, client_at-kept_slots}
+use Rattle.iv_notices.proofs.ClientChanges.{kept-answered, client_at-kept_slots}
 
 -- ---- one client
 

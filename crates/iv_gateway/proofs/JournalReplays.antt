@@ -22,10 +22,10 @@ use Rattle.iv_once.specs.Names.{Known, Named, Names, learned}
 use Rattle.iv_once.specs.Runs.{unspent}
 use Rattle.iv_once.specs.Views.{names_of as names_in_code}
 use Rattle.iv_steps.specs.Steps.{all_carried, carried, passed}
-use Rattle.iv_clients.specs.Journal.{Entry, IsEntry, IsRequest, Request, is_shape, is_shared, journal_of, names_in, position_of, requests_in}
-use Rattle.iv_clients.specs.Laws.{ReadsBack}
-use Rattle.iv_clients.specs.Names.{limits}
-use Rattle.iv_clients.specs.Parsed.{record_in}
+use Rattle.iv_records.specs.Journal.{Entry, IsEntry, IsRequest, Request, is_shape, is_shared, journal_of, names_in, position_of, requests_in}
+use Rattle.iv_records.specs.Laws.{ReadsBack}
+use Rattle.iv_records.specs.Names.{limits}
+use Rattle.iv_records.specs.Parsed.{record_in}
 use Rattle.iv_clients.proofs.Slots.{same-Some, not_None-Some}
 use Rattle.iv_gate.specs.Arriving.{fact_of, first_known, is_new, not_new, position}
 use Rattle.iv_gate.specs.Gate.{Gate, in_session, is_accepted, known_at, known_by, known_of, names_of, reply_in, shape_text, spent_in}
@@ -33,12 +33,11 @@ use Rattle.iv_gate.specs.Restoring.{IsDamagedAt, LeadOn, Restores, are_rising}
 use Rattle.iv_gate.proofs.JournalDamage.{AllByRecursion-append_back, all_carried-append, facts_of-append, facts_of, journal_of-one, journal_of-push, led, lines_of, names_in-append, AllByRecursion-push, record_in-lines_of}
 use Rattle.iv_gate.proofs.GrantsByCommands.{is_well_message-message_of}
 use Rattle.iv_gateway.specs.Replays.{AreNamesReplayed, IsNew, IsPassed, IsRecordReplayed, IsReplayed, IsReplaying, behind, is_later, part, with_name, with_request}
-use Rattle.iv_gateway.specs.Shaping.{shape_in}
+use Rattle.iv_arrivals.specs.Entering.{shape_in}
 use Rattle.iv_gateway.specs.Views.{IsAlive}
 use Rattle.iv_gateway.specs.declared.gateway.Gateway.{Gateway}
-use Rattle.iv_gateway.proofs.AddedEntries.{AreKept, names_by-push, position_of-push}
+use Rattle.iv_gateway.proofs.AddedEntries.{AreKept, names_by-push, position_of-push, shape_text-append}
 use Rattle.iv_gateway.proofs.RefusedCommands.{is_accepted-outcome}
-use Rattle.iv_gateway.proofs.ShapeLines.{shape_text-append}
 
 -- one act: what the first line says is what the machine says
 pub IsPassed-step : (g : Gate) (act : Act) (is : Bool) (x : Gateway) → is ≡ is_accepted (reply_in (step g.machine (in_session 1 act)).lines)
@@ -438,6 +437,30 @@ IsReplayed-AreNamesReplayed g es e x y z is true well w h p n = record {
 
 -- ---- a record
 
+-- what JSON is read with makes no difference
+pub IsReplaying-scratch : (g : Gate) (es : List Entry) (x y : Gateway) → record x { scratch = y.scratch } ≡ y → IsReplaying g es x → IsReplaying g es y
+IsReplaying-scratch g es x y e w =
+    let b = w.gate in
+    subst (IsReplaying g es) e (record {
+      began = w.began;
+      state = w.state;
+      leads = w.leads;
+      gate = record {
+        tokens = b.tokens;
+        machine = b.machine;
+        seats = b.seats;
+        feeds = b.feeds;
+        clients = b.clients;
+        names = b.names;
+        log = b.log;
+        position = b.position;
+        settled = b.settled;
+        forgiven = b.forgiven;
+        pending = b.pending;
+        shape = b.shape;
+      };
+    })
+
 reads_this : ReadsBack → (g h : Gate) (es : List Entry) (lines more : List Line) (e : Entry) → lines ≡ journal_of (e ∷ []) ++ more → LeadOn g (es ++ e ∷ []) h
     → record_in lines ≡ Some (e, more)
 reads_this reads g h es lines more e a l =
@@ -538,7 +561,7 @@ IsDamagedAt-IsRecordReplayed g journal at x y w h r = record {
   rest = drop at journal;
   all = w.lines;
   leads = w.gate.leads;
-  behind = w.count;
+  after = w.count;
   some = h;
   bad = r;
 }

@@ -13,24 +13,22 @@ use Rattle.iv_message.proofs.Meaning.{ReadsWell}
 use Rattle.iv_message.specs.Told.{made, told_text}
 use Rattle.iv_journal.specs.Journal as journal
 use Rattle.iv_once.specs.Names as once
-use Rattle.iv_once.specs.Names.{Known, Named, Names, learned, pushed}
+use Rattle.iv_once.specs.Names.{Named, Names, learned}
 use Rattle.iv_once.specs.Views.{names_of as names_in_code}
 use Rattle.iv_steps.specs.Laws.{RefusalsAreFound}
 use Rattle.iv_steps.specs.Steps.{Fact, first_refused, is_shared, is_well_fact, shared, stepped}
 use Rattle.iv_command.specs.Views.{refusal_of}
-use Rattle.iv_clients.specs.Journal.{Entry, IsRequest, Request, is_shape, names_in, record_of, texts_of}
-use Rattle.iv_clients.specs.Names.{limits}
-use Rattle.iv_gate.specs.Arriving.{Fault, Step, entry_of, fact_of, fault_of, first_known, gap, is_behind, is_log, is_new, landed, not_accepted, not_new, other_log, position, takes}
+use Rattle.iv_records.specs.Journal.{Entry, IsRequest, Request, is_shape, names_in, record_of, texts_of}
+use Rattle.iv_gate.specs.Arriving.{Fault, Step, entry_of, fact_of, fault_of, first_known, gap, was_taken, is_log, landed, not_accepted, not_new, other_log, position, takes}
 use Rattle.iv_gate.specs.Gate.{Gate, entered, known_of, names_of, shape_text}
-use Rattle.iv_gateway.specs.Arriving.{IsFaultOf, IsLanded, IsNotLanded, IsRefusedBy, IsTakenBy, all_pushed}
-use Rattle.iv_gateway.specs.Shaping.{shape_in}
+use Rattle.iv_gateway.specs.Arriving.{IsFaultOf, IsLanded, IsNotLanded, IsRefusedBy, IsTakenBy}
+use Rattle.iv_arrivals.specs.Entering.{all_pushed, shape_in}
 use Rattle.iv_gateway.specs.Views.{IsAlive}
 use Rattle.iv_gateway.specs.declared.arriving.StepFault.{StepFault}
 use Rattle.iv_gateway.specs.declared.arriving.StepFault.TheVariants as fault
 use Rattle.iv_gateway.specs.declared.gateway.Gateway.{Gateway}
-use Rattle.iv_gateway.proofs.AddedEntries.{AreKept, forgiven_more, names_by, names_by-push, pends_more, position_of-push, settled_stays}
+use Rattle.iv_gateway.proofs.AddedEntries.{AreKept, forgiven_more, names_by, names_by-push, no_shape, one_shape, pends_more, position_of-push, settled_stays, shape_text-added}
 use Rattle.iv_gateway.proofs.JournalReplays.{is_well_act-IsRequest}
-use Rattle.iv_gateway.proofs.ShapeLines.{no_shape, one_shape, shape_text-added}
 
 -- ---- names are learned
 
@@ -39,24 +37,6 @@ all_more g all spent [] = λ i. names_by g (append-nil all i) (append-nil spent 
 all_more g all spent (n ∷ ns) =
     (λ i. names_by g (sym (append_assoc all (n ∷ []) ns) i) (sym (append_assoc spent (n ∷ []) ns) i))
     ∙ (all_more g (all ++ n ∷ []) (spent ++ n ∷ []) ns ∙ ap (λ z. all_pushed z ns) (names_by-push g all spent n))
-
--- one after another: as long as each is new
-pub learns_on : (place : ℕ) (n : Named) (rest : List Named) (known now : Names) (is : Bool) → known.limits ≡ limits
-    → is ≡ once.is_new known.limits known.known n.ask → is ≡ true → now ≡ pushed known (once.named n)
-    → first_known (place + 1) (n ∷ rest) known.known ≡ first_known (place + 1 + 1) rest now.known
-learns_on place n rest known now is l e t m = λ i. cond (new i) (first_known (place + 1 + 1) rest (learn i)) (Some (not_new (place + 1)))
-  where
-    new : is_new known.known n.ask ≡ true
-    new = ap (λ z. once.is_new z known.known n.ask) (sym l) ∙ (sym e ∙ t)
-
-    learn : learned limits (once.named n) known.known ≡ now.known
-    learn = ap (λ z. learned z (once.named n) known.known) (sym l) ∙ sym (ap (λ (z : Names). z.known) m)
-
-pub stops_at : (place : ℕ) (n : Named) (rest : List Named) (known : Names) (is : Bool) → known.limits ≡ limits
-    → is ≡ once.is_new known.limits known.known n.ask → is ≡ false → first_known (place + 1) (n ∷ rest) known.known ≡ Some (not_new (place + 1))
-stops_at place n rest known is l e t =
-    ap (λ b. cond b (first_known (place + 1 + 1) rest (learned limits (once.named n) known.known)) (Some (not_new (place + 1))))
-    (ap (λ z. once.is_new z known.known n.ask) (sym l) ∙ (sym e ∙ t))
 
 -- those of an entry
 names_all : (g : Gate) (e : Entry) → g.forgiven ≤ length g.entries → names_of (entered g (e ∷ [])) ≡ all_pushed (names_of g) e.names
@@ -80,17 +60,6 @@ text_of_all (q ∷ qs) = by (text_of_all qs) (is_shape q.act) refl
 
 pub entry_shape : (e : Entry) → flat_map shape_in e.requests ≡ shape_text (e ∷ [])
 entry_shape e = sym (ap (λ qs. flat_map told_text (map (λ (q : Request). made q.role q.line) (filter (λ (q : Request). is_shape q.act) qs))) (append-nil e.requests) ∙ text_of_all e.requests)
-
--- the requests in their order: their facts, and what they make of the shape
-pub facts_on : (all rest : List Request) (q r : Request) (facts now : List Fact) → q ≡ r → map fact_of all ≡ facts ++ map fact_of (r ∷ rest)
-    → now ≡ facts ++ fact_of q ∷ [] → map fact_of all ≡ now ++ map fact_of rest
-facts_on all rest q r facts now v h n =
-    h ∙ (sym (append_assoc facts (fact_of r ∷ []) (map fact_of rest)) ∙ ap (λ z. z ++ map fact_of rest) (ap (λ z. facts ++ fact_of z ∷ []) (sym v) ∙ sym n))
-
-pub makes_on : (all rest : List Request) (q r : Request) (start old now : List ℕ) → q ≡ r
-    → start ++ flat_map shape_in all ≡ old ++ flat_map shape_in (r ∷ rest) → now ≡ old ++ shape_in q → start ++ flat_map shape_in all ≡ now ++ flat_map shape_in rest
-makes_on all rest q r start old now v h n =
-    h ∙ (sym (append_assoc old (shape_in r) (flat_map shape_in rest)) ∙ ap (λ z. z ++ flat_map shape_in rest) (ap (λ z. old ++ shape_in z) (sym v) ∙ sym n))
 
 -- ---- what the code keeps of it
 
@@ -162,7 +131,7 @@ fault_is : (g : Gate) (s : Step) (ours past next : Bool) (names : Option Fault) 
     → fault_of g s ≡ fault_by ours past next (position g) names first
 fault_is g s ours past next names first o p n k f = λ i. fault_by (o i) (p i) (n i) (position g) (k i) (f i)
 
-takes_as : (g : Gate) (s : Step) (f : Option Fault) (b : Bool) (o : Option Outcome) → fault_of g s ≡ f → is_behind g s ≡ b → stepped (map fact_of s.requests) g.machine ≡ o
+takes_as : (g : Gate) (s : Step) (f : Option Fault) (b : Bool) (o : Option Outcome) → fault_of g s ≡ f → was_taken g s ≡ b → stepped (map fact_of s.requests) g.machine ≡ o
     → takes g s ≡ cond (is_some f) (record g { dead = true }) (cond b g (if_some o g (landed g (entry_of s))))
 takes_as g s f b o e h k = λ i. cond (is_some (e i)) (record g { dead = true }) (cond (h i) g (if_some (k i) g (landed g (entry_of s))))
 
@@ -170,11 +139,11 @@ pub of_another : (g : Gate) (s : Step) → is_ours g s ≡ false → IsFaultOf g
 of_another g s o = fault_is g s false (nat_le s.to (position g)) (begins g s) (first_known 1 s.names (known_of g))
     (first_refused 1 (map fact_of s.requests) (shared g.machine)) o refl refl refl refl
 
-pub was_taken : (g : Gate) (s : Step) (x : Gateway) → is_ours g s ≡ true → nat_le s.to (position g) ≡ true → IsAlive g x → IsTakenBy g s false × IsAlive (takes g s) x
-was_taken g s x o p b =
+pub IsAlive-was_taken : (g : Gate) (s : Step) (x : Gateway) → is_ours g s ≡ true → nat_le s.to (position g) ≡ true → IsAlive g x → IsTakenBy g s false × IsAlive (takes g s) x
+IsAlive-was_taken g s x o p b =
     let none : fault_of g s ≡ None = fault_is g s true true (begins g s) (first_known 1 s.names (known_of g))
     (first_refused 1 (map fact_of s.requests) (shared g.machine)) o p refl refl refl in
-    let past : is_behind g s ≡ true = λ i. o i && p i in (
+    let past : was_taken g s ≡ true = λ i. o i && p i in (
       record { none = none; new = ap not (sym past) },
       subst (λ h. IsAlive h x) (sym (takes_as g s None true (stepped (map fact_of s.requests) g.machine) none past refl)) b,
     )
@@ -188,7 +157,7 @@ pub has_landed : (g : Gate) (s : Step) (x : Gateway) → is_ours g s ≡ true �
     → IsTakenBy g s true × IsAlive (takes g s) x
 has_landed g s x o p n w =
     let none : fault_of g s ≡ None = fault_is g s true false true None None o p n w.new w.accepted in
-    let past : is_behind g s ≡ false = λ i. o i && p i in (
+    let past : was_taken g s ≡ false = λ i. o i && p i in (
       record { none = none; new = ap not (sym past) },
       subst (λ h. IsAlive h x) (sym (takes_as g s None false (Some w.outcome) none past w.is)) w.gate,
     )
@@ -204,8 +173,8 @@ not_landed g s fault.Dead o p n h = tt
 
 -- what is taken kills nothing
 pub taken_lives : (g : Gate) (s : Step) → fault_of g s ≡ None → (takes g s).dead ≡ g.dead
-taken_lives g s e = ap (λ (h : Gate). h.dead) (takes_as g s None (is_behind g s) (stepped (map fact_of s.requests) g.machine) e refl refl)
-    ∙ by (is_behind g s) (stepped (map fact_of s.requests) g.machine)
+taken_lives g s e = ap (λ (h : Gate). h.dead) (takes_as g s None (was_taken g s) (stepped (map fact_of s.requests) g.machine) e refl refl)
+    ∙ by (was_taken g s) (stepped (map fact_of s.requests) g.machine)
   where
     by : (b : Bool) (o : Option Outcome) → (cond b g (if_some o g (landed g (entry_of s)))).dead ≡ g.dead
     by true o = refl

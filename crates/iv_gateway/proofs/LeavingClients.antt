@@ -9,7 +9,7 @@ use Rattle.iv_clients.specs.Kept.{Kept, Places, kept, kept_slots}
 use Rattle.iv_gate.specs.Gate.{Gate, all_rested, all_swept, settles, went}
 use Rattle.iv_gateway.specs.Views.{IsAlive}
 use Rattle.iv_gateway.specs.declared.gateway.Gateway.{Gateway}
-use Rattle.iv_gateway.proofs.ClientChanges.{client_at-kept_slots}
+use Rattle.iv_notices.proofs.ClientChanges.{client_at-kept_slots}
 use Rattle.iv_gateway.proofs.UnfollowedFeeds.{same-Some}
 
 -- the gateway that a client of the role leaves, which followed these feeds

@@ -1,4 +1,3 @@
-pub mod ClientChanges
 pub mod ClientStates
 pub mod RefusedCommands
 pub mod RoleSessions
@@ -7,13 +6,8 @@ pub mod LeavingClients
 pub mod LiveGateways
 pub mod TokenEntries
 pub mod ClosedNumbers
-pub mod EngineAnswers
 pub mod HeardMessages
-pub mod GrantTexts
-pub mod ShapeLines
 pub mod AddedEntries
 pub mod JournalReplays
 pub mod NewSubscriptions
-pub mod NewRights
 pub mod Landed
-pub mod StepLines

@@ -20,8 +20,8 @@ use Rattle.iv_gate.specs.Gate.{shut, subscribes, tells}
 use Rattle.iv_gateway.specs.Reading.{Double, doubled, own_next, reads_further}
 use Rattle.iv_gateway.specs.Views.{IsAlive, IsRun, opening_of}
 use Rattle.iv_gateway.specs.declared.gateway.Gateway.{Gateway}
-use Rattle.iv_gateway.specs.declared.seats.Opening.TheVariants as opening
-use Rattle.iv_gateway.proofs.ClientChanges.{client_at-kept_slots}
+use Rattle.iv_gateway.specs.declared.subscribing.Opening.TheVariants as opening
+use Rattle.iv_notices.proofs.ClientChanges.{client_at-kept_slots}
 use Rattle.iv_gateway.proofs.UnfollowedFeeds.{same-Some}
 
 -- ---- its next number

@@ -11,7 +11,7 @@ use Rattle.iv_clients.specs.Kept.{Places, has_role_in, kept_slots}
 use Rattle.iv_gate.specs.Gate.{Gate, all_rested, begun_for, has_session, in_session, is_accepted, is_needed, reply_to, rested, seated, with_session}
 use Rattle.iv_gateway.specs.Views.{IsAlive, IsSeated}
 use Rattle.iv_gateway.specs.declared.gateway.Gateway.{Gateway}
-use Rattle.iv_gateway.proofs.ClientChanges.{has_role_in-kept_slots}
+use Rattle.iv_notices.proofs.ClientChanges.{has_role_in-kept_slots}
 
 -- ---- which are there
 

@@ -15,7 +15,7 @@ use Rattle.iv_gate.proofs.MachineLists.{true-find}
 use Rattle.iv_gate.proofs.EventMarks.{came_as}
 use Rattle.iv_gateway.specs.Views.{IsAlive}
 use Rattle.iv_gateway.specs.declared.gateway.Gateway.{Gateway}
-use Rattle.iv_gateway.proofs.ClientChanges.{is_free-kept_slots}
+use Rattle.iv_notices.proofs.ClientChanges.{is_free-kept_slots}
 use Rattle.iv_gateway.proofs.UnfollowedFeeds.{same-Some}
 
 none_presented : (o : Option Token) (free : Bool) (session : Name → Bool) → option_and_then (λ (t : Token). cond (is_name t.role && free) (Some t) None) o ≡ None

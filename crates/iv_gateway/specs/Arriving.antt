@@ -4,9 +4,8 @@ use Rattle.iv_command.specs.Views.{refusal_of}
 use Rattle.iv_machine.specs.Act.{Line}
 use Rattle.iv_machine.specs.Machine.{Outcome}
 use Rattle.iv_once.specs.Names as once
-use Rattle.iv_once.specs.Names.{Named, Names, pushed}
 use Rattle.iv_steps.specs.Steps.{Fact, first_refused, shared, stepped}
-use Rattle.iv_gate.specs.Arriving.{Step, entry_of, fact_of, fault_of, first_known, gap, is_behind, landed, not_accepted, not_new, other_log}
+use Rattle.iv_gate.specs.Arriving.{Step, entry_of, fact_of, fault_of, first_known, gap, was_taken, landed, not_accepted, not_new, other_log}
 use Rattle.iv_gate.specs.Gate.{Gate, entered, known_of, shape_text}
 use Rattle.iv_gateway.specs.Views.{IsAlive}
 use Rattle.iv_gateway.specs.declared.arriving.StepFault.{StepFault}
@@ -16,7 +15,7 @@ use Rattle.iv_gateway.specs.declared.gateway.Gateway.{Gateway}
 -- the step is taken, or was before
 pub record IsTakenBy (g : Gate) (s : Step) (is : Bool) : Type 0 where
   pub none : fault_of g s ≡ None
-  pub new : is ≡ not (is_behind g s)
+  pub new : is ≡ not (was_taken g s)
 
 -- why it is not; where memory was refused, or the gateway was dead, nothing is said of it
 abbrev pub IsFaultOf : Gate → Step → StepFault → Type 0
@@ -28,11 +27,6 @@ IsFaultOf g s fault.Memory = Unit {0}
 IsFaultOf g s fault.Dead = Unit {0}
 
 -- ---- within
-
--- with these names learned, one after another
-abbrev pub all_pushed : Names → List Named → Names
-all_pushed n [] = n
-all_pushed n (e ∷ es) = all_pushed (pushed n (once.named e)) es
 
 -- the journal is to have the step, whose names are new
 pub record IsEntered (g : Gate) (s : Step) (made : List ℕ) (x : Gateway) : Type 0 where

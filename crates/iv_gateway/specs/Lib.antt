@@ -1,11 +1,5 @@
 pub mod Arriving
-pub mod Granting
-pub mod Newly
 pub mod Reading
-pub mod Reads
 pub mod Replays
-pub mod Shaping
-pub mod Speaking
-pub mod Tallied
 pub mod Views
 pub mod Waiting

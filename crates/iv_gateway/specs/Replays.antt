@@ -2,7 +2,7 @@
 use Rattle.std.specs.Prelude.{◌≡◌, ℕ, Bool, true, false, List, [], ◌∷◌, ◌++◌, drop, is_some, length, nat_lt, not, Option, Some, None}
 use Rattle.iv_rows.specs.Options.{if_some}
 use Rattle.iv_machine.specs.State.{State}
-use Rattle.iv_clients.specs.Journal.{Entry, Request, journal_of, position_of}
+use Rattle.iv_records.specs.Journal.{Entry, Request, journal_of, position_of}
 use Rattle.iv_gate.specs.Arriving.{first_known, is_new}
 use Rattle.iv_gate.specs.Gate.{Gate, known_of}
 use Rattle.iv_gate.specs.Restoring.{LeadOn, Restores}

@@ -5,18 +5,18 @@ use Rattle.iv_machine.specs.Act.{Act, Command, Line}
 use Rattle.iv_machine.specs.Act as machine
 use Rattle.iv_machine.specs.Machine.{step}
 use Rattle.iv_store.specs.Engine.{IsBehind}
-use Rattle.iv_clients.specs.Journal.{Entry, journal_of}
+use Rattle.iv_records.specs.Journal.{Entry, journal_of}
 use Rattle.iv_clients.specs.Kept.{kept_slots}
 use Rattle.iv_journal.specs.Journal as journal
 use Rattle.iv_once.specs.Views as once
-use Rattle.iv_clients.specs.Names.{limits}
+use Rattle.iv_records.specs.Names.{limits}
 use Rattle.iv_gate.specs.Arriving.{position, settled_at}
 use Rattle.iv_gate.specs.Gate as gate
 use Rattle.iv_gate.specs.Gate.{Gate, begun_for, known_at, names_of, seated, shape_text}
 use Rattle.iv_gateway.specs.declared.gateway.Head.{Head}
 use Rattle.iv_gateway.specs.declared.gateway.Gateway.{Gateway}
-use Rattle.iv_gateway.specs.declared.seats.Opening.{Opening}
-use Rattle.iv_gateway.specs.declared.seats.Opening.TheVariants as opening
+use Rattle.iv_gateway.specs.declared.subscribing.Opening.{Opening}
+use Rattle.iv_gateway.specs.declared.subscribing.Opening.TheVariants as opening
 
 -- so many of the entries are on disk, and the lines of the others are pending
 pub record IsPending (kept : ℕ) (entries : List Entry) (pending : List journal.Line) : Type 0 where

@@ -1,37 +1,32 @@
 //! `take_step`: a step of the log that is followed is taken whole, or the gateway is dead. Each client is told once what differs after it.
-ghost use Rattle.std.specs.Prelude.{◌≡◌, ◌++◌, ◌∷◌, [], IfErr, IfOk, None, OnErr, OnOk, false, flat_map, map, option_map, true};
+ghost use Rattle.std.specs.Prelude.{◌≡◌, ◌++◌, ◌∷◌, [], IfErr, IfOk, OnErr, OnOk, false, map, true};
 ghost use Rattle.std.specs.List.{list_all};
-ghost use Rattle.iv_command.specs.Views.{act_of, line_of};
+ghost use Rattle.iv_command.specs.Views.{line_of};
 ghost use Rattle.iv_machine.specs.Machine.{Outcome};
 ghost use Rattle.iv_clients.specs.Clients.{own_lines};
-ghost use Rattle.iv_clients.specs.Journal.{Entry};
+ghost use Rattle.iv_records.specs.Journal.{Entry};
 ghost use Rattle.iv_clients.specs.Kept.{kept_slots};
-ghost use Rattle.iv_clients.specs.Names.{limits};
-ghost use Rattle.iv_once.specs.Names.{is_new};
-ghost use Rattle.iv_once.specs.Views.{names_of};
 ghost use Rattle.iv_steps.specs.Steps.{is_well_fact};
 ghost use Rattle.iv_engine.specs.Stepped.{is_write};
 ghost use Rattle.iv_message.specs.Told.{granted};
-ghost use Rattle.iv_gate.specs.Arriving.{fact_of, first_known, newly, not_new, takes};
+ghost use Rattle.iv_gate.specs.Arriving.{fact_of, newly, takes};
 ghost use Rattle.iv_gate.specs.Events.{IsWell, arrived, failed, next};
 ghost use Rattle.iv_gate.specs.Gate.{Gate, informs, settles, shape_text, went_on};
-ghost use Rattle.iv_gateway.specs.Arriving.{IsCarried, IsEntered, IsFaultOf, IsLanded, IsNotLanded, IsRefusedBy, IsTakenBy, all_pushed};
-ghost use Rattle.iv_gateway.specs.Newly.{AreBefore, AreNewly};
-ghost use Rattle.iv_gateway.specs.Shaping.{shape_in};
+ghost use Rattle.iv_gateway.specs.Arriving.{IsCarried, IsEntered, IsFaultOf, IsLanded, IsNotLanded, IsRefusedBy, IsTakenBy};
+ghost use Rattle.iv_notices.specs.Newly.{AreBefore, AreNewly};
 ghost use Rattle.iv_gateway.specs.Views.{IsAlive, IsGate};
 
 use crate::gateway::Gateway;
-use crate::newly::{Readable, all_readable, hear_newly};
-use crate::shaping::push_shape;
-use crate::steps::Step;
-use iv_clients::{Request, drop_ended, push_step};
-use iv_command::{Act, Line, Refusal};
+use iv_arrivals::{Step, are_writes, facts_of, learn};
+use iv_clients::drop_ended;
+use iv_command::{Line, Refusal};
 use iv_engine::{Fact, StepFault as EngineFault};
 use iv_message::laws::told_texts_are_lines;
-use iv_once::{Named, Names};
+use iv_notices::{Readable, all_readable, hear_newly};
+use iv_records::{Request, push_step};
 use iv_request::laws::requests_are_well;
 use iv_steps::laws::refusals_are_found;
-use std::alloc::{AllocError, Global};
+use std::alloc::AllocError;
 
 /// Why a step is not taken. The gateway is dead then.
 #[derive(Drop)]
@@ -59,62 +54,6 @@ impl From<AllocError> for StepFault {
     fn from(_error: AllocError) -> StepFault {
         StepFault::Memory
     }
-}
-
-/// Whether an act writes rows, and does nothing else.
-fn is_write(act: &Act) -> bool
-    ensures { result ≡ is_write (act_of act.now) }
-{
-    matches!(act, Act::Write { .. })
-}
-
-/// Whether requests write rows alone.
-fn are_writes(requests: &[Request]) -> bool
-    ensures { result ≡ list_all (λ q. is_write q.act) requests.now }
-{
-    requests.iter().all(|request| is_write(&request.act))
-}
-
-/// Whether a name that has its answer has none here yet.
-fn is_new(known: &Names, name: &Named) -> bool
-    ensures { result ≡ is_new (names_of known.now).limits (names_of known.now).known name.now.ask }
-{
-    known.is_new(&name.ask)
-}
-
-/// Learns names that have their answers; or which of them, counted from 1, may have one already.
-fn learn(known: &mut Names, names: Vec<Named>) -> Result<Option<usize>, AllocError>
-    ensures first { IfOk result (λ o. (names_of known.old).limits ≡ limits → first_known 1 names.items (names_of known.old).known ≡ option_map not_new o) }
-    ensures learned { IfOk result (λ o. o ≡ None → names_of known.new ≡ all_pushed (names_of known.old) names.items) }
-{
-    let mut place = 0usize;
-    for name in names {
-        place += 1;
-        if !is_new(known, &name) {
-            return Ok(Some(place));
-        }
-        known.push(name)?;
-    }
-    Ok(None)
-}
-
-/// The facts of requests. What these make of the shape is appended.
-fn facts_of(
-    alloc: Global,
-    made: &mut Vec<u8>,
-    requests: Vec<Request>,
-) -> Result<Vec<Fact>, AllocError>
-    ensures facts { IfOk result (λ facts. facts.items ≡ map fact_of requests.items) }
-    ensures made { OnOk result (made.new.items ≡ made.old.items ++ flat_map shape_in requests.items) }
-{
-    let mut facts = Vec::new(alloc);
-    for request in requests {
-        let Request { role, line, act } = request;
-        push_shape(alloc, made, role.as_str(), &line, &act)?;
-        let fact = Fact { role, act };
-        facts.push(fact)?;
-    }
-    Ok(facts)
 }
 
 impl Gateway {

@@ -1,20 +1,17 @@
 //! Who presents a token comes in.
-ghost use Rattle.std.specs.Prelude.{◌≡◌, ◌&&◌, if◌then◌else◌, Some, None, IfOk, OnOk, is_some, option_and_then, option_map, slice_set, string_bytes, true};
+ghost use Rattle.std.specs.Prelude.{◌≡◌, ◌&&◌, if◌then◌else◌, Some, None, IfOk, OnOk, is_some, option_and_then, option_map, slice_set, string_bytes};
 ghost use Rattle.iv_rows.specs.Names.{is_name};
-ghost use Rattle.iv_once.specs.Names.{own_of};
-ghost use Rattle.iv_once.specs.Views.{names_of};
 ghost use Rattle.iv_clients.specs.Clients.{fresh, is_free};
-ghost use Rattle.iv_clients.specs.Names.{holder_of, place_text};
 ghost use Rattle.iv_clients.specs.Tokens.{Token as TokenSpec, token_of};
 ghost use Rattle.iv_gate.specs.Gate.{Gate, at_text, came, token_for};
 ghost use Rattle.iv_gateway.specs.Views.{IsAlive};
 
 use crate::gateway::Gateway;
-use crate::shaping::greeting;
-use itoa::Buffer;
-use iv_clients::{Token, holder_of, token_of};
+use iv_arrivals::place_text;
+use iv_clients::{Token, token_of};
 use iv_hall::Hall;
-use iv_once::Names;
+use iv_notices::greeting;
+use iv_records::holder_of;
 use iv_rows::name_ok;
 use sha2::{Digest, Sha256};
 use std::alloc::{AllocError, Global};
@@ -46,16 +43,6 @@ fn presented(
             }
         }
     }
-}
-
-/// Where the names of a holder stand.
-pub(crate) fn place_text(alloc: Global, names: &Names, holder: &str) -> Result<String, AllocError>
-    ensures { let o = own_of (names_of names.now).known holder.now in IfOk result (λ at. string_bytes at ≡ place_text (record { epoch = o.epoch; count = o.count })) }
-{
-    let mut at = String::from_str(alloc, names.epoch(holder))?;
-    at.push_str(".")?;
-    at.push_str(Buffer::new().format(names.count(holder)))?;
-    Ok(at)
 }
 
 impl Gateway {

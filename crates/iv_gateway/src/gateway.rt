@@ -6,8 +6,8 @@ ghost use Rattle.iv_rows.specs.Options.{if_some};
 ghost use Rattle.iv_machine.specs.State.{start};
 ghost use Rattle.iv_store.specs.Engine.{IsBehind};
 ghost use Rattle.iv_clients.specs.Clients as spec;
-ghost use Rattle.iv_clients.specs.Clients.{client_at, text_shown};
-ghost use Rattle.iv_clients.specs.Journal.{journal_of};
+ghost use Rattle.iv_clients.specs.Clients.{client_at};
+ghost use Rattle.iv_records.specs.Journal.{journal_of};
 ghost use Rattle.iv_clients.specs.Kept.{is_due, is_told, kept};
 ghost use Rattle.iv_gate.specs.Arriving.{position, settled_at};
 ghost use Rattle.iv_gate.specs.Gate as spec_gate;
@@ -16,32 +16,14 @@ ghost use Rattle.iv_gate.specs.Restoring.{gate_at_start};
 ghost use Rattle.iv_gateway.specs.Views.{IsGate, IsHead};
 ghost use Rattle.iv_gateway.specs.Waiting.{WaitsWithin};
 
-use crate::tally::Tally;
-use iv_clients::{Feed, OwnedLine, Seat, Token};
+use iv_arrivals::{Log, Tally};
+use iv_clients::{Feed, Seat, Token};
 use iv_engine::Engine;
 use iv_hall::Hall;
 use iv_once::Names;
+use iv_records::OwnedLine;
 use json::Scratch;
 use std::alloc::{AllocError, Global};
-use std::marker::Model;
-
-/// A log that others keep.
-#[derive(Drop)]
-pub struct Log {
-    /// Its name.
-    pub name: String,
-    /// 32 digits that no other beginning of it has.
-    pub epoch: String,
-}
-
-impl Model for Log {
-    ghost use Rattle.std.specs.Prelude.{string_bytes};
-    ghost use Rattle.iv_gate.specs.Gate.{Log};
-
-    ghost Value = { Log };
-
-    ghost view = { λ l. record { name = string_bytes l.name; epoch = string_bytes l.epoch } };
-}
 
 /// What a journal says before its first entry.
 #[derive(Drop)]
@@ -112,7 +94,8 @@ impl Gateway {
         most: u32,
         head: Head,
     ) -> Result<Gateway, AllocError>
-        ensures { IfOk result (λ x. (cap : ℕ) (h : spec_gate.Head) → IsBehind (start cap) engine → IsHead h head → IsGate (gate_at_start cap tokens.items most h []) x) }
+        ensures { IfOk result (λ x. (cap : ℕ) (h : spec_gate.Head) → IsBehind (start cap) engine → IsHead h head
+            → IsGate (gate_at_start cap tokens.items most h []) x) }
     {
         let clients = Hall::new(alloc, most)?;
         Ok(Gateway {

@@ -2,7 +2,7 @@
 ghost use Rattle.std.specs.Prelude.{◌≡◌, ◌≤◌, ◌++◌, ℕ, List, OnErr, OnOk, Option, length, option_map, take};
 ghost use Rattle.iv_journal.specs.Journal.{Line};
 
-use iv_clients::OwnedLine;
+use iv_records::OwnedLine;
 
 /// The journal could not be written.
 #[derive(Clone, Copy, Debug, PartialEq, Eq)]

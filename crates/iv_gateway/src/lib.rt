@@ -6,7 +6,8 @@
 //! the last to the first, `take`, whose text goes to its socket, and `is_dropped`, whose socket is closed. What `said` answers `false` to is
 //! said again later. Each error ends the program. So nobody is told what the journal does not have, and a round's requests share one sync.
 //!
-//! If it follows a log, it takes each step of that by `read_step` and `take_step` before `settle`, and tells the log's source `settled_at` after it.
+//! If it follows a log, it takes each step of that by iv_arrivals' `read_step` and `take_step` before `settle`, and tells the log's source
+//! `settled_at` after it.
 #![tactic(auto)]
 
 mod arriving;
@@ -14,24 +15,18 @@ mod closing;
 mod coming;
 mod events;
 mod gateway;
-mod granting;
 mod journal;
 mod messages;
-mod newly;
 mod opening;
 mod restoring;
 mod seats;
 mod shaping;
 mod sharing;
-mod steps;
 mod subscribing;
 mod sweeping;
-mod tally;
 mod telling;
 
 pub use arriving::StepFault;
-pub use gateway::{Gateway, GatewayFault, Head, Log};
+pub use gateway::{Gateway, GatewayFault, Head};
 pub use journal::{Journal, JournalFault};
 pub use restoring::RestoreFault;
-pub use steps::{Step, read_step};
-pub use tally::{KINDS, Tally};

@@ -7,63 +7,21 @@ ghost use Rattle.iv_message.specs.Seen.{id_data, said_of, why_of};
 ghost use Rattle.iv_message.specs.Told.{unasked};
 ghost use Rattle.iv_clients.specs.Clients as spec;
 ghost use Rattle.iv_clients.specs.Clients.{client_at, saying};
-ghost use Rattle.iv_clients.specs.Journal.{claim_said, is_shared, line_said};
+ghost use Rattle.iv_records.specs.Journal.{claim_said, is_shared, line_said};
 ghost use Rattle.iv_clients.specs.Kept.{kept};
 ghost use Rattle.iv_gate.specs.Events.{failed, message, next};
 ghost use Rattle.iv_gate.specs.Gate.{Gate, acts, done_for, hears, is_heard, said, tells};
-ghost use Rattle.iv_gateway.specs.Speaking.{speaker_in, speaking};
+ghost use Rattle.iv_arrivals.specs.Speaking.{speaking};
 ghost use Rattle.iv_gateway.specs.Views.{IsAlive, IsGate};
 
 use crate::gateway::{Gateway, GatewayFault};
-use crate::sharing::Asked;
-use iv_clients::{Claim, Client, Said, is_shared, read_said};
+use iv_arrivals::{Asked, Speaker, speaker_at};
+use iv_clients::Client;
 use iv_command::Act;
 use iv_gate::laws::events_leave_their_marks;
 use iv_message::{Id, Message, Why, push_unasked};
-use std::alloc::{AllocError, Global};
-use std::marker::Model;
-
-/// A client whose message is heard: its role, who holds its token, how many of its numbers are open, and the bytes that others have brought it.
-#[derive(Drop)]
-struct Speaker {
-    role: String,
-    user: String,
-    subs: usize,
-    brought: u64,
-}
-
-impl Model for Speaker {
-    ghost use Rattle.std.specs.Prelude.{string_bytes};
-    ghost use Rattle.iv_gateway.specs.Speaking.{Speaking};
-
-    ghost Value = { Speaking };
-
-    ghost view = { λ s. record { role = string_bytes s.role; user = string_bytes s.user; subs = s.subs; brought = s.brought } };
-}
-
-/// The client of a number, if a message of it is heard now.
-fn speaker_at(
-    alloc: Global,
-    clients: &[Option<Client>],
-    client: u32,
-) -> Result<Option<Speaker>, AllocError>
-    ensures { IfOk result (λ o. o ≡ speaker_in (client_at clients.now client)) }
-{
-    match clients.get(client as usize) {
-        Some(Some(it)) => {
-            if !it.may_ask() {
-                return Ok(None);
-            }
-            Ok(Some(Speaker {
-                role: String::from_str(alloc, it.role())?,
-                user: String::from_str(alloc, it.user())?,
-                subs: it.subs().len(),
-                brought: it.brought(),
-            }))
-        }
-        _ => Ok(None),
-    }
-}
+use iv_records::{Claim, Said, is_shared, read_said};
+use std::alloc::AllocError;
 
 impl Gateway {
     /// A client sends a message, which is done if it is heard. Whether it is; what is not heard is to be sent again once it is.
@@ -172,7 +130,8 @@ impl Gateway {
 
     /// Has a client told that what it asks has no name.
     fn refuse_name(&mut self, client: u32, id: &Option<Id>) -> Result<(), AllocError>
-        ensures { OnOk result ((g : Gate) → IsAlive g self.old → IsAlive (tells g client (unasked (option_map id_data id.now) (unknown (codes "once")))) self.new) }
+        ensures { OnOk result ((g : Gate) → IsAlive g self.old
+            → IsAlive (tells g client (unasked (option_map id_data id.now) (unknown (codes "once")))) self.new) }
     {
         let why = Why::Unknown(String::from_str(self.alloc, "once")?);
         self.refuse_object(client, id, &why)?;

@@ -4,7 +4,7 @@ ghost use Rattle.std.specs.List.{AllByRecursion};
 ghost use Rattle.iv_command.specs.Views.{act_of};
 ghost use Rattle.iv_machine.specs.Well.{is_well_act};
 ghost use Rattle.iv_machine.specs.State.{State};
-ghost use Rattle.iv_clients.specs.Journal.{Entry, IsEntry, IsRequest, Request as RequestSpec};
+ghost use Rattle.iv_records.specs.Journal.{Entry, IsEntry, IsRequest, Request as RequestSpec};
 ghost use Rattle.iv_gate.specs.Arriving.{fact_of};
 ghost use Rattle.iv_gate.specs.Events.{failed, next};
 ghost use Rattle.iv_gate.specs.Gate.{Gate};
@@ -14,13 +14,13 @@ ghost use Rattle.iv_gateway.specs.Replays.{AreNamesReplayed, HasReplayed, IsName
 ghost use Rattle.iv_gateway.specs.Views.{IsAlive, IsGate};
 
 use crate::gateway::Gateway;
-use crate::seats::is_accepted;
-use crate::shaping::push_shape;
-use iv_clients::laws::records_are_read_back;
-use iv_clients::{Entry, Request, read_record};
+use iv_arrivals::push_shape;
 use iv_command::{Act, Command};
 use iv_journal::Line;
+use iv_notices::is_accepted;
 use iv_once::Named;
+use iv_records::laws::records_are_read_back;
+use iv_records::{Entry, Request, read_record};
 use iv_request::laws::requests_are_well;
 use std::alloc::AllocError;
 
@@ -48,7 +48,8 @@ impl Gateway {
     /// if something waits for the journal, or the gateway was dead. The gateway is dead then.
     pub fn restore(&mut self, journal: &[Line<'_>]) -> Result<(), RestoreFault>
         ensures restored { IfOk result (λ _. (g : Gate) → IsNew g → IsGate g self.old → IsRestored g journal.now self.new) }
-        ensures damaged { (place : ℕ) → result ≡ Err (RestoreFault.Damaged place) → (g : Gate) → IsNew g → IsGate g self.old → IsDamagedAt g journal.now place }
+        ensures damaged { (place : ℕ) → result ≡ Err (RestoreFault.Damaged place)
+            → (g : Gate) → IsNew g → IsGate g self.old → IsDamagedAt g journal.now place }
         ensures fails { OnErr result ((g : Gate) → IsGate g self.old → IsGate (next g failed) self.new) }
     {
         if self.dead || !self.pending.is_empty() {
@@ -70,7 +71,8 @@ impl Gateway {
     /// Runs the entries of a journal. What was refused is forgiven.
     fn replay(&mut self, journal: &[Line<'_>]) -> Result<(), RestoreFault>
         ensures replayed { IfOk result (λ _. (g : Gate) → IsNew g → IsAlive g self.old → HasReplayed g journal.now self.new) }
-        ensures damaged { (place : ℕ) → result ≡ Err (RestoreFault.Damaged place) → (g : Gate) → IsNew g → IsAlive g self.old → IsDamagedAt g journal.now place }
+        ensures damaged { (place : ℕ) → result ≡ Err (RestoreFault.Damaged place)
+            → (g : Gate) → IsNew g → IsAlive g self.old → IsDamagedAt g journal.now place }
     {
         let mut at = 0usize;
         'lines: while at < journal.len() {

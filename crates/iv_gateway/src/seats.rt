@@ -1,50 +1,16 @@
 //! Sessions of roles: they are begun by need, and finished when nobody needs them.
-ghost use Rattle.std.specs.Prelude.{◌≡◌, IfOk, OnOk, List, ℕ, map, string_bytes, true};
-ghost use Rattle.iv_rows.specs.Names.{is_name};
-ghost use Rattle.iv_command.specs.Views.{command_of, line_of, reply_of};
-ghost use Rattle.iv_machine.specs.Act.{Line};
+ghost use Rattle.std.specs.Prelude.{◌≡◌, IfOk, OnOk, map, string_bytes, true};
+ghost use Rattle.iv_command.specs.Views.{command_of, line_of};
 ghost use Rattle.iv_machine.specs.Well.{is_well_command};
-ghost use Rattle.iv_clients.specs.Feeds.{Seat};
-ghost use Rattle.iv_gate.specs.Gate.{Gate, all_rested, has_session, is_accepted, is_needed, reply_in, rested, with_session};
-ghost use Rattle.iv_gateway.specs.Views.{IsAlive, IsRun, IsSeated, opening_of};
+ghost use Rattle.iv_gate.specs.Gate.{Gate, all_rested, has_session, is_needed, rested, with_session};
+ghost use Rattle.iv_gateway.specs.Views.{IsAlive, IsRun, IsSeated};
 
 use crate::gateway::Gateway;
 use iv_clients::{Seat, drop_seat, has_feed, next_seat, seat_of};
-use iv_command::{Act, Command, Line, Reply};
+use iv_command::{Act, Command, Line};
+use iv_notices::is_accepted;
 use iv_rows::name_ok;
 use std::alloc::AllocError;
-
-/// What the first line replies to a request.
-#[derive(Clone, Copy, PartialEq, Eq)]
-pub enum Opening {
-    /// It is done.
-    Done,
-    /// A subscription was opened.
-    Subscribed(u64),
-    /// It was refused.
-    Refused,
-}
-
-/// What the lines of a command begin with.
-pub fn opening_in(lines: &[Line]) -> Opening
-    ensures { result ≡ opening_of (reply_in (map line_of lines.now)) }
-{
-    match lines.first() {
-        Some(Line::Reply { reply, .. }) => match reply {
-            Reply::Ok => Opening::Done,
-            Reply::Subscribed(sub) => Opening::Subscribed(*sub),
-            Reply::Refused(_) => Opening::Refused,
-        },
-        _ => Opening::Refused,
-    }
-}
-
-/// Whether the lines of a command say that it was accepted.
-pub fn is_accepted(lines: &[Line]) -> bool
-    ensures { result ≡ is_accepted (reply_in (map line_of lines.now)) }
-{
-    opening_in(lines) != Opening::Refused
-}
 
 impl Gateway {
     /// Has the engine answer a command. Nobody is told yet.

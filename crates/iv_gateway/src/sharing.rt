@@ -1,138 +1,30 @@
 //! What changes what is shared: a request is done once by its name, if it has one, and its client is told the reply before what it changes.
-ghost use Rattle.std.specs.Prelude.{◌≡◌, ◌∷◌, ◌++◌, [], ℕ, List, IfOk, OnOk, if◌then◌else◌, None, Some, Option, codes, is_some, map, not, option_map, string_bytes, true};
-ghost use Rattle.serde_json.specs.Data.{object};
-ghost use Rattle.serde_json.specs.Written.{compact_text};
-ghost use Rattle.sha2.specs.Sha256.{sha256};
-ghost use Rattle.iv_rows.specs.Options.{if_some};
+ghost use Rattle.std.specs.Prelude.{◌≡◌, ℕ, OnOk, None, Some, Option, map, not, option_map, true};
 ghost use Rattle.iv_command.specs.Views.{act_of, line_of, refusal_of, reply_of};
-ghost use Rattle.iv_machine.specs.Act.{Act as ActSpec, Reply as ReplySpec, no_session, refused};
+ghost use Rattle.iv_machine.specs.Act.{Act as ActSpec, Reply as ReplySpec, refused};
 ghost use Rattle.iv_machine.specs.Well.{is_well_act};
 ghost use Rattle.iv_message.specs.Told.{answered, denied, undecided};
-ghost use Rattle.iv_clients.specs.Journal.{is_shared};
+ghost use Rattle.iv_records.specs.Journal.{is_shared};
 ghost use Rattle.iv_clients.specs.Clients as spec;
-ghost use Rattle.iv_clients.specs.Names.{Claim, holder_of, place_text};
-ghost use Rattle.iv_once.specs.Names as once;
-ghost use Rattle.iv_once.specs.Names.{Ask, named, pushed, verdict};
-ghost use Rattle.iv_once.specs.Views.{names_of as names_known};
-ghost use Rattle.iv_gate.specs.Gate.{Gate, answer_text, answering, by_verdict, carries, decides, done_in, entered, entries_of, in_session, is_accepted, names_of, place_of, replies_to, reply_in, shares, tells};
-ghost use Rattle.iv_gateway.specs.Granting.{IsGranting};
-ghost use Rattle.iv_gateway.specs.Speaking.{asked_id, lines_entered, made_of, request_of};
+ghost use Rattle.iv_records.specs.Names.{place_text};
+ghost use Rattle.iv_once.specs.Names.{Ask, verdict};
+ghost use Rattle.iv_gate.specs.Gate.{Gate, answer_text, by_verdict, carries, decides, done_in, entered, entries_of, in_session, is_accepted, names_of, place_of, replies_to, reply_in, shares, tells};
+ghost use Rattle.iv_notices.specs.Granting.{IsGranting};
+ghost use Rattle.iv_arrivals.specs.Speaking.{asked_id, request_of};
+ghost use Rattle.iv_arrivals.specs.Entering.{made_of};
 ghost use Rattle.iv_gateway.specs.Views.{IsAlive, IsRun};
 
-use crate::coming::place_text;
 use crate::gateway::Gateway;
-use crate::granting::Grants;
-use crate::seats::is_accepted;
-use crate::shaping::push_shape;
-use iv_clients::{Claim, OwnedLine, holder_of, push_accepted, push_named, seat_of};
+use iv_arrivals::{
+    Asked, answer_text, ask_of, first_reply, is_done, place_text, push_entry, push_name, push_shape,
+};
+use iv_clients::seat_of;
 use iv_command::{Act, Command, Line, Refusal, Reply};
-use iv_message::{Id, push_answered, push_denied, push_replied, push_undecided};
-use iv_once::{Ask, Named, Names, Verdict};
-use sha2::{Digest, Sha256};
-use std::alloc::{AllocError, Global};
-use std::marker::Model;
-
-/// Who asks by which id and line.
-#[derive(Drop)]
-pub(crate) struct Asked<'a> {
-    pub(crate) client: u32,
-    pub(crate) id: &'a Option<Id>,
-    pub(crate) role: &'a str,
-    pub(crate) line: &'a [u8],
-}
-
-impl<'a> Model for Asked<'a> {
-    ghost use Rattle.iv_gateway.specs.Speaking.{Asking};
-
-    ghost Value = { Asking };
-
-    ghost view = { λ a. record { client = a.client; id = a.id.now; role = a.role.now; line = a.line.now } };
-}
-
-/// What a client asks by a name.
-fn ask_of(alloc: Global, asked: &Asked<'_>, user: &str, claim: Claim) -> Result<Ask, AllocError>
-    ensures { IfOk result (λ ask. ask ≡ record { holder = holder_of asked.now.role user.now; name = claim.name; at = claim.at; digest = sha256 asked.now.line }) }
-{
-    let Claim { name, at } = claim;
-    Ok(Ask {
-        holder: holder_of(alloc, asked.role, user)?,
-        name,
-        at,
-        digest: Sha256::digest(asked.line),
-    })
-}
-
-/// Whether a reply says that what was asked is done.
-fn is_done(reply: &Reply) -> bool
-    ensures { result ≡ is_accepted (reply_of reply.now) }
-{
-    !matches!(reply, Reply::Refused(_))
-}
-
-/// The reply that lines of the engine begin with, if they do.
-fn first_reply(lines: &[Line]) -> Option<&Reply>
-    ensures { if_some result (refused no_session) (λ r. reply_of r.now) ≡ reply_in (map line_of lines.now) }
-{
-    match lines.first() {
-        Some(Line::Reply { reply, .. }) => Some(reply),
-        _ => None,
-    }
-}
-
-/// An answer as it is kept.
-fn answer_text(alloc: Global, reply: &Reply) -> Result<Vec<u8>, AllocError>
-    ensures { IfOk result (λ text. text.items ≡ answer_text (reply_of reply.now)) }
-{
-    let mut text = Vec::new(alloc);
-    push_replied(alloc, &mut text, &None, reply)?;
-    text.pop();
-    Ok(text)
-}
-
-/// Appends the lines of what the journal is to have of a request.
-fn push_entry(
-    alloc: Global,
-    lines: &mut Vec<OwnedLine>,
-    asked: &Asked<'_>,
-    name: &Option<Named>,
-    accepted: bool,
-) -> Result<(), AllocError>
-    ensures { OnOk result (lines.new.items ≡ lines.old.items ++ lines_entered asked.now accepted name.now) }
-{
-    if accepted {
-        push_accepted(alloc, lines, asked.role, asked.line, name)?;
-        return Ok(());
-    }
-    match name {
-        None => Ok(()),
-        Some(named) => {
-            push_named(alloc, lines, named)?;
-            Ok(())
-        }
-    }
-}
-
-/// One name more is known, if there is one.
-fn push_name(names: &mut Names, name: Option<Named>) -> Result<(), AllocError>
-    ensures { OnOk result (names_known names.new ≡ if_some name (names_known names.old) (λ n. pushed (names_known names.old) (named n))) }
-{
-    match name {
-        None => Ok(()),
-        Some(named) => {
-            names.push(named)?;
-            Ok(())
-        }
-    }
-}
-
-/// Of what was refused nothing makes the shape.
-fn clear_refused(made: &mut Vec<u8>, lines: &[Line])
-    ensures { made.new.items ≡ (if is_accepted (reply_in (map line_of lines.now)) then made.old.items else []) }
-{
-    if !is_accepted(lines) {
-        made.clear();
-    }
-}
+use iv_message::{push_answered, push_denied, push_undecided};
+use iv_notices::{Grants, clear_refused};
+use iv_once::{Ask, Named, Verdict};
+use iv_records::Claim;
+use std::alloc::AllocError;
 
 impl Gateway {
     /// Has a request told by which rule of the gateway it was not done.
@@ -198,7 +90,8 @@ impl Gateway {
         reply: &Reply,
         made: &[u8],
     ) -> Result<(), AllocError>
-        ensures { OnOk result ((g : Gate) (act : ActSpec) → IsAlive g self.old → is_shared act ≡ true → made.now ≡ made_of asked.now act None (reply_of reply.now)
+        ensures { OnOk result ((g : Gate) (act : ActSpec) → IsAlive g self.old → is_shared act ≡ true
+            → made.now ≡ made_of asked.now act None (reply_of reply.now)
             → IsAlive (replies_to g asked.now.client (asked_id asked.now) (request_of asked.now act) None (reply_of reply.now)) self.new) }
     {
         self.enter_request(asked, None, is_done(reply), made)?;
@@ -214,7 +107,8 @@ impl Gateway {
         reply: &Reply,
         made: &[u8],
     ) -> Result<(), AllocError>
-        ensures { OnOk result ((g : Gate) (act : ActSpec) → IsAlive g self.old → is_shared act ≡ true → made.now ≡ made_of asked.now act (Some ask) (reply_of reply.now)
+        ensures { OnOk result ((g : Gate) (act : ActSpec) → IsAlive g self.old → is_shared act ≡ true
+            → made.now ≡ made_of asked.now act (Some ask) (reply_of reply.now)
             → IsAlive (replies_to g asked.now.client (asked_id asked.now) (request_of asked.now act) (Some ask) (reply_of reply.now)) self.new) }
     {
         let is_accepted = is_done(reply);
@@ -239,7 +133,8 @@ impl Gateway {
         reply: &Reply,
         made: &[u8],
     ) -> Result<(), AllocError>
-        ensures { OnOk result ((g : Gate) (act : ActSpec) → IsAlive g self.old → is_shared act ≡ true → made.now ≡ made_of asked.now act name (reply_of reply.now)
+        ensures { OnOk result ((g : Gate) (act : ActSpec) → IsAlive g self.old → is_shared act ≡ true
+            → made.now ≡ made_of asked.now act name (reply_of reply.now)
             → IsAlive (replies_to g asked.now.client (asked_id asked.now) (request_of asked.now act) name (reply_of reply.now)) self.new) }
     {
         match name {
@@ -262,7 +157,8 @@ impl Gateway {
         lines: &[Line],
         made: &[u8],
     ) -> Result<(), AllocError>
-        ensures { OnOk result ((g : Gate) (act : ActSpec) → IsAlive g self.old → is_shared act ≡ true → made.now ≡ made_of asked.now act name (reply_in (map line_of lines.now))
+        ensures { OnOk result ((g : Gate) (act : ActSpec) → IsAlive g self.old → is_shared act ≡ true
+            → made.now ≡ made_of asked.now act name (reply_in (map line_of lines.now))
             → IsAlive (replies_to g asked.now.client (asked_id asked.now) (request_of asked.now act) name (reply_in (map line_of lines.now))) self.new) }
     {
         match first_reply(lines) {

@@ -14,12 +14,36 @@ ghost use Rattle.iv_gateway.specs.Reading.{doubled, follows_new, own_next, reads
 ghost use Rattle.iv_gateway.specs.Views.{IsAlive, opening_of};
 
 use crate::gateway::Gateway;
-use crate::seats::{Opening, opening_in};
 use iv_clients::{Client, Feed, feed_for, feed_of, room_for};
 use iv_command::{Act, Command, Line, Refusal, Reply};
 use iv_engine::Engine;
 use iv_message::{Id, push_opened};
 use std::alloc::{AllocError, Global};
+
+/// What the first line replies to a request.
+#[derive(Clone, Copy)]
+pub enum Opening {
+    /// It is done.
+    Done,
+    /// A subscription was opened.
+    Subscribed(u64),
+    /// It was refused.
+    Refused,
+}
+
+/// What the lines of a command begin with.
+pub fn opening_in(lines: &[Line]) -> Opening
+    ensures { result ≡ opening_of (reply_in (map line_of lines.now)) }
+{
+    match lines.first() {
+        Some(Line::Reply { reply, .. }) => match reply {
+            Reply::Ok => Opening::Done,
+            Reply::Subscribed(sub) => Opening::Subscribed(*sub),
+            Reply::Refused(_) => Opening::Refused,
+        },
+        _ => Opening::Refused,
+    }
+}
 
 /// The most numbers of a client that are open at a time.
 const MOST_SUBS: usize = 16;

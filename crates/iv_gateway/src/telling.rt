@@ -1,4 +1,4 @@
-//! What clients are told: one thing, the lines of a command, and that this is all.
+//! What clients are told: one thing, the lines of a command and what it grants, and that this is all.
 ghost use Rattle.std.specs.Prelude.{◌≡◌, [], OnOk, map, option_map};
 ghost use Rattle.iv_access.specs.Rights.{Name};
 ghost use Rattle.iv_command.specs.Views.{line_of, reply_of};
@@ -7,12 +7,14 @@ ghost use Rattle.iv_machine.specs.State.{Frame};
 ghost use Rattle.iv_message.specs.Seen.{id_data};
 ghost use Rattle.iv_message.specs.Told.{Told, fault, replied, told_text};
 ghost use Rattle.iv_gate.specs.Gate.{Gate, granted_by, ran, reply_in, settles, tells};
+ghost use Rattle.iv_notices.specs.Granting.{IsGranting};
 ghost use Rattle.iv_gateway.specs.Views.{IsAlive, IsRun};
 
 use crate::gateway::Gateway;
 use iv_clients::drop_ended;
 use iv_command::{Line, Refusal, Reply};
 use iv_message::{Id, push_fault, push_replied, push_settled};
+use iv_notices::{Grants, hear_grants};
 use std::alloc::AllocError;
 
 impl Gateway {
@@ -80,6 +82,18 @@ impl Gateway {
             → ((f : Frame) (role : Name) → granted_by f k.act role ≡ []) → IsAlive (ran g k) self.new) }
     {
         self.clients.hear(self.alloc, &self.feeds, lines)?;
+        self.clients.stay(lines);
+        drop_ended(&mut self.feeds, lines);
+        Ok(())
+    }
+
+    /// Has the lines of a command told, and what it grants. What ended is shared no more.
+    pub(crate) fn hear(&mut self, lines: &[Line], grants: &Grants) -> Result<(), AllocError>
+        ensures { OnOk result ((g : Gate) (k : Command) → IsRun g k (map line_of lines.now) self.old → IsGranting k.act grants.now
+            → IsAlive (ran g k) self.new) }
+    {
+        self.clients.hear(self.alloc, &self.feeds, lines)?;
+        hear_grants(self.alloc, &mut self.clients, &self.engine, lines, grants)?;
         self.clients.stay(lines);
         drop_ended(&mut self.feeds, lines);
         Ok(())

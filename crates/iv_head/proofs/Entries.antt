@@ -5,7 +5,7 @@ use Rattle.std.specs.List.{AllByRecursion}
 use Rattle.iv_rows.specs.Options.{if_some}
 use Rattle.iv_journal.specs.Journal.{Line}
 use Rattle.iv_once.specs.Names.{Named}
-use Rattle.iv_clients.specs.Journal.{Entry, IsEntry, Request, journal_of, name_text, position_text, record_of, request_text, texts_of}
+use Rattle.iv_records.specs.Journal.{Entry, IsEntry, Request, journal_of, name_text, position_text, record_of, request_text, texts_of}
 use Rattle.iv_head.specs.Begun.{SaysNothing, followed_in, standing_in, standings_in}
 
 first_says : (t : List ℕ) (ts : List (List ℕ)) (ls : List Line) → followed_in t ≡ None → standing_in t ≡ None → SaysNothing (record_of (t ∷ ts) ++ ls)

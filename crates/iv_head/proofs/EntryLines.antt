@@ -8,7 +8,7 @@ use Rattle.std.proofs.lemmas.List.{at_drop_more}
 use Rattle.std.proofs.lemmas.Slice.Eq.{bytes_eq-Decides}
 use Rattle.iv_rows.specs.Options.{if_some}
 use Rattle.iv_journal.specs.Journal.{Line}
-use Rattle.iv_clients.proofs.Cuts.{Passed-option_and_then}
+use Rattle.iv_records.proofs.CutParts.{Passed-option_and_then}
 use Rattle.iv_head.specs.Begun.{Begun, Followed, IsBegun, IsFollowed, IsReadBack, IsStanding, SaysNothing, Standing, begun_in, followed_in, line, lines_of, log_in, log_text, said_log, said_standing, standing_in, standing_text, standings_in}
 use Rattle.iv_head.proofs.Entries.{SaysNothing-journal_of}
 use Rattle.iv_head.proofs.StandingTexts.{followed_in-log_text, standing_in-standing_text}

@@ -7,10 +7,10 @@ use Rattle.std.proofs.lemmas.Slice.Eq.{bytes_eq-Decides}
 use Rattle.json.specs.Print.{escape}
 use Rattle.iv_once.specs.Names.{Place}
 use Rattle.iv_request.specs.Request.{passing}
-use Rattle.iv_clients.specs.Names.{is_between, is_count, is_epoch, place_text}
-use Rattle.iv_clients.specs.Parsed.{cut_quote}
-use Rattle.iv_clients.proofs.Cuts.{HasNo, and-both_true, cut_at-HasNo, passing-true, list_any-append_false, HasNo-list_all, cut_quote-escape}
-use Rattle.iv_clients.proofs.Spelling.{count_in-decimal, HasNo-decimal_brace, HasNo-decimal_quote, string_in-escape}
+use Rattle.iv_records.specs.Names.{is_between, is_count, is_epoch, place_text}
+use Rattle.iv_records.specs.Cuts.{cut_quote}
+use Rattle.iv_records.proofs.CutParts.{HasNo, and-both_true, cut_at-HasNo, passing-true, list_any-append_false, HasNo-list_all, cut_quote-escape}
+use Rattle.iv_records.proofs.Spelling.{count_in-decimal, HasNo-decimal_brace, HasNo-decimal_quote, string_in-escape}
 use Rattle.iv_head.specs.Begun.{Followed, IsFollowed, IsStanding, Standing, followed_in, log_behind, log_parts, log_text, log_with, place_by, place_in, standing_in, standing_parts, standing_text, standing_with}
 
 pub bytes_same : (xs : List ℕ) → bytes_eq xs xs ≡ true

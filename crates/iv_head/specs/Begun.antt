@@ -8,10 +8,10 @@ use Rattle.iv_rows.specs.Options.{if_some}
 use Rattle.iv_request.specs.Request.{passing}
 use Rattle.iv_journal.specs.Journal.{Line}
 use Rattle.iv_once.specs.Names.{Known, Place, begun}
-use Rattle.iv_clients.specs.Journal.{Entry, IsEntry, journal_of}
-use Rattle.iv_clients.specs.Names.{between, count_in, is_count, is_epoch, place_text}
-use Rattle.iv_clients.specs.Parsed.{cut_quote, string_in}
-use Rattle.iv_clients.specs.Tokens.{behind, cut_at}
+use Rattle.iv_records.specs.Journal.{Entry, IsEntry, journal_of}
+use Rattle.iv_records.specs.Cuts.{behind, between, cut_at, cut_quote}
+use Rattle.iv_records.specs.Names.{count_in, is_count, is_epoch, place_text}
+use Rattle.iv_records.specs.Parsed.{string_in}
 
 -- where names of a holder stand: the epoch, and how many came before those that follow
 pub record Standing : Type 0 where

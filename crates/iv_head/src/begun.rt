@@ -1,26 +1,19 @@
 //! `Begun`: what a journal says before its first entry; `push_begun` writes its lines, `read_begun` reads them.
-ghost use Rattle.std.specs.Prelude.{◌≡◌, ◌==◌, ◌++◌, ◌∷◌, ◌||◌, ◌&&◌, not, if◌then◌else◌, [], ◌≤◌, false, IfOk, OnOk, codes, decimal, drop, length, map, option_and_then, option_map, string_bytes};
-ghost use Rattle.std.specs.List.{list_all};
-ghost use Rattle.std.specs.Str.{is_utf8};
+ghost use Rattle.std.specs.Prelude.{◌≡◌, ◌++◌, ◌∷◌, if◌then◌else◌, [], ◌≤◌, IfOk, OnOk, codes, decimal, drop, length, map, option_map, string_bytes};
 ghost use Rattle.serde_json.specs.Data.{string};
-ghost use Rattle.serde_json.specs.Find.{as_number, as_str, as_u64};
 ghost use Rattle.serde_json.specs.Written.{compact_text};
-ghost use Rattle.iv_request.specs.Documents.{value_data};
-ghost use Rattle.iv_request.specs.Request.{passing};
 ghost use Rattle.iv_rows.specs.Options.{if_some};
-ghost use Rattle.iv_message.specs.Seen.{id_data};
-ghost use Rattle.iv_clients.specs.Names.{between, count_in, is_between, is_count, is_epoch, place_text};
-ghost use Rattle.iv_clients.specs.Parsed.{cut_quote, string_in};
+ghost use Rattle.iv_records.specs.Names.{place_text};
 ghost use Rattle.iv_head.specs.Begun as spec;
-ghost use Rattle.iv_head.specs.Begun.{begun_in, epoch_in, followed_in, lines_of, log_in, log_text, member_in, place_in, said_log, said_standing, standing_in, standing_text, standings_in};
+ghost use Rattle.iv_head.specs.Begun.{begun_in, epoch_in, followed_in, lines_of, log_in, log_text, member_in, place_in, said_log, said_standing};
+ghost use Rattle.iv_head.specs.Begun.{standing_in, standing_text, standings_in};
 
 use itoa::Buffer;
-use iv_clients::{OwnedLine, behind, cut_at};
 use iv_journal::Line;
-use iv_message::{Id, quoted, read_id};
+use iv_message::quoted;
 use iv_once::Place;
-use iv_request::read_value;
-use json::{Scratch, Value as Json};
+use iv_records::{OwnedLine, behind, between, count_in, cut_at, cut_quote, push_place, string_in};
+use json::Scratch;
 use std::alloc::{AllocError, Global};
 use std::marker::Model;
 
@@ -88,16 +81,6 @@ fn push_member(alloc: Global, text: &mut Vec<u8>, key: &[u8], value: &str) -> Re
     let value = quoted(alloc, value)?;
     text.extend_from_slice(key)?;
     text.extend_from_slice(value.as_bytes())?;
-    Ok(())
-}
-
-/// Appends an epoch and a count.
-fn push_place(text: &mut Vec<u8>, at: &Place) -> Result<(), AllocError>
-    ensures { OnOk result (text.new.items ≡ text.old.items ++ place_text at.now) }
-{
-    text.extend_from_slice(at.epoch.as_bytes())?;
-    text.push(b'.')?;
-    text.extend_from_slice(Buffer::new().format(at.count).as_bytes())?;
     Ok(())
 }
 
@@ -230,120 +213,6 @@ pub fn push_begun(
 
 // ---- read
 
-/// Whether a byte is this one, and no backslash escapes it.
-fn is_plain(escaped: bool, byte: u8, wanted: u8) -> bool
-    ensures { result ≡ (not escaped && (byte == wanted)) }
-{
-    !escaped && byte == wanted
-}
-
-/// What stands before the first quotation mark that no backslash escapes, and after it.
-fn cut_quote(bytes: &[u8]) -> Option<(&[u8], &[u8])>
-    ensures { option_map (λ p. (p.0.now, p.1.now)) result ≡ cut_quote false bytes.now }
-{
-    let mut escaped = false;
-    for at in 0..bytes.len() {
-        if is_plain(escaped, bytes[at], b'"') {
-            return Some((&bytes[..at], &bytes[at + 1..]));
-        }
-        escaped = is_plain(escaped, bytes[at], b'\\');
-    }
-    None
-}
-
-/// The text of a JSON value that is one.
-fn str_of(alloc: Global, value: &Json<'_>) -> Result<Option<String>, AllocError>
-    ensures { IfOk result (λ o. option_map string_bytes o ≡ option_and_then (passing is_utf8) (as_str (value_data value.now))) }
-{
-    match value {
-        Json::String(text) => Ok(Some(String::from_str(alloc, text)?)),
-        _ => Ok(None),
-    }
-}
-
-/// Bytes between quotation marks.
-fn with_quotes(alloc: Global, text: &[u8]) -> Result<Vec<u8>, AllocError>
-    ensures { IfOk result (λ quoted. quoted.items ≡ 34 ∷ (text.now ++ 34 ∷ [])) }
-{
-    let mut quoted = Vec::new(alloc);
-    quoted.push(b'"')?;
-    quoted.extend_from_slice(text)?;
-    quoted.push(b'"')?;
-    Ok(quoted)
-}
-
-/// The text that a JSON string has between its quotation marks.
-fn string_in(
-    alloc: Global,
-    text: &[u8],
-    scratch: &mut Scratch,
-) -> Result<Option<String>, AllocError>
-    ensures { IfOk result (λ o. option_map string_bytes o ≡ string_in text.now) }
-{
-    let quoted = with_quotes(alloc, text)?;
-    match read_value(alloc, &quoted, scratch)? {
-        None => Ok(None),
-        Some(value) => str_of(alloc, &value),
-    }
-}
-
-/// The number that an id is, if it is none below 0 and no text.
-fn count_of(id: &Id) -> Option<u64>
-    ensures { result ≡ option_and_then (passing is_count) (option_and_then as_u64 (as_number (id_data id.now))) }
-{
-    match id {
-        Id::Natural(count) => Some(*count),
-        Id::Whole(count) => u64::try_from(*count).ok(),
-        Id::Text(_) => None,
-    }
-}
-
-/// A number of 64 bits by its digits.
-fn count_in(alloc: Global, digits: &[u8], scratch: &mut Scratch) -> Result<Option<u64>, AllocError>
-    ensures { IfOk result (λ o. o ≡ count_in digits.now) }
-{
-    match read_id(alloc, digits, scratch)? {
-        None => Ok(None),
-        Some(id) => Ok(count_of(&id)),
-    }
-}
-
-fn is_between(low: u8, high: u8, byte: u8) -> bool
-    ensures { result ≡ is_between low high byte }
-{
-    low <= byte && byte <= high
-}
-
-/// Whether a byte is a hexadecimal digit, of small letters.
-fn is_digit(byte: u8) -> bool
-    ensures { result ≡ (is_between 48 57 byte || is_between 97 102 byte) }
-{
-    is_between(b'0', b'9', byte) || is_between(b'a', b'f', byte)
-}
-
-fn are_digits(text: &[u8]) -> bool
-    ensures { result ≡ list_all (λ b. is_between 48 57 b || is_between 97 102 b) text.now }
-{
-    text.iter().all(|byte| is_digit(*byte))
-}
-
-/// Whether a text may be an epoch.
-fn is_epoch(text: &[u8]) -> bool
-    ensures { result ≡ is_epoch text.now }
-{
-    text.len() == 32 && are_digits(text)
-}
-
-/// An epoch, as text.
-fn epoch_text(text: &[u8]) -> Option<&str>
-    ensures { option_map (λ epoch. epoch.now) result ≡ epoch_in text.now }
-{
-    let Ok(epoch) = str::from_utf8(text) else {
-        return None;
-    };
-    if is_epoch(text) { Some(epoch) } else { None }
-}
-
 /// The epoch that a text is, of 32 digits, if it is one.
 ///
 /// # Errors
@@ -351,7 +220,7 @@ fn epoch_text(text: &[u8]) -> Option<&str>
 pub fn epoch_in(alloc: Global, text: &[u8]) -> Result<Option<String>, AllocError>
     ensures { IfOk result (λ o. option_map string_bytes o ≡ epoch_in text.now) }
 {
-    match epoch_text(text) {
+    match iv_records::epoch_in(text) {
         None => Ok(None),
         Some(epoch) => Ok(Some(String::from_str(alloc, epoch)?)),
     }
@@ -378,13 +247,6 @@ fn member_in<'a>(text: &'a [u8], key: &[u8]) -> Option<(&'a [u8], &'a [u8])>
     ensures { option_map (λ p. (p.0.now, p.1.now)) result ≡ member_in key.now text.now }
 {
     cut_quote(behind(text, key)?)
-}
-
-/// What stands between a key and the first such byte, and after that.
-fn between<'a>(text: &'a [u8], key: &[u8], byte: u8) -> Option<(&'a [u8], &'a [u8])>
-    ensures { option_map (λ p. (p.0.now, p.1.now)) result ≡ between key.now byte text.now }
-{
-    cut_at(behind(text, key)?, byte)
 }
 
 /// Where names stand that a text says.

@@ -1,6 +1,6 @@
 //! `names_in`: the names that are known by what a journal says before its first entry.
 ghost use Rattle.std.specs.Prelude.{◌≡◌, IfOk, OnOk};
-ghost use Rattle.iv_clients.specs.Names.{limits};
+ghost use Rattle.iv_records.specs.Names.{limits};
 ghost use Rattle.iv_once.specs.Names.{begun};
 ghost use Rattle.iv_once.specs.Runs.{nothing_known, unspent};
 ghost use Rattle.iv_once.specs.Views.{names_of};

@@ -4,7 +4,8 @@ ghost use Rattle.iv_rows.specs.Options.{if_some};
 ghost use Rattle.iv_gateway.specs.Views.{IsHead};
 ghost use Rattle.iv_host.specs.Beginning.{head_with, log_of};
 
-use iv_gateway::{Head, Log};
+use iv_arrivals::Log;
+use iv_gateway::Head;
 use iv_head::{Begun, Followed, names_in};
 use std::alloc::{AllocError, Global};
 

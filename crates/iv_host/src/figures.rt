@@ -6,7 +6,7 @@ ghost use Rattle.iv_host.specs.Roles.{by_role, first_at, more_at};
 
 use crate::counts::{BOUNDS, Counts, raise};
 use crate::journal::{FileJournal, Syncs};
-use iv_gateway::{KINDS, Tally};
+use iv_arrivals::{KINDS, Tally};
 use iv_pages::{Bucket, Label, Metric, push_counter, push_gauge, push_histogram, push_sample};
 use std::alloc::{AllocError, Global};
 use std::fs;

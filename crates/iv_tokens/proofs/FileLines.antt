@@ -1,6 +1,7 @@
 -- Lines of a file of tokens, by where they are cut.
 use Rattle.std.proofs.Common.{◌≡◌, ℕ, Bool, true, false, cond, List, [], ◌∷◌, Option, Some, None, ap, ◌∙◌, sym, append-nil}
-use Rattle.iv_clients.specs.Tokens.{cut_at, lines_of}
+use Rattle.iv_records.specs.Cuts.{cut_at}
+use Rattle.iv_clients.specs.Tokens.{lines_of}
 use Rattle.iv_clients.proofs.Lines.{lines_of-cut_at, lines_of-not_cut}
 use Rattle.iv_tokens.specs.Entries.{Entry, entries_of}
 use Rattle.iv_tokens.specs.Lines.{behind_entries}

@@ -2,7 +2,8 @@
 use Rattle.std.specs.Prelude.{◌≡◌, ◌<◌, ◌==◌, ℕ, ◌&&◌, not, Bool, true, if◌then◌else◌, List, [], ◌∷◌, ◌++◌, All, Contains, length, map, filter, nat_le, nat_lt, bytes_eq, codes, find, IfSome, Option, Some, None, option_map, option_and_then}
 use Rattle.std.specs.List.{list_all}
 use Rattle.std.specs.Str.{is_utf8}
-use Rattle.iv_clients.specs.Tokens.{Token, are_apart, behind, cut_at, is_no_token, lines_of, tokens_in}
+use Rattle.iv_records.specs.Cuts.{behind, cut_at}
+use Rattle.iv_clients.specs.Tokens.{Token, are_apart, is_no_token, lines_of, tokens_in}
 use Rattle.iv_tokens.specs.Moments.{moment_in}
 
 -- a token, and the second at which it ends, if that is said

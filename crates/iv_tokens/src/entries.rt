@@ -6,7 +6,8 @@ ghost use Rattle.iv_tokens.specs.Entries.{Entry, end_in, entries_of, entry_in, e
 ghost use Rattle.iv_tokens.specs.Lines.{behind_entries, entries_read, parts_by};
 
 use crate::moments::moment_in;
-use iv_clients::{Token, TokensFault, behind, cut_at, read_tokens};
+use iv_clients::{Token, TokensFault, read_tokens};
+use iv_records::{behind, cut_at};
 use std::alloc::{AllocError, Global};
 use std::marker::Model;
 

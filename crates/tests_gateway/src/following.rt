@@ -3,8 +3,9 @@ ghost use Rattle.std.specs.Prelude.{IfOk, IfSome};
 ghost use Rattle.iv_gate.specs.Events.{IsWell, arrived};
 
 use crate::out::Out;
+use iv_arrivals::{Log, Step, read_step};
 use iv_command::{Refusal, Reply};
-use iv_gateway::{Gateway, Log, Step, StepFault, read_step};
+use iv_gateway::{Gateway, StepFault};
 use iv_journal::Line;
 use iv_message::push_replied;
 use json::Scratch;

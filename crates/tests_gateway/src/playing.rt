@@ -13,11 +13,13 @@ ghost use Rattle.std.specs.Prelude.{None};
 use crate::following::{log_of, put_position, step};
 use crate::out::Out;
 use crate::viewd::answers;
-use iv_clients::{OwnedLine, Token, read_tokens};
+use iv_arrivals::Log;
+use iv_clients::{Token, read_tokens};
 use iv_engine::Engine;
-use iv_gateway::{Gateway, GatewayFault, Head, Journal, JournalFault, Log, RestoreFault};
+use iv_gateway::{Gateway, GatewayFault, Head, Journal, JournalFault, RestoreFault};
 use iv_journal::Line;
 use iv_once::{LIMITS, Names};
+use iv_records::OwnedLine;
 use std::alloc::{AllocError, Global};
 use std::mem;
 

@@ -1,8 +1,8 @@
 //! `what_came_before_is_read_back`, `other_lines_are_entries`, `names_stand_there`: what a journal says between its head and its first entry.
-use iv_clients::OwnedLine;
 use iv_head::{Begun, Followed, Standing, epoch_in, names_in, push_begun, read_begun};
 use iv_journal::Line;
 use iv_once::Place;
+use iv_records::OwnedLine;
 use json::Scratch;
 use std::alloc::{AllocError, Global};
 use std::test::Fail;

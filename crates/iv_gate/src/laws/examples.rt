@@ -5,7 +5,7 @@ ghost use Rattle.iv_machine.specs.declared.Cause.TheVariants as cause;
 ghost use Rattle.iv_message.specs.Told.{denied, over, settled, undecided};
 ghost use Rattle.iv_gate.specs.Arriving.{fault_of, gap, not_accepted, other_log, position, takes};
 ghost use Rattle.iv_gate.specs.Gate.{decides};
-ghost use Rattle.iv_gate.specs.Worked.{asks, behind, both_rows, by_ann, done_and_told, foreign_step, is_done, later, notes, put, puts, reads_notes, reads_of, sums_made, taken, taken_and_given, told_more, too_large, total, without_right, writes, wrote};
+ghost use Rattle.iv_gate.specs.Worked.{asks, both_rows, by_ann, done_and_told, foreign_step, is_done, later, notes, put, puts, reads_notes, reads_of, sums_made, taken, taken_and_given, taken_before, told_more, too_large, total, without_right, writes, wrote};
 
 /// By a step that takes a right, brings rows and gives it again, who reads is told the rows, once, and no end; where the right is not given
 /// again, the end, and no row.
@@ -22,7 +22,7 @@ pub fn limits_refuse_no_step()
 /// What was taken already changes nothing; what begins elsewhere, is of another log, or is refused, ends the gateway, in words. A client's
 /// request that changes what is shared is refused.
 pub fn steps_follow_their_log()
-    ensures behind { takes reads_notes behind ≡ reads_notes }
+    ensures again { takes reads_notes taken_before ≡ reads_notes }
     ensures gap { fault_of reads_notes later ≡ Some (gap 1) }
     ensures foreign { fault_of reads_notes foreign_step ≡ Some other_log }
     ensures refused { fault_of reads_notes without_right ≡ Some (not_accepted 2 not_administrator) }

@@ -8,11 +8,11 @@ ghost use Rattle.iv_gate.specs.Restoring.{IsDecided};
 ghost use Rattle.iv_gate.specs.Runs.{Runs};
 ghost use Rattle.iv_journal.specs.Journal.{Line};
 
-use iv_clients::laws::{names_are_texts, records_are_read_back};
 use iv_machine::laws::{
     ends_are_told, lines_add_up, requests_open_what_they_name, steps_keep_sound, what_stands_lasts,
 };
 use iv_message::laws::told_texts_are_lines;
+use iv_records::laws::{names_are_texts, records_are_read_back};
 use iv_steps::laws::steps_are_told;
 
 /// By an event a client is told what shows the entries that are accepted after it, and what comes of its own message if the event

@@ -1,6 +1,6 @@
 //! Laws of names of requests. Each is the contract of a function that does nothing.
 ghost use Rattle.std.specs.Prelude.{◌≡◌, ◌≤◌, ℕ, List, None};
-ghost use Rattle.iv_clients.specs.Names.{limits};
+ghost use Rattle.iv_records.specs.Names.{limits};
 ghost use Rattle.iv_gate.specs.Events.{Event};
 ghost use Rattle.iv_gate.specs.Gate.{Gate};
 ghost use Rattle.iv_gate.specs.Implied.{StaysPast};
@@ -8,8 +8,8 @@ ghost use Rattle.iv_gate.specs.Laws.{NamesAreOnce};
 ghost use Rattle.iv_gate.specs.Replies.{refused_by};
 ghost use Rattle.iv_gate.specs.Runs.{Runs};
 
-use iv_clients::laws::{names_are_texts, records_are_read_back};
 use iv_message::laws::told_texts_are_lines;
+use iv_records::laws::{names_are_texts, records_are_read_back};
 
 /// In whatever runs, over restarts, at most one entry of a holder's bears a name with its place, in the whole journal.
 pub fn names_are_once()

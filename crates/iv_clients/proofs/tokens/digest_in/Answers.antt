@@ -1,6 +1,6 @@
 use Rattle.std.proofs.Common.{ap, sym}
-use Rattle.iv_clients.specs.Tokens.{decoded}
-use Rattle.iv_clients.proofs.PartsAsText.{decoded-not_OutOfMemory}
+use Rattle.iv_records.specs.Cuts.{decoded}
+use Rattle.iv_clients.proofs.TokenParts.{decoded-not_OutOfMemory}
 use Rattle.iv_clients.proofs.tokens.digest_in.Goals as goal
 
 pub returns-in-Ok : goal.returns-in-Ok

@@ -1,4 +1,4 @@
-use Rattle.iv_clients.proofs.PartsAsText.{role_in-not_IsUtf8}
+use Rattle.iv_clients.proofs.TokenParts.{role_in-not_IsUtf8}
 use Rattle.iv_clients.proofs.tokens.role_in.Goals as goal
 
 pub returns-in_default : goal.returns-in_default

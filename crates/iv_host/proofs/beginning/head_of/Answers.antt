@@ -1,6 +1,6 @@
 use Rattle.std.proofs.Common.{◌∙◌, ap, option_map}
 use Rattle.iv_rows.specs.Options.{if_some}
-use Rattle.iv_clients.specs.Names.{limits}
+use Rattle.iv_records.specs.Names.{limits}
 use Rattle.iv_once.specs.Names.{Names}
 use Rattle.iv_once.specs.Runs.{nothing_known, unspent}
 use Rattle.iv_head.specs.Begun.{stood}

@@ -1,4 +1,4 @@
-use Rattle.iv_clients.specs.Journal.{names_in}
+use Rattle.iv_records.specs.Journal.{names_in}
 use Rattle.iv_gate.specs.Gate.{known_at}
 use Rattle.iv_gate.proofs.NameVerdicts.{le-times_first_known}
 use Rattle.iv_gate.proofs.AddedEntries.{Texts}

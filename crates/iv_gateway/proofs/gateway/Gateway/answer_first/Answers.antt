@@ -2,7 +2,8 @@ use Rattle.std.proofs.Common.{◌≡◌, ◌∙◌, ap, map, subst, sym}
 use Rattle.iv_command.specs.Views.{line_of, reply_of}
 use Rattle.iv_machine.specs.Act.{Reply, no_session, refused}
 use Rattle.iv_gate.specs.Gate.{replies_to, reply_in}
-use Rattle.iv_gateway.specs.Speaking.{asked_id, made_of, request_of}
+use Rattle.iv_arrivals.specs.Speaking.{asked_id, request_of}
+use Rattle.iv_arrivals.specs.Entering.{made_of}
 use Rattle.iv_gateway.specs.Views.{IsAlive}
 use Rattle.iv_gateway.proofs.gateway.Gateway.answer_first.Goals as goal
 

@@ -1,9 +1,9 @@
 use Rattle.std.proofs.Common.{◌≡◌, ◌∙◌, false, not, Some, rules, subst}
 use Rattle.iv_command.specs.Views.{reply_of}
 use Rattle.iv_message.specs.Told.{answered}
-use Rattle.iv_clients.specs.Names.{place_text}
+use Rattle.iv_records.specs.Names.{place_text}
 use Rattle.iv_gate.specs.Gate.{Gate, answer_text, entered, entries_of, place_of, tells}
-use Rattle.iv_gateway.specs.Speaking.{asked_id, request_of}
+use Rattle.iv_arrivals.specs.Speaking.{asked_id, request_of}
 use Rattle.iv_gateway.specs.Views.{IsAlive}
 use Rattle.iv_gateway.proofs.gateway.Gateway.answer_named.Goals as goal
 

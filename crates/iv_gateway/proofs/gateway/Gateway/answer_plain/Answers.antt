@@ -3,7 +3,7 @@ use Rattle.iv_command.specs.Views.{reply_of}
 use Rattle.iv_message.specs.Seen.{id_data}
 use Rattle.iv_message.specs.Told.{replied}
 use Rattle.iv_gate.specs.Gate.{Gate, entered, entries_of, tells}
-use Rattle.iv_gateway.specs.Speaking.{asked_id, request_of}
+use Rattle.iv_arrivals.specs.Speaking.{asked_id, request_of}
 use Rattle.iv_gateway.specs.Views.{IsAlive}
 use Rattle.iv_gateway.proofs.gateway.Gateway.answer_plain.Goals as goal
 

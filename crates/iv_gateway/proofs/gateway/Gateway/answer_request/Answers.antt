@@ -1,7 +1,8 @@
 use Rattle.std.proofs.Common.{◌∙◌, ap, subst, sym}
 use Rattle.iv_command.specs.Views.{reply_of}
 use Rattle.iv_gate.specs.Gate.{replies_to}
-use Rattle.iv_gateway.specs.Speaking.{asked_id, made_of, request_of}
+use Rattle.iv_arrivals.specs.Speaking.{asked_id, request_of}
+use Rattle.iv_arrivals.specs.Entering.{made_of}
 use Rattle.iv_gateway.specs.Views.{IsAlive}
 use Rattle.iv_gateway.proofs.gateway.Gateway.answer_request.Goals as goal
 

@@ -1,10 +1,10 @@
 use Rattle.std.proofs.Common.{◌≡◌, rules, subst, true}
 use Rattle.iv_command.specs.Views.{act_of}
 use Rattle.iv_message.specs.Told.{answered}
-use Rattle.iv_clients.specs.Names.{place_text}
+use Rattle.iv_records.specs.Names.{place_text}
 use Rattle.iv_once.specs.Names.{again, ahead, another, carry, foreign, late, over}
 use Rattle.iv_gate.specs.Gate.{place_of, tells}
-use Rattle.iv_gateway.specs.Speaking.{asked_id, request_of}
+use Rattle.iv_arrivals.specs.Speaking.{asked_id, request_of}
 use Rattle.iv_gateway.specs.Views.{IsAlive}
 use Rattle.iv_gateway.proofs.HeardMessages.{IsAlive-by_verdict, verdict_of-IsAlive}
 use Rattle.iv_gateway.proofs.gateway.Gateway.ask_named.Goals as goal

@@ -2,7 +2,7 @@ use Rattle.std.proofs.Common.{◌∙◌, ◌++◌, ap}
 use Rattle.iv_message.specs.Told.{alive, told_text}
 use Rattle.iv_clients.specs.Clients.{at_all, beating}
 use Rattle.iv_clients.specs.Kept.{holding_beat}
-use Rattle.iv_gateway.proofs.ClientChanges.{at_all-kept_slots, kept-beating}
+use Rattle.iv_notices.proofs.ClientChanges.{at_all-kept_slots, kept-beating}
 use Rattle.iv_gateway.proofs.gateway.Gateway.beat.Goals as goal
 
 pub returns : goal.returns

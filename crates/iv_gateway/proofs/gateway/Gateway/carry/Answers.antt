@@ -1,7 +1,7 @@
 use Rattle.std.proofs.Common.{◌≡◌, ◌∙◌, rules, sym}
 use Rattle.iv_command.specs.Views.{act_of}
 use Rattle.iv_clients.specs.Feeds.{seat_of}
-use Rattle.iv_gateway.specs.Speaking.{asked_id, request_of}
+use Rattle.iv_arrivals.specs.Speaking.{asked_id, request_of}
 use Rattle.iv_gateway.proofs.HeardMessages.{IsAlive-carries, IsAlive-carries_no_room, IsAlive-carries_no_session}
 use Rattle.iv_gateway.proofs.gateway.Gateway.carry.Goals as goal
 

@@ -3,7 +3,7 @@ use Rattle.iv_message.specs.Seen.{id_data}
 use Rattle.iv_clients.specs.Clients.{at_client, closing}
 use Rattle.iv_clients.specs.Kept.{keeping_closed}
 use Rattle.iv_gateway.proofs.ClosedNumbers.{IsAlive-closes_none, IsAlive-closes_some, followed_by-kept_slots}
-use Rattle.iv_gateway.proofs.ClientChanges.{at_client-kept_slots}
+use Rattle.iv_notices.proofs.ClientChanges.{at_client-kept_slots}
 use Rattle.iv_gateway.proofs.gateway.Gateway.close.Goals as goal
 
 pub returns-in_ok-reply-in-None : goal.returns-in_ok-reply-in-None

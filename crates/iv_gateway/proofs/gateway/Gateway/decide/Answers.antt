@@ -1,7 +1,7 @@
 use Rattle.std.proofs.Common.{◌∙◌, ap, is_some, not, subst, sym}
 use Rattle.iv_command.specs.Views.{act_of}
 use Rattle.iv_gate.specs.Gate.{decided_elsewhere, tells}
-use Rattle.iv_gateway.specs.Speaking.{asked_id, request_of}
+use Rattle.iv_arrivals.specs.Speaking.{asked_id, request_of}
 use Rattle.iv_gateway.specs.Views.{IsAlive}
 use Rattle.iv_gateway.proofs.HeardMessages.{IsAlive-decides, IsAlive-decided_elsewhere}
 use Rattle.iv_gateway.proofs.gateway.Gateway.decide.Goals as goal

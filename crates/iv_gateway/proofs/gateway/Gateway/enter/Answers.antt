@@ -4,10 +4,10 @@ use Rattle.iv_clients.specs.Clients.{fresh}
 use Rattle.iv_clients.specs.Kept.{coming, kept}
 use Rattle.iv_clients.specs.Tokens.{Token}
 use Rattle.iv_gate.specs.Gate.{at_text, shape_text}
-use Rattle.iv_gateway.specs.Shaping.{greeting_text}
+use Rattle.iv_notices.specs.Shaping.{greeting_text}
 use Rattle.iv_gateway.proofs.AddedEntries.{placed_in-place_text}
-use Rattle.iv_gateway.proofs.ClientChanges.{set-kept_slots}
-use Rattle.iv_gateway.proofs.ShapeLines.{kept-fresh}
+use Rattle.iv_notices.proofs.ClientChanges.{set-kept_slots}
+use Rattle.iv_notices.proofs.ShapeLines.{kept-fresh}
 use Rattle.iv_gateway.proofs.gateway.Gateway.enter.Goals as goal
 
 pub returns : goal.returns

@@ -2,11 +2,10 @@ use Rattle.std.proofs.Common.{◌≡◌, ◌∙◌, ◌++◌, ◌∷◌, [], Som
 use Rattle.std.specs.Prelude.{flat_map}
 use Rattle.iv_once.specs.Names.{Names}
 use Rattle.iv_once.specs.Views.{names_of as names_in_code}
-use Rattle.iv_clients.specs.Journal.{record_of, texts_of}
+use Rattle.iv_records.specs.Journal.{record_of, texts_of}
 use Rattle.iv_gate.specs.Arriving.{Step, entry_of, fact_of, first_known, not_new}
 use Rattle.iv_gate.specs.Gate.{known_of, shape_text}
-use Rattle.iv_gateway.specs.Arriving.{all_pushed}
-use Rattle.iv_gateway.specs.Shaping.{shape_in}
+use Rattle.iv_arrivals.specs.Entering.{all_pushed, shape_in}
 use Rattle.iv_gateway.proofs.Landed.{entry_shape, step_kept}
 use Rattle.iv_gateway.proofs.gateway.Gateway.enter_step.Goals as goal
 

@@ -6,7 +6,7 @@ use Rattle.iv_clients.specs.Clients.{at_client, following}
 use Rattle.iv_clients.specs.Kept.{keeping_new}
 use Rattle.iv_gate.specs.Gate.{columns_in, next_own, tells}
 use Rattle.iv_gateway.specs.Reading.{own_next}
-use Rattle.iv_gateway.proofs.ClientChanges.{at_client-kept_slots}
+use Rattle.iv_notices.proofs.ClientChanges.{at_client-kept_slots}
 use Rattle.iv_gateway.proofs.NewSubscriptions.{own_next-next_own}
 use Rattle.iv_gateway.proofs.gateway.Gateway.follow.Goals as goal
 

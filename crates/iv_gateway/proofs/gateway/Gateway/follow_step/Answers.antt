@@ -5,7 +5,7 @@ use Rattle.iv_gate.specs.Arriving.{is_log}
 use Rattle.iv_gate.specs.Gate.{Gate}
 use Rattle.iv_gateway.specs.Arriving.{IsFaultOf, IsNotLanded}
 use Rattle.iv_gateway.specs.Views.{IsAlive}
-use Rattle.iv_gateway.proofs.Landed.{err_gives, has_gap, has_landed, not_landed, of_another, was_taken}
+use Rattle.iv_gateway.proofs.Landed.{err_gives, has_gap, has_landed, not_landed, of_another, IsAlive-was_taken}
 use Rattle.iv_gateway.proofs.gateway.Gateway.follow_step.Goals as goal
 
 pub returns-then-not-is_of-clause-fault : goal.returns-then-not-is_of-clause-fault
@@ -18,7 +18,7 @@ returns-then-is_past-clause-gate c = λ g b.
     let s = c.args.step in
     let ours = sym (ap (λ l. if_some l false (is_log s.log)) b.log) ∙ (sym c.is_of.ensures ∙ c.if-not-is_of.false) in
     let past = sym (ap (λ p. nat_le s.to p) b.position) ∙ (sym c.is_past.ensures ∙ c.if-is_past.true) in
-    was_taken g s _ ours past b
+    IsAlive-was_taken g s _ ours past b
 
 pub returns-then-not-is_next-clause-fault : goal.returns-then-not-is_next-clause-fault
 returns-then-not-is_next-clause-fault c = λ g b.

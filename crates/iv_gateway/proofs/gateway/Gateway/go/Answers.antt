@@ -6,7 +6,7 @@ use Rattle.iv_clients.specs.Feeds.{is_of_role}
 use Rattle.iv_gate.specs.Gate.{Gate, all_rested, all_swept}
 use Rattle.iv_gateway.specs.Views.{IsAlive}
 use Rattle.iv_gateway.proofs.LeavingClients.{IsAlive-went_none, IsAlive-went_some, leaving}
-use Rattle.iv_gateway.proofs.ClientChanges.{set-kept_slots}
+use Rattle.iv_notices.proofs.ClientChanges.{set-kept_slots}
 use Rattle.iv_gateway.proofs.gateway.Gateway.go.Goals as goal
 
 pub returns-in-None : goal.returns-in-None

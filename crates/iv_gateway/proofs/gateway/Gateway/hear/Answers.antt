@@ -7,9 +7,9 @@ use Rattle.iv_clients.specs.Clients.{at_all}
 use Rattle.iv_clients.specs.Feeds.{feeds_left}
 use Rattle.iv_clients.specs.Kept.{Kept, holding_all, keeping_on}
 use Rattle.iv_gate.specs.Gate.{granted_by, is_accepted, reply_in}
-use Rattle.iv_gateway.specs.Granting.{hearing_granted}
+use Rattle.iv_notices.specs.Granting.{hearing_granted}
 use Rattle.iv_hall.specs.Hearing.{hearing_lines}
-use Rattle.iv_gateway.proofs.GrantTexts.{at_all-hearing_granted, kept_slots-granted}
+use Rattle.iv_notices.proofs.GrantTexts.{at_all-hearing_granted, kept_slots-granted}
 use Rattle.iv_gateway.proofs.gateway.Gateway.hear.Goals as goal
 
 pub returns : goal.returns

@@ -1,10 +1,10 @@
 use Rattle.std.proofs.Common.{◌≡◌, ◌∙◌, ap, rules, refl, sym, subst}
 use Rattle.iv_clients.specs.Clients.{at_client, saying}
-use Rattle.iv_clients.specs.Journal.{said_by}
+use Rattle.iv_records.specs.Journal.{said_by}
 use Rattle.iv_clients.specs.Kept.{asking}
 use Rattle.iv_gate.specs.Gate.{done_for}
 use Rattle.iv_gateway.specs.Views.{IsAlive}
-use Rattle.iv_gateway.proofs.ClientChanges.{at_client-kept_slots}
+use Rattle.iv_notices.proofs.ClientChanges.{at_client-kept_slots}
 use Rattle.iv_gateway.proofs.HeardMessages.{asked, did, at_client-answering, client_at-asked}
 use Rattle.iv_gateway.proofs.gateway.Gateway.hear_message.Goals as goal
 

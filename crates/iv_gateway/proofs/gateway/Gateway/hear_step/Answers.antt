@@ -6,10 +6,10 @@ use Rattle.iv_clients.specs.Clients.{at_all}
 use Rattle.iv_clients.specs.Feeds.{feeds_left}
 use Rattle.iv_clients.specs.Kept.{Kept, holding_all, keeping_on}
 use Rattle.iv_gate.specs.Arriving.{newly}
-use Rattle.iv_gateway.specs.Newly.{AreNewly, hearing_newly, newly_in}
+use Rattle.iv_notices.specs.Newly.{AreNewly, hearing_newly, newly_in}
 use Rattle.iv_hall.specs.Hearing.{hearing_lines}
-use Rattle.iv_gateway.proofs.GrantTexts.{kept_slots-granted}
-use Rattle.iv_gateway.proofs.NewRights.{stands_newly}
+use Rattle.iv_notices.proofs.GrantTexts.{kept_slots-granted}
+use Rattle.iv_notices.proofs.NewRights.{stands_newly}
 use Rattle.iv_gateway.proofs.gateway.Gateway.hear_step.Goals as goal
 
 pub returns : goal.returns

@@ -1,9 +1,9 @@
 use Rattle.std.proofs.Common.{◌≡◌, ◌∙◌, false, length, sym, true, ap}
 use Rattle.std.specs.Prelude.{◌==◌}
 use Rattle.iv_clients.specs.Clients.{at_all}
-use Rattle.iv_gateway.specs.Granting.{holding_for}
-use Rattle.iv_gateway.specs.Shaping.{is_admin}
-use Rattle.iv_gateway.proofs.ShapeLines.{at_all-told_shape_empty, at_all-told_shape, kept_slots-informs}
+use Rattle.iv_notices.specs.Granting.{holding_for}
+use Rattle.iv_notices.specs.Shaping.{is_admin}
+use Rattle.iv_notices.proofs.ShapeLines.{at_all-told_shape_empty, at_all-told_shape, kept_slots-informs}
 use Rattle.iv_gateway.proofs.gateway.Gateway.inform.Goals as goal
 
 pub returns-then-is_empty : goal.returns-then-is_empty

@@ -3,7 +3,7 @@ use Rattle.iv_clients.specs.Clients.{at_client, moved}
 use Rattle.iv_clients.specs.Feeds.{feed_of}
 use Rattle.iv_clients.specs.Kept.{keeping_moved}
 use Rattle.iv_gateway.specs.Reading.{doubled}
-use Rattle.iv_gateway.proofs.ClientChanges.{at_client-kept_slots}
+use Rattle.iv_notices.proofs.ClientChanges.{at_client-kept_slots}
 use Rattle.iv_gateway.proofs.NewSubscriptions.{IsAlive-joined_none, IsAlive-joined}
 use Rattle.iv_gateway.proofs.gateway.Gateway.join.Goals as goal
 

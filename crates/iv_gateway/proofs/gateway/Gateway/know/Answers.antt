@@ -3,7 +3,7 @@ use Rattle.iv_clients.specs.Clients.{at_all, checked}
 use Rattle.iv_clients.specs.Kept.{checking}
 use Rattle.iv_gate.specs.Events.{known}
 use Rattle.iv_gateway.proofs.LiveGateways.{IsGate-IsAlive}
-use Rattle.iv_gateway.proofs.ClientChanges.{at_all-kept_slots, kept-checked}
+use Rattle.iv_notices.proofs.ClientChanges.{at_all-kept_slots, kept-checked}
 use Rattle.iv_gateway.proofs.gateway.Gateway.know.Goals as goal
 
 pub returns-then-not-self : goal.returns-then-not-self

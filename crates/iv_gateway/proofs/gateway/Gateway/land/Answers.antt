@@ -2,17 +2,17 @@ use Rattle.std.proofs.Common.{◌≡◌, ◌∙◌, List, [], ◌∷◌, Some, a
 use Rattle.std.specs.Prelude.{IfErr}
 use Rattle.std.specs.List.{list_all}
 use Rattle.iv_command.specs.Views.{line_of}
-use Rattle.iv_clients.specs.Journal.{Request}
+use Rattle.iv_records.specs.Journal.{Request}
 use Rattle.iv_clients.specs.Kept.{kept_slots}
 use Rattle.iv_engine.specs.Stepped.{is_write}
 use Rattle.iv_steps.specs.Steps.{Fact, is_well_fact, stepped}
 use Rattle.iv_gate.specs.Arriving.{Step, entry_of, fact_of}
 use Rattle.iv_gate.specs.Gate.{Gate, entered}
 use Rattle.iv_gateway.specs.Arriving.{IsNotLanded}
-use Rattle.iv_gateway.specs.Newly.{AreBefore, AreNewly}
+use Rattle.iv_notices.specs.Newly.{AreBefore, AreNewly}
 use Rattle.iv_gateway.specs.Views.{IsAlive}
 use Rattle.iv_gateway.proofs.Landed.{err_gives, facts_well, none_refused, refused_lands}
-use Rattle.iv_gateway.proofs.NewRights.{are_newly}
+use Rattle.iv_notices.proofs.NewRights.{are_newly}
 use Rattle.iv_gateway.proofs.gateway.Gateway.land.Goals as goal
 
 pub carry_step-requires : goal.carry_step-requires

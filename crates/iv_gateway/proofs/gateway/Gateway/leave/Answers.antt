@@ -2,7 +2,7 @@ use Rattle.std.proofs.Common.{◌≡◌, ◌∙◌, ◌++◌, option_map, rules,
 use Rattle.iv_message.specs.Seen.{id_data}
 use Rattle.iv_message.specs.Told.{undecided, told_text}
 use Rattle.iv_gate.specs.Gate.{tells}
-use Rattle.iv_gateway.specs.Speaking.{asked_id}
+use Rattle.iv_arrivals.specs.Speaking.{asked_id}
 use Rattle.iv_gateway.specs.Views.{IsAlive}
 use Rattle.iv_gateway.proofs.gateway.Gateway.leave.Goals as goal
 

@@ -1,5 +1,5 @@
 use Rattle.std.proofs.Common.{◌∙◌, arith, refl, rules}
-use Rattle.iv_gateway.proofs.ClientChanges.{kept_slots-replicate}
+use Rattle.iv_notices.proofs.ClientChanges.{kept_slots-replicate}
 use Rattle.iv_gateway.proofs.gateway.Gateway.new.Goals as goal
 
 pub returns : goal.returns

@@ -1,6 +1,6 @@
 use Rattle.std.proofs.Common.{◌∙◌, rules, subst, sym}
 use Rattle.iv_clients.specs.Kept.{kept_slots}
-use Rattle.iv_gateway.specs.Newly.{AreBefore, AreReadable}
+use Rattle.iv_notices.specs.Newly.{AreBefore, AreReadable}
 use Rattle.iv_gateway.proofs.gateway.Gateway.readable_before.Goals as goal
 
 pub returns-then-are_writes : goal.returns-then-are_writes

@@ -1,7 +1,7 @@
 use Rattle.std.proofs.Common.{false, refl}
 use Rattle.iv_command.specs.Views.{refusal_of}
 use Rattle.iv_machine.specs.Act.{refused}
-use Rattle.iv_gateway.specs.Speaking.{request_of}
+use Rattle.iv_arrivals.specs.Speaking.{request_of}
 use Rattle.iv_gateway.proofs.AddedEntries.{shape_text-entries_of}
 use Rattle.iv_gateway.proofs.gateway.Gateway.refuse_request.Goals as goal
 

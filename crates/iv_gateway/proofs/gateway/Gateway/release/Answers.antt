@@ -2,9 +2,9 @@ use Rattle.std.proofs.Common.{◌∙◌, ap, arith, length, sym}
 use Rattle.std.proofs.Math.Seq.{take-length}
 use Rattle.std.proofs.lemmas.List.{drop_all}
 use Rattle.iv_clients.specs.Clients.{at_all, released}
-use Rattle.iv_clients.specs.Journal.{journal_of, position_of}
+use Rattle.iv_records.specs.Journal.{journal_of, position_of}
 use Rattle.iv_clients.specs.Kept.{releasing}
-use Rattle.iv_gateway.proofs.ClientChanges.{at_all-kept_slots, kept-released}
+use Rattle.iv_notices.proofs.ClientChanges.{at_all-kept_slots, kept-released}
 use Rattle.iv_gateway.proofs.gateway.Gateway.release.Goals as goal
 
 pub returns : goal.returns

@@ -1,5 +1,5 @@
 use Rattle.std.proofs.Common.{◌∙◌, false, subst, sym}
-use Rattle.iv_clients.specs.Journal.{Entry, IsEntry}
+use Rattle.iv_records.specs.Journal.{Entry, IsEntry}
 use Rattle.iv_gateway.specs.Replays.{IsReplayed, behind}
 use Rattle.iv_gateway.proofs.JournalReplays.{IsReplayed-AreNamesReplayed, PassesTo-IsPassed, IsReplayed-not_later, IsReplayed-not_carried}
 use Rattle.iv_gateway.proofs.gateway.Gateway.replay_entry.Goals as goal

@@ -1,7 +1,7 @@
 use Rattle.std.proofs.Common.{◌∙◌, ap, sym}
 use Rattle.std.specs.Prelude.{unwrap_or}
 use Rattle.std.proofs.lemmas.Bool.{false≢true}
-use Rattle.iv_clients.specs.Journal.{position_of}
+use Rattle.iv_records.specs.Journal.{position_of}
 use Rattle.iv_gateway.specs.Replays.{is_later}
 use Rattle.iv_gateway.proofs.JournalReplays.{nat_lt-later, nat_lt-not_later, AreKept-position, settled-IsAlive}
 use Rattle.iv_gateway.proofs.gateway.Gateway.replay_position.Goals as goal

@@ -1,8 +1,8 @@
-use Rattle.std.proofs.Common.{◌∙◌, List, drop, option_map, ap, subst, sym}
-use Rattle.iv_clients.specs.Journal.{Entry}
+use Rattle.std.proofs.Common.{◌∙◌, List, drop, option_map, ap, refl, subst, sym}
+use Rattle.iv_records.specs.Journal.{Entry}
 use Rattle.iv_journal.specs.Journal.{Line}
 use Rattle.iv_gateway.specs.Replays.{IsReplayed}
-use Rattle.iv_gateway.proofs.JournalReplays.{IsEntry-record_in, IsRecordReplayed-false, IsRecordReplayed-IsReplayed, IsRecordReplayed-None}
+use Rattle.iv_gateway.proofs.JournalReplays.{IsEntry-record_in, IsReplaying-scratch, IsRecordReplayed-false, IsRecordReplayed-IsReplayed, IsRecordReplayed-None}
 use Rattle.iv_gateway.proofs.gateway.Gateway.replay_record.Goals as goal
 
 pub replay_entry-requires : goal.replay_entry-requires
@@ -17,26 +17,7 @@ returns-in-None-clause-replayed c = λ g es w.
 
 pub returns-then-branch-clause-replayed : goal.returns-then-branch-clause-replayed
 returns-then-branch-clause-replayed c = λ g es w.
-    let x = w.gate in
-    let r = c.in_ok-replay_entry-in-Some.ensures g es (record {
-      began = w.began;
-      state = w.state;
-      leads = w.leads;
-      gate = record {
-        tokens = x.tokens;
-        machine = x.machine;
-        seats = x.seats;
-        feeds = x.feeds;
-        clients = x.clients;
-        names = x.names;
-        log = x.log;
-        position = x.position;
-        settled = x.settled;
-        forgiven = x.forgiven;
-        pending = x.pending;
-        shape = x.shape;
-      };
-    }) in
+    let r = c.in_ok-replay_entry-in-Some.ensures g es (IsReplaying-scratch g es c.args.self.now _ refl w) in
     IsRecordReplayed-IsReplayed c.records_are_read_back.ensures g es c.args.lines.now c.in-Some.entry c.in-Some.count c.replay_entry.new.self
     (sym (ap (option_map {U = Entry × List Line} (λ p. (p.0, drop p.1 c.args.lines.now))) c.in-Some.is) ∙ c.in_ok-read_record.ensures.read)
     (rw c.in-Some.is at c.in_ok-read_record.ensures.within)
@@ -44,26 +25,7 @@ returns-then-branch-clause-replayed c = λ g es w.
 
 pub returns-else-branch-clause-replayed : goal.returns-else-branch-clause-replayed
 returns-else-branch-clause-replayed c = λ g es w.
-    let x = w.gate in
-    let r = c.in_ok-replay_entry-in-Some.ensures g es (record {
-      began = w.began;
-      state = w.state;
-      leads = w.leads;
-      gate = record {
-        tokens = x.tokens;
-        machine = x.machine;
-        seats = x.seats;
-        feeds = x.feeds;
-        clients = x.clients;
-        names = x.names;
-        log = x.log;
-        position = x.position;
-        settled = x.settled;
-        forgiven = x.forgiven;
-        pending = x.pending;
-        shape = x.shape;
-      };
-    }) in
+    let r = c.in_ok-replay_entry-in-Some.ensures g es (IsReplaying-scratch g es c.args.self.now _ refl w) in
     IsRecordReplayed-false c.records_are_read_back.ensures g es c.args.lines.now (drop c.in-Some.count c.args.lines.now) c.in-Some.entry c.replay_entry.new.self c.args.self.now
     (sym (ap (option_map {U = Entry × List Line} (λ p. (p.0, drop p.1 c.args.lines.now))) c.in-Some.is) ∙ c.in_ok-read_record.ensures.read)
     (subst (λ b. IsReplayed g es c.in-Some.entry b c.replay_entry.new.self) c.if-branch.false r)

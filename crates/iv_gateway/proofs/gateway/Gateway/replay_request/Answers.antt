@@ -4,12 +4,12 @@ use Rattle.iv_rows.specs.Names.{is_name}
 use Rattle.iv_machine.specs.Act.{begin}
 use Rattle.iv_machine.specs.Well.{is_well_act}
 use Rattle.iv_command.specs.Views.{act_of}
-use Rattle.iv_clients.specs.Journal.{IsRequest, Request}
+use Rattle.iv_records.specs.Journal.{IsRequest, Request}
 use Rattle.iv_steps.specs.Steps.{carried, passed}
 use Rattle.iv_gate.specs.Arriving.{fact_of}
 use Rattle.iv_gate.specs.Gate.{Gate}
 use Rattle.iv_gateway.specs.Replays.{IsPassed, behind, with_request}
-use Rattle.iv_gateway.specs.Shaping.{shape_in}
+use Rattle.iv_arrivals.specs.Entering.{shape_in}
 use Rattle.iv_gateway.proofs.JournalReplays.{PassesTo, AreKept-with_request, is_well_act-IsRequest, IsPassed-finish, IsPassed-not_accepted, IsPassed-not_begun, PassesTo-IsPassed}
 use Rattle.iv_gateway.proofs.gateway.Gateway.replay_request.Goals as goal
 

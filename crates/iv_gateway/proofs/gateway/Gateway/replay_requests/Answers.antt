@@ -1,7 +1,7 @@
 use Rattle.std.proofs.Common.{◌≡◌, List, [], arith, rules, subst, sym}
 use Rattle.std.specs.List.{AllByRecursion}
 use Rattle.std.specs.Vec.Iter.{into_iter_items}
-use Rattle.iv_clients.specs.Journal.{IsRequest, Request}
+use Rattle.iv_records.specs.Journal.{IsRequest, Request}
 use Rattle.iv_store.proofs.RunLines.{nil-of_length_zero}
 use Rattle.iv_gateway.proofs.JournalReplays.{GoesOn, GoesOn-start, IsPassed-all_carried_false, GoesOn-next, IsPassed-GoesOn}
 use Rattle.iv_gateway.proofs.gateway.Gateway.replay_requests.Goals as goal

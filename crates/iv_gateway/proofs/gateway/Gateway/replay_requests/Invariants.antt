@@ -2,7 +2,7 @@ use Rattle.std.proofs.Common.{ℕ, List, [], ◌∷◌, ◌++◌, Option}
 use Rattle.std.specs.List.{AllByRecursion}
 use Rattle.std.specs.Vec.Iter.{into_iter_items}
 use Rattle.iv_machine.specs.State.{State}
-use Rattle.iv_clients.specs.Journal.{Entry, IsRequest}
+use Rattle.iv_records.specs.Journal.{Entry, IsRequest}
 use Rattle.iv_gate.specs.Gate.{Gate}
 use Rattle.iv_gateway.specs.Replays.{behind, part}
 use Rattle.iv_gateway.specs.Views.{IsAlive}

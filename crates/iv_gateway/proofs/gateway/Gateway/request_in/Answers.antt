@@ -1,8 +1,8 @@
 use Rattle.std.proofs.Common.{◌≡◌, ◌∙◌, ◌++◌, [], cond, ap, map, refl, rules, sym}
 use Rattle.iv_command.specs.Views.{act_of, line_of}
 use Rattle.iv_gate.specs.Gate.{is_accepted, reply_in}
-use Rattle.iv_gateway.specs.Shaping.{shape_in}
-use Rattle.iv_gateway.specs.Speaking.{made_of, request_of}
+use Rattle.iv_arrivals.specs.Entering.{made_of, shape_in}
+use Rattle.iv_arrivals.specs.Speaking.{request_of}
 use Rattle.iv_gateway.proofs.AddedEntries.{shape_text-entries_of}
 use Rattle.iv_gateway.proofs.gateway.Gateway.request_in.Goals as goal
 

@@ -1,8 +1,8 @@
 use Rattle.std.proofs.Common.{◌∙◌}
 use Rattle.sha2.specs.Sha256.{sha256}
 use Rattle.iv_command.specs.Views.{act_of}
-use Rattle.iv_clients.specs.Names.{holder_of}
-use Rattle.iv_gateway.specs.Speaking.{asked_id, request_of}
+use Rattle.iv_records.specs.Names.{holder_of}
+use Rattle.iv_arrivals.specs.Speaking.{asked_id, request_of}
 use Rattle.iv_gateway.proofs.HeardMessages.{IsAlive-shares_named, IsAlive-shares_plain}
 use Rattle.iv_gateway.proofs.gateway.Gateway.share.Goals as goal
 

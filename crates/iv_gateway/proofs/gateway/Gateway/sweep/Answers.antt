@@ -1,7 +1,7 @@
 use Rattle.std.proofs.Common.{◌∙◌, ap, sym}
 use Rattle.iv_clients.specs.Feeds.{feed_of}
 use Rattle.iv_clients.specs.Kept.{is_followed_by}
-use Rattle.iv_gateway.proofs.ClientChanges.{is_followed_by-kept_slots}
+use Rattle.iv_notices.proofs.ClientChanges.{is_followed_by-kept_slots}
 use Rattle.iv_gateway.proofs.UnfollowedFeeds.{IsAlive-swept_followed, swept_none, IsAlive-swept}
 use Rattle.iv_gateway.proofs.gateway.Gateway.sweep.Goals as goal
 

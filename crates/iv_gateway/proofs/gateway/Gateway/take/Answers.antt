@@ -3,7 +3,7 @@ use Rattle.iv_clients.specs.Clients.{at_client, handing}
 use Rattle.iv_clients.specs.Kept.{emptied}
 use Rattle.iv_gate.specs.Events.{handed}
 use Rattle.iv_gateway.proofs.LiveGateways.{IsGate-IsAlive}
-use Rattle.iv_gateway.proofs.ClientChanges.{at_client-kept_slots, kept-handing, sendable-kept_slots}
+use Rattle.iv_notices.proofs.ClientChanges.{at_client-kept_slots, kept-handing, sendable-kept_slots}
 use Rattle.iv_gateway.proofs.gateway.Gateway.take.Goals as goal
 
 pub returns-clause-bytes : goal.returns-clause-bytes

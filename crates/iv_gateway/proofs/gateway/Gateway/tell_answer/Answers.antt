@@ -2,9 +2,9 @@ use Rattle.std.proofs.Common.{◌≡◌, ◌∙◌, ◌++◌, option_map, refl, 
 use Rattle.std.specs.Prelude.{string_bytes}
 use Rattle.iv_message.specs.Seen.{id_data}
 use Rattle.iv_message.specs.Told.{answered, told_text}
-use Rattle.iv_clients.specs.Names.{place_text}
+use Rattle.iv_records.specs.Names.{place_text}
 use Rattle.iv_gate.specs.Gate.{place_of, tells}
-use Rattle.iv_gateway.specs.Speaking.{asked_id}
+use Rattle.iv_arrivals.specs.Speaking.{asked_id}
 use Rattle.iv_gateway.specs.Views.{IsAlive}
 use Rattle.iv_gateway.proofs.AddedEntries.{placed_in-place_text}
 use Rattle.iv_gateway.proofs.gateway.Gateway.tell_answer.Goals as goal

@@ -2,7 +2,7 @@ use Rattle.std.proofs.Common.{map, subst}
 use Rattle.iv_command.specs.Views.{line_of}
 use Rattle.iv_machine.specs.Machine.{step}
 use Rattle.iv_gate.specs.Gate.{Gate, entries_of, in_session, informs, ran, replies_to, reply_in, reply_to}
-use Rattle.iv_gateway.specs.Speaking.{asked_id, request_of}
+use Rattle.iv_arrivals.specs.Speaking.{asked_id, request_of}
 use Rattle.iv_gateway.specs.Views.{IsAlive}
 use Rattle.iv_gateway.proofs.HeardMessages.{IsRun-replies_to}
 use Rattle.iv_gateway.proofs.gateway.Gateway.tell_request.Goals as goal

@@ -2,7 +2,7 @@ use Rattle.std.proofs.Common.{◌∙◌, ap, false, option_map, sym}
 use Rattle.iv_rows.specs.Options.{if_some}
 use Rattle.iv_clients.specs.Clients.{client_at}
 use Rattle.iv_clients.specs.Kept.{is_told, kept}
-use Rattle.iv_gateway.proofs.ClientChanges.{client_at-kept_slots, if_some-is_told}
+use Rattle.iv_notices.proofs.ClientChanges.{client_at-kept_slots, if_some-is_told}
 use Rattle.iv_gateway.proofs.gateway.Gateway.told.Goals as goal
 
 pub returns-clause-listed : goal.returns-clause-listed

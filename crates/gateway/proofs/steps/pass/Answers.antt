@@ -1,5 +1,0 @@
-use Rattle.gateway.proofs.RunsByCalls.{Leads-passed}
-use Rattle.gateway.proofs.steps.pass.Goals as goal
-
-pub returns : goal.returns
-returns c = Leads-passed c.args.at c.args.count c.args.desk.now _ c.sent.ensures

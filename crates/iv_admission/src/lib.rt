@@ -1,0 +1,10 @@
+//! Who may come in at a gateway's sockets: the tokens that its desk knows, second by second, and web tokens that are presented there.
+#![tactic(auto)]
+
+mod admission;
+mod scout;
+mod tokens;
+
+pub use admission::Admission;
+pub use scout::{Found, Scout};
+pub use tokens::open_tokens;

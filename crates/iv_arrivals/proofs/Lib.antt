@@ -1,0 +1,3 @@
+pub mod AnswerTexts
+pub mod StepLines
+pub mod StepParts

@@ -1,0 +1,4 @@
+pub mod Entering
+pub mod Reads
+pub mod Speaking
+pub mod Tallied

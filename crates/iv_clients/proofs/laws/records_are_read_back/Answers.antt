@@ -1,5 +1,0 @@
-use Rattle.iv_clients.proofs.EntryRecords.{reads_back}
-use Rattle.iv_clients.proofs.laws.records_are_read_back.Goals as goal
-
-pub returns : goal.returns
-returns c = reads_back

@@ -1,6 +1,0 @@
-use Rattle.std.proofs.Common.{drop}
-use Rattle.iv_clients.proofs.RecordRest.{IsFilling}
-use Rattle.iv_clients.proofs.records.Entry.fill.Given as goal
-
-abbrev pub invariant-loop-at : goal.invariant-loop-at
-invariant-loop-at l = IsFilling l.self (drop l.at l.lines) l.fn.self l.fn.lines

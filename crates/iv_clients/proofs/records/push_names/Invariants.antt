@@ -1,7 +1,0 @@
-use Rattle.std.proofs.Common.{◌≡◌, ◌++◌, map, take}
-use Rattle.iv_clients.specs.Journal.{name_text}
-use Rattle.iv_clients.specs.Parsed.{part}
-use Rattle.iv_clients.proofs.records.push_names.Given as goal
-
-abbrev pub invariant-loop-name : goal.invariant-loop-name
-invariant-loop-name l = l.lines.items ≡ l.fn.lines.items ++ map (λ n. part (name_text n)) (take l.name-index l.names)

@@ -1,6 +1,0 @@
-use Rattle.std.proofs.Common.{◌≡◌, drop}
-use Rattle.iv_clients.specs.Journal.{unindented}
-use Rattle.iv_clients.proofs.said.unindented.Given as goal
-
-abbrev pub invariant-loop-at : goal.invariant-loop-at
-invariant-loop-at l = unindented (drop l.at l.text) ≡ unindented l.text

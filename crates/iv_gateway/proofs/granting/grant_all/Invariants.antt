@@ -1,7 +1,0 @@
-use Rattle.std.proofs.Common.{◌≡◌}
-use Rattle.iv_gateway.specs.Granting.{holding_for, is_granted}
-use Rattle.iv_gateway.proofs.GrantTexts.{first_all}
-use Rattle.iv_gateway.proofs.granting.grant_all.Given as goal
-
-abbrev pub invariant-loop-client : goal.invariant-loop-client
-invariant-loop-client l = l.clients ≡ first_all (holding_for (is_granted l.engine.frame l.grants) l.text) l.client l.fn.clients

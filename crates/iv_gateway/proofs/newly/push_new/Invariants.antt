@@ -1,7 +1,0 @@
-use Rattle.std.proofs.Common.{◌≡◌, ◌++◌, map, take}
-use Rattle.iv_gateway.specs.Granting.{text_granted}
-use Rattle.iv_gateway.specs.Newly.{only_new}
-use Rattle.iv_gateway.proofs.newly.push_new.Given as goal
-
-abbrev pub invariant-loop-rel : goal.invariant-loop-rel
-invariant-loop-rel l = l.text.items ≡ l.fn.text.items ++ text_granted (only_new l.before (map (λ n. n.now) (take l.rel-index l.rels)))

@@ -1,7 +1,0 @@
-use Rattle.std.proofs.Common.{◌≡◌}
-use Rattle.iv_gateway.specs.Newly.{hearing_newly}
-use Rattle.iv_gateway.proofs.GrantTexts.{first_all}
-use Rattle.iv_gateway.proofs.newly.tell_all_newly.Given as goal
-
-abbrev pub invariant-loop-client : goal.invariant-loop-client
-invariant-loop-client l = l.clients ≡ first_all (hearing_newly l.all) l.client l.fn.clients

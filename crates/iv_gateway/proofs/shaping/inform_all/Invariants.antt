@@ -1,8 +1,0 @@
-use Rattle.std.proofs.Common.{◌≡◌}
-use Rattle.iv_gateway.specs.Granting.{holding_for}
-use Rattle.iv_gateway.specs.Shaping.{is_admin}
-use Rattle.iv_gateway.proofs.GrantTexts.{first_all}
-use Rattle.iv_gateway.proofs.shaping.inform_all.Given as goal
-
-abbrev pub invariant-loop-client : goal.invariant-loop-client
-invariant-loop-client l = l.clients ≡ first_all (holding_for is_admin l.text) l.client l.fn.clients

@@ -1,0 +1,4 @@
+pub mod ClientChanges
+pub mod GrantTexts
+pub mod ShapeLines
+pub mod NewRights

@@ -1,0 +1,3 @@
+pub mod Granting
+pub mod Newly
+pub mod Shaping

@@ -1,0 +1,13 @@
+//! A gateway's desk that runs: it is brought back to where a journal's file leads, and each call leads it from a run to a run.
+//!
+//! `open_journal` and `come_back` make it, the functions of `calls` are all that is done with it, and `Fault` says why it does no more.
+#![tactic(auto)]
+
+pub mod calls;
+mod fault;
+mod opening;
+mod said;
+
+pub use fault::Fault;
+pub use opening::{come_back, open_journal};
+pub use said::{SYSTEM, UNUSABLE, failed, out_of_memory};

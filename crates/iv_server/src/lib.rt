@@ -1,0 +1,12 @@
+//! A gateway's sockets, served by one thread: in each round what comes is read, the journal keeps it, and then what may be sent is sent.
+#![tactic(auto)]
+
+mod answering;
+mod by_token;
+mod reading;
+mod sending;
+mod server;
+mod socket;
+mod telling;
+
+pub use server::{Places, Server, listener_at};

@@ -1,0 +1,6 @@
+//! What the gateway's program does: it opens all that the settings name, brings the desk to where the journal leads, and serves.
+#![tactic(auto)]
+
+mod serving;
+
+pub use serving::work;
