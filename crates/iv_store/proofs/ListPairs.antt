@@ -1,19 +1,8 @@
--- Lists walked one by one: what holds at a place, and a second list that grows beside the first.
+-- Lists walked one by one: a second list that grows beside the first.
 use Rattle.std.proofs.Common.{◌≡◌, ℕ, zero, suc, ◌+◌, ◌<◌, ◌≤◌, Bool, true, List, [], ◌∷◌, ◌++◌, length, map, replicate, take, get_or, refl, sym, ap, subst, ◌∙◌, arith}
 use Rattle.std.proofs.lemmas.Simd.{splat_is_map}
 use Rattle.std.proofs.lemmas.List.{map-append, take_all, take_more}
-use Rattle.std.specs.List.{AllByRecursion}
 use Rattle.iv_readers.specs.Each.{Each}
-
-pub AllByRecursion-get_or : {X : Type 0} (P : X → Type 0) (xs : List X) (i : ℕ) (x : X) → AllByRecursion P xs → i < length xs → x ≡ get_or xs i x → P x
-AllByRecursion-get_or P [] i x h l at = absurd (omega arith)
-AllByRecursion-get_or P (y ∷ ys) zero x h l at = subst P (sym at) h.0
-AllByRecursion-get_or P (y ∷ ys) (suc i) x h l at = AllByRecursion-get_or P ys i x h.1 (omega arith) at
-
-pub get_or-map_place : {X Y : Type 0} (f : X → Y) (xs : List X) (i : ℕ) (x : X) → i < length xs → x ≡ get_or xs i x → f x ≡ get_or (map f xs) i (f x)
-get_or-map_place f [] i x l at = absurd (omega arith)
-get_or-map_place f (y ∷ ys) zero x l at = ap f at
-get_or-map_place f (y ∷ ys) (suc i) x l at = get_or-map_place f ys i x (omega arith) at
 
 -- a list that grows by what a function makes of each
 pub map-take_next : {X Y : Type 0} (f : X → Y) (xs : List X) (i : ℕ) (x : X) (y : Y) (ys new : List Y) → i < length xs → x ≡ get_or xs i x → ys ≡ map f (take i xs) → y ≡ f x → new ≡ ys ++ y ∷ [] → new ≡ map f (take (i + 1) xs)

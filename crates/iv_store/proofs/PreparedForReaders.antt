@@ -28,7 +28,7 @@ use Rattle.iv_store.specs.Moved.{line_by}
 use Rattle.iv_readers.specs.Rows.{shared_rows}
 use Rattle.iv_store.specs.Taken.{AreChangesGiven, ArePreparedFor}
 use Rattle.iv_store.specs.Touching.{AreFoundAmong, AreMade, AreMadeAt, IsFoundAmong, IsMadeAt, at_for, line_at, place_among, readers_of}
-use Rattle.iv_readers.specs.Touching.{ArePlaces, AreRisingFrom, IsPlace, rels_of, touches}
+use Rattle.iv_readers.specs.Touching.{ArePlaces, AreRisingFrom, IsPlace, numbers_of, rels_of, touches}
 use Rattle.iv_readers.specs.declared.changes.Prepared.{Prepared}
 use Rattle.iv_store.specs.declared.touching.Reader.{Reader}
 use Rattle.iv_store.specs.declared.touching.Touched.{Touched}
@@ -83,18 +83,18 @@ module _ (given : Given) (ts : List ℕ) (others : (t : ℕ) → list_any (λ s.
   -- what was made for its place was made for the circuit, and for another place nothing is to be made
   module _ (c : Running) (at : ℕ) where
     abbrev IsMadeFor : ℕ → Prepared → Type 0
-    IsMadeFor i p = (p.place ≡ i) × (at ≡ i → IsMadeOf given c p)
+    IsMadeFor i p = (p.at.0 ≡ i) × (at ≡ i → IsMadeOf given c p)
 
     made_for : (is : List ℕ) (ps : List Prepared) → Each IsMadeFor is ps → list_any (λ i. i == at) is ≡ touches ts c → IsMadeOf given c (prepared_for at ps)
     made_for [] [] h any = record { readied = untouched c (sym any); rows = refl }
     made_for [] (p ∷ ps) h any = absurd h
     made_for (i ∷ is) [] h any = absurd h
-    made_for (i ∷ is) (p ∷ ps) h any = by (p.place == at) refl (made_for is ps h.1)
+    made_for (i ∷ is) (p ∷ ps) h any = by (p.at.0 == at) refl (made_for is ps h.1)
       where
-        same : (p.place == at) ≡ (i == at)
+        same : (p.at.0 == at) ≡ (i == at)
         same = ap (λ m. m == at) h.0.0
 
-        by : (b : Bool) → (p.place == at) ≡ b → (list_any (λ j. j == at) is ≡ touches ts c → IsMadeOf given c (prepared_for at ps)) → IsMadeOf given c (cond b p (prepared_for at ps))
+        by : (b : Bool) → (p.at.0 == at) ≡ b → (list_any (λ j. j == at) is ≡ touches ts c → IsMadeOf given c (prepared_for at ps)) → IsMadeOf given c (cond b p (prepared_for at ps))
         by true e go = h.0.1 (sym (same_number i at (sym same ∙ e)))
         by false e go = go (ap (λ b. b || list_any (λ j. j == at) is) (sym (sym same ∙ e)) ∙ any)
 
@@ -129,13 +129,13 @@ all_free (k ∷ ks) = (tt, all_free ks)
 
 -- what was made at each place, for each reader
 by_reader : (e : Store) (given : Given) (is : List ℕ) (ps : List Prepared) → Each (IsMadeAt e given) is ps
-    → AllByRecursion (λ k. Each (λ i p. (p.place ≡ i) × (k.at ≡ i → IsMadeOf given k.circuit p)) is ps) e.circuits
+    → AllByRecursion (λ k. Each (λ i p. (p.at.0 ≡ i) × (k.at ≡ i → IsMadeOf given k.circuit p)) is ps) e.circuits
 by_reader e given [] [] h = all_free e.circuits
 by_reader e given [] (p ∷ ps) h = absurd h
 by_reader e given (i ∷ is) [] h = absurd h
 by_reader e given (i ∷ is) (p ∷ ps) h =
-    AllByRecursion-zip (λ k. k.at ≡ i → IsMadeOf given k.circuit p) (λ k. Each (λ j q. (q.place ≡ j) × (k.at ≡ j → IsMadeOf given k.circuit q)) is ps)
-    (λ k. Each (λ j q. (q.place ≡ j) × (k.at ≡ j → IsMadeOf given k.circuit q)) (i ∷ is) (p ∷ ps)) e.circuits
+    AllByRecursion-zip (λ k. k.at ≡ i → IsMadeOf given k.circuit p) (λ k. Each (λ j q. (q.at.0 ≡ j) × (k.at ≡ j → IsMadeOf given k.circuit q)) is ps)
+    (λ k. Each (λ j q. (q.at.0 ≡ j) × (k.at ≡ j → IsMadeOf given k.circuit q)) (i ∷ is) (p ∷ ps)) e.circuits
     (λ k m r. ((h.0.place, m), r)) h.0.made (by_reader e given is ps h.1)
 
 pub places_in-Each : (e : Store) (given : Given) (is : List ℕ) (ps : List Prepared) → Each (IsMadeAt e given) is ps → places_in ps ≡ is
@@ -157,7 +157,7 @@ AreMade-Each e given tables others places at ps made =
       rise = subst (AreRisingFrom 0) (sym same) at.rise;
       read = subst (AllByRecursion (IsPlace e.circuits)) (sym same) at.read;
       made = each_spread (λ k p. IsMadeOf given k.circuit p) ps e.circuits
-          (AllByRecursion-zip (λ k. Each (λ i p. (p.place ≡ i) × (k.at ≡ i → IsMadeOf given k.circuit p)) places ps) (λ k. list_any (λ i. i == k.at) places ≡ touches tables k.circuit)
+          (AllByRecursion-zip (λ k. Each (λ i p. (p.at.0 ≡ i) × (k.at ≡ i → IsMadeOf given k.circuit p)) places ps) (λ k. list_any (λ i. i == k.at) places ≡ touches tables k.circuit)
           (λ k. IsMadeOf given k.circuit (prepared_for k.at ps)) e.circuits
           (λ k m any. made_for given tables others k.circuit k.at places ps m any) (by_reader e given places ps made) at.each);
     }
@@ -177,7 +177,7 @@ ArePreparedFor-none e changes places ps none no_places zsets at =
 
 -- ---- at a place
 
-pub IsMadeAt-IsMadeOf : (e : Store) (given : Given) (i : ℕ) (p : Prepared) (c : Running) → p.place ≡ i → IsMadeOf given c p → AllByRecursion (λ k. k.at ≡ i → c ≡ k.circuit) e.circuits → IsMadeAt e given i p
+pub IsMadeAt-IsMadeOf : (e : Store) (given : Given) (i : ℕ) (p : Prepared) (c : Running) → p.at.0 ≡ i → IsMadeOf given c p → AllByRecursion (λ k. k.at ≡ i → c ≡ k.circuit) e.circuits → IsMadeAt e given i p
 IsMadeAt-IsMadeOf e given i p c place made same = record {
   place = place;
   made = AllByRecursion-map (λ k. k.at ≡ i → c ≡ k.circuit) (λ k. k.at ≡ i → IsMadeOf given k.circuit p) e.circuits (λ k is here. subst (λ x. IsMadeOf given x p) (is here) made) same;
@@ -188,14 +188,14 @@ rows_none : (i m : ℕ) (ps : List Prepared) → i < m → AreRisingFrom m (plac
 rows_none i m [] low r = refl
 rows_none i m (p ∷ ps) low r =
     let above = r.0 in
-    ap (λ c. cond c (shared_rows p.rows) (rows_at i ps)) (eq-above p.place i (omega (arith, low, above))) ∙ rows_none i (suc p.place) ps (omega (arith, low, above)) r.1
+    ap (λ c. cond c (shared_rows p.rows) (rows_at i ps)) (eq-above p.at.0 i (omega (arith, low, above))) ∙ rows_none i (suc p.at.0) ps (omega (arith, low, above)) r.1
 
 -- ---- the rows at a place, one after another
 
-pub rows_found : (place : ℕ) (ps : List Prepared) (i : ℕ) (p : Prepared) → i < length ps → p ≡ get_or ps i p → p.place ≡ place → rows_at place (drop i ps) ≡ shared_rows p.rows
+pub rows_found : (place : ℕ) (ps : List Prepared) (i : ℕ) (p : Prepared) → i < length ps → p ≡ get_or ps i p → p.at.0 ≡ place → rows_at place (drop i ps) ≡ shared_rows p.rows
 rows_found place [] i p low at is = absurd (omega (arith, low))
 rows_found place (q ∷ ps) zero p low at is =
-    let own : (q.place == place) ≡ true = ap (λ (x : Prepared). x.place == place) (sym at) ∙ ap (λ m. m == place) is ∙ is_self place in
+    let own : (q.at.0 == place) ≡ true = ap (λ (x : Prepared). x.at.0 == place) (sym at) ∙ ap (λ m. m == place) is ∙ is_self place in
     ap (λ b. cond b (shared_rows q.rows) (rows_at place ps)) own ∙ ap (λ (x : Prepared). shared_rows x.rows) (sym at)
 rows_found place (q ∷ ps) (suc i) p low at is = rows_found place ps i p (omega (arith, low)) at is
 
@@ -207,49 +207,49 @@ rows_over place (q ∷ ps) (suc i) h = rows_over place ps i (omega (arith, h))
 
 -- ---- the rows at a place, by halves
 
-at_least : (m : ℕ) (ps : List Prepared) → AreRisingFrom m (places_in ps) → (j : ℕ) (d : Prepared) → j < length ps → m ≤ (get_or ps j d).place
+at_least : (m : ℕ) (ps : List Prepared) → AreRisingFrom m (places_in ps) → (j : ℕ) (d : Prepared) → j < length ps → m ≤ (get_or ps j d).at.0
 at_least m [] r j d l = absurd (omega (arith, l))
 at_least m (q ∷ ps) r zero d l = r.0
 at_least m (q ∷ ps) r (suc j) d l =
-    let above = at_least (suc q.place) ps r.1 j d (omega (arith, l)) in
+    let above = at_least (suc q.at.0) ps r.1 j d (omega (arith, l)) in
     let low = r.0 in
     omega (arith, above, low)
 
-pub IsNonDecreasingBy-AreRisingFrom : (m : ℕ) (ps : List Prepared) → AreRisingFrom m (places_in ps) → IsNonDecreasingBy (λ (p : Prepared). p.place) ps
+pub IsNonDecreasingBy-AreRisingFrom : (m : ℕ) (ps : List Prepared) → AreRisingFrom m (places_in ps) → IsNonDecreasingBy (λ (p : Prepared). p.at.0) ps
 IsNonDecreasingBy-AreRisingFrom m [] r i j d le lt = absurd (omega (arith, lt))
 IsNonDecreasingBy-AreRisingFrom m (q ∷ ps) r zero zero d le lt = omega arith
-IsNonDecreasingBy-AreRisingFrom m (q ∷ ps) r zero (suc j) d le lt = let above = at_least (suc q.place) ps r.1 j d (omega (arith, lt)) in omega (arith, above)
+IsNonDecreasingBy-AreRisingFrom m (q ∷ ps) r zero (suc j) d le lt = let above = at_least (suc q.at.0) ps r.1 j d (omega (arith, lt)) in omega (arith, above)
 IsNonDecreasingBy-AreRisingFrom m (q ∷ ps) r (suc i) zero d le lt = absurd (omega (arith, le))
 IsNonDecreasingBy-AreRisingFrom m (q ∷ ps) r (suc i) (suc j) d le lt =
-    IsNonDecreasingBy-AreRisingFrom (suc q.place) ps r.1 i j d (omega (arith, le)) (omega (arith, lt))
+    IsNonDecreasingBy-AreRisingFrom (suc q.at.0) ps r.1 i j d (omega (arith, le)) (omega (arith, lt))
 
-rows_past : (place m : ℕ) (ps : List Prepared) (i : ℕ) (p : Prepared) → AreRisingFrom m (places_in ps) → i < length ps → p ≡ get_or ps i p → place < p.place → rows_at place (drop i ps) ≡ []
+rows_past : (place m : ℕ) (ps : List Prepared) (i : ℕ) (p : Prepared) → AreRisingFrom m (places_in ps) → i < length ps → p ≡ get_or ps i p → place < p.at.0 → rows_at place (drop i ps) ≡ []
 rows_past place m [] i p r low at above = absurd (omega (arith, low))
-rows_past place m (q ∷ ps) zero p r low at above = rows_none place q.place (q ∷ ps) (subst (λ (x : Prepared). place < x.place) at above) (omega arith, r.1)
-rows_past place m (q ∷ ps) (suc i) p r low at above = rows_past place (suc q.place) ps i p r.1 (omega (arith, low)) at above
+rows_past place m (q ∷ ps) zero p r low at above = rows_none place q.at.0 (q ∷ ps) (subst (λ (x : Prepared). place < x.at.0) at above) (omega arith, r.1)
+rows_past place m (q ∷ ps) (suc i) p r low at above = rows_past place (suc q.at.0) ps i p r.1 (omega (arith, low)) at above
 
-rows_skip : (place : ℕ) (ps : List Prepared) (i : ℕ) → ((k : ℕ) (d : Prepared) → 0 ≤ k → k < i → ltb (get_or ps k d).place place ≡ true) → rows_at place ps ≡ rows_at place (drop i ps)
+rows_skip : (place : ℕ) (ps : List Prepared) (i : ℕ) → ((k : ℕ) (d : Prepared) → 0 ≤ k → k < i → ltb (get_or ps k d).at.0 place ≡ true) → rows_at place ps ≡ rows_at place (drop i ps)
 rows_skip place [] zero less = refl
 rows_skip place [] (suc i) less = refl
 rows_skip place (q ∷ ps) zero less = refl
 rows_skip place (q ∷ ps) (suc i) less =
-    ap (λ b. cond b (shared_rows q.rows) (rows_at place ps)) (eq-below place q.place (ltb-true q.place place (less 0 q (omega arith) (omega arith))))
+    ap (λ b. cond b (shared_rows q.rows) (rows_at place ps)) (eq-below place q.at.0 (ltb-true q.at.0 place (less 0 q (omega arith) (omega arith))))
     ∙ rows_skip place ps i (λ k d low high. less (suc k) d (omega arith) (omega (arith, high)))
 
 -- the point from which on no place is below the one
 module _ (place : ℕ) (ps : List Prepared) (rise : AreRisingFrom 0 (places_in ps)) (i : ℕ)
-    (point : IsPartitionPoint (λ (p : Prepared). ltb p.place place ≡ true) (λ p. ltb p.place place ≡ false) ps i) where
-  pub rows_at_point : (p : Prepared) → i < length ps → p ≡ get_or ps i p → p.place ≡ place → rows_at place ps ≡ shared_rows p.rows
+    (point : IsPartitionPoint (λ (p : Prepared). ltb p.at.0 place ≡ true) (λ p. ltb p.at.0 place ≡ false) ps i) where
+  pub rows_at_point : (p : Prepared) → i < length ps → p ≡ get_or ps i p → p.at.0 ≡ place → rows_at place ps ≡ shared_rows p.rows
   rows_at_point p low at is = rows_skip place ps i point.0 ∙ rows_found place ps i p low at is
 
   pub rows_over_point : length ps ≤ i → rows_at place ps ≡ []
   rows_over_point out = rows_skip place ps i point.0 ∙ rows_over place ps i out
 
-  pub rows_not_at_point : (p : Prepared) → i < length ps → p ≡ get_or ps i p → p.place ≢ place → rows_at place ps ≡ []
+  pub rows_not_at_point : (p : Prepared) → i < length ps → p ≡ get_or ps i p → p.at.0 ≢ place → rows_at place ps ≡ []
   rows_not_at_point p low at not_it =
-      let here : ltb p.place place ≡ false = ap (λ (x : Prepared). ltb x.place place) at ∙ point.1 i p (omega arith) low in
-      let above : place ≤ p.place = ltb-false p.place place here in
-      rows_skip place ps i point.0 ∙ rows_past place 0 ps i p rise low at (more p.place above not_it)
+      let here : ltb p.at.0 place ≡ false = ap (λ (x : Prepared). ltb x.at.0 place) at ∙ point.1 i p (omega arith) low in
+      let above : place ≤ p.at.0 = ltb-false p.at.0 place here in
+      rows_skip place ps i point.0 ∙ rows_past place 0 ps i p rise low at (more p.at.0 above not_it)
     where
       more : (n : ℕ) → place ≤ n → n ≢ place → place < n
       more n above other = ⊎_elim (λ (l : place < n). l) (λ (g : n ≤ place). absurd (other (omega (arith, above, g)))) (cases_lt place n)
@@ -288,7 +288,7 @@ module _ (role rel : ℕ) where
 -- the rows for a place are those of what was prepared for it
 rows_for : (i : ℕ) (ps : List Prepared) → shared_rows (prepared_for i ps).rows ≡ rows_at i ps
 rows_for i [] = refl
-rows_for i (p ∷ ps) = by (p.place == i) (rows_for i ps)
+rows_for i (p ∷ ps) = by (p.at.0 == i) (rows_for i ps)
   where
     by : (b : Bool) → shared_rows (prepared_for i ps).rows ≡ rows_at i ps → shared_rows (cond b p (prepared_for i ps)).rows ≡ cond b (shared_rows p.rows) (rows_at i ps)
     by true h = refl
@@ -363,7 +363,7 @@ module _ (ss : List Session) (ks : List RoleCircuit) (ps : List Prepared) (ms : 
   readers_stay rs (o ∷ os) =
       let rest = readers_stay rs os in
       let place = place (session_of ss o.session) in
-      λ i. cond (list_any (λ r. r == o.rel) rs) (record { subscription = o; place = unwrap_or (place i) 0 } ∷ rest i) (rest i)
+      λ i. cond (list_any (λ r. r == o.rel) rs) (record { subscription = o; at = record { 0 = unwrap_or (place i) 0 } } ∷ rest i) (rest i)
     where
       place : (x : Option Session) → if_some x None (λ s. at_for s.role o.rel ms) ≡ if_some x None (λ s. at_for s.role o.rel ks)
       place None = refl
@@ -371,7 +371,7 @@ module _ (ss : List Session) (ks : List RoleCircuit) (ps : List Prepared) (ms : 
 
   pub among_stays : (os : List Subscription) (x : Touched) → IsFoundAmong ss os ks x → IsFoundAmong ss os ms x
   among_stays os x a = record {
-    places = places_stay x.tables.items x.places.items ks ps ms t a.places;
+    circuits = places_stay x.tables.items (numbers_of x.circuits.items) ks ps ms t a.circuits;
     readers = a.readers ∙ ap (λ rs. readers_of rs ss ks os) (sym (rels_stay x.tables.items ks ps ms t)) ∙ sym (readers_stay (rels_of x.tables.items ms) os);
   }
 
@@ -389,7 +389,7 @@ no_rows_at : (place : ℕ) (ps : List Prepared) → list_all has_no_rows ps ≡ 
 no_rows_at place [] h = refl
 no_rows_at place (p ∷ ps) h =
     let b = and-true_both (has_no_rows p) (list_all has_no_rows ps) h in
-    by (p.place == place) (no_rows p.rows b.0) (no_rows_at place ps b.1)
+    by (p.at.0 == place) (no_rows p.rows b.0) (no_rows_at place ps b.1)
   where
     by : (c : Bool) → shared_rows p.rows ≡ [] → rows_at place ps ≡ [] → cond c (shared_rows p.rows) (rows_at place ps) ≡ []
     by true x y = x
@@ -398,11 +398,11 @@ no_rows_at place (p ∷ ps) h =
 -- no reader has a line then
 pub flat_map-has_no_rows : (ps : List Prepared) → list_all has_no_rows ps ≡ true → (rs : List Reader) → flat_map (line_at ps) rs ≡ []
 flat_map-has_no_rows ps h [] = refl
-flat_map-has_no_rows ps h (r ∷ rs) = λ i. machine_line None r.subscription (no_rows_at r.place ps h i) ++ flat_map-has_no_rows ps h rs i
+flat_map-has_no_rows ps h (r ∷ rs) = λ i. machine_line None r.subscription (no_rows_at r.at.0 ps h i) ++ flat_map-has_no_rows ps h rs i
 
 rows_absent : (place : ℕ) (ps : List Prepared) → list_any (λ n. n == place) (places_in ps) ≡ false → rows_at place ps ≡ []
 rows_absent place [] h = refl
-rows_absent place (p ∷ ps) h = by (p.place == place) h (rows_absent place ps)
+rows_absent place (p ∷ ps) h = by (p.at.0 == place) h (rows_absent place ps)
   where
     by : (c : Bool) → (c || list_any (λ n. n == place) (places_in ps)) ≡ false → (list_any (λ n. n == place) (places_in ps) ≡ false → rows_at place ps ≡ []) → cond c (shared_rows p.rows) (rows_at place ps) ≡ []
     by true x go = cc
@@ -441,15 +441,15 @@ module _ (rs : List ℕ) (ss : List Session) (ks : List RoleCircuit) (os : List 
   abbrev further : List Reader
   further = readers_of rs ss ks (drop (i + 1) os)
 
-  next_reader : readers_of rs ss ks (drop i os) ≡ cond (list_any (λ r. r == o.rel) rs) (record { subscription = o; place = unwrap_or (place_among ss ks o) 0 } ∷ further) further
+  next_reader : readers_of rs ss ks (drop i os) ≡ cond (list_any (λ r. r == o.rel) rs) (record { subscription = o; at = record { 0 = unwrap_or (place_among ss ks o) 0 } } ∷ further) further
   next_reader = at_drop_more (readers_of rs ss ks) os i o low ∙ ap (λ x. readers_of rs ss ks (x ∷ drop (i + 1) os)) (sym at)
 
   pub no_reader : list_any (λ r. r == o.rel) rs ≡ false → readers_of rs ss ks (drop i os) ≡ further
-  no_reader h = next_reader ∙ ap (λ b. cond b (record { subscription = o; place = unwrap_or (place_among ss ks o) 0 } ∷ further) further) h
+  no_reader h = next_reader ∙ ap (λ b. cond b (record { subscription = o; at = record { 0 = unwrap_or (place_among ss ks o) 0 } } ∷ further) further) h
 
-  pub one_reader : (place : ℕ) → list_any (λ r. r == o.rel) rs ≡ true → place_among ss ks o ≡ Some place → readers_of rs ss ks (drop i os) ≡ record { subscription = o; place = place } ∷ further
-  one_reader place h is = next_reader ∙ ap (λ b. cond b (record { subscription = o; place = unwrap_or (place_among ss ks o) 0 } ∷ further) further) h
-      ∙ ap (λ (x : Option ℕ). record { subscription = o; place = unwrap_or x 0 } ∷ further) is
+  pub one_reader : (place : ℕ) → list_any (λ r. r == o.rel) rs ≡ true → place_among ss ks o ≡ Some place → readers_of rs ss ks (drop i os) ≡ record { subscription = o; at = record { 0 = place } } ∷ further
+  one_reader place h is = next_reader ∙ ap (λ b. cond b (record { subscription = o; at = record { 0 = unwrap_or (place_among ss ks o) 0 } } ∷ further) further) h
+      ∙ ap (λ (x : Option ℕ). record { subscription = o; at = record { 0 = unwrap_or x 0 } } ∷ further) is
 
 -- of an open session the place is that of the circuit that its role reads
 pub place_among-is_open : (e : Store) (o : Subscription) → is_open (frame_of e) o.session ≡ true → place_among e.sessions e.circuits o ≡ at_for (actor (frame_of e) o.session) o.rel e.circuits

@@ -1,17 +1,17 @@
--- Which circuit a subscription reads, and what is beside that.
-use Rattle.std.specs.Prelude.{◌≡◌, ℕ, cond, List, [], ◌∷◌, Some, position, slice_get}
+-- Which reader a subscription has, and what is beside its circuit.
+use Rattle.std.specs.Prelude.{◌≡◌, ℕ, cond, List, [], ◌∷◌, Some, slice_get}
 use Rattle.iv_zset.specs.Weights.{Weighed}
 use Rattle.iv_rows.specs.Options.{if_some}
 use Rattle.iv_circuit.specs.Nodes.{total_of}
 use Rattle.iv_machine.specs.State.{Subscription, actor}
-use Rattle.iv_store.specs.Store.{Store, frame_of}
+use Rattle.iv_store.specs.Store.{Store, frame_of, place_of}
 use Rattle.iv_readers.specs.Readers.{RoleCircuit, is_for}
-use Rattle.iv_store.specs.declared.circuits.Found.{Found}
+use Rattle.iv_readers.specs.Each.{Each}
+use Rattle.iv_readers.specs.declared.ids.ReaderId.{ReaderId}
 
--- the place for the role of the session and the relation
-pub record IsFound (e : Store) (f : Found) : Type 0 where
-  pub role : f.role.0 ≡ actor (frame_of e) f.session
-  pub place : position (is_for f.role.0 f.rel.0) e.circuits ≡ Some f.place
+-- each is the reader of the subscription beside it
+abbrev pub AreReadersOf : Store → List ReaderId → Type 0
+AreReadersOf e readers = Each (λ s r. place_of e s ≡ Some r.0) e.subscriptions readers
 
 -- the rows that the circuit at the place shows
 abbrev pub total_at : Store → ℕ → Weighed
