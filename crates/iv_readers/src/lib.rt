@@ -21,5 +21,5 @@ pub use ids::{CircuitId, ReaderId};
 pub use index::ReaderIndex;
 pub use readers::Readers;
 pub use rows::{in_order, more_rows};
-pub use touching::{rels_of, scanning};
+pub use touching::scanning;
 pub use turns::{Outcome, anew};

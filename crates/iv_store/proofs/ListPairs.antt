@@ -28,10 +28,6 @@ module _ {X Y : Type 0} (P : X → Y → Type 0) where
   pub each_whole : (xs : List X) (k : ℕ) (ys : List Y) → length xs ≤ k → Each P (take k xs) ys → Each P xs ys
   each_whole xs k ys l h = subst (λ (us : List X). Each P us ys) (take_all k xs l) h
 
-  -- two lists without an element
-  pub each_none : (xs : List X) (ys : List Y) → xs ≡ [] → ys ≡ [] → Each P xs ys
-  each_none xs ys a b = subst (λ (us : List X). Each P us ys) (sym a) (subst (λ (vs : List Y). Each P [] vs) (sym b) tt)
-
 -- ---- a flag for each
 
 take_none : (n : ℕ) → take {A = Bool} n [] ≡ []

@@ -1,25 +1,32 @@
 -- The reader of each subscription, and what roles read.
-use Rattle.std.proofs.Common.{◌≡◌, ℕ, ◌+◌, ◌<◌, Bool, true, false, cond, ◌&&◌, ◌||◌, List, [], ◌∷◌, ◌++◌, length, get_or, take, Option, None, Some, refl, sym, ap, subst, ◌∙◌}
+use Rattle.std.proofs.Common.{◌≡◌, ℕ, ◌+◌, ◌<◌, ◌≤◌, Bool, true, false, cond, ◌&&◌, ◌||◌, List, [], ◌∷◌, ◌++◌, length, get_or, take, Option, None, Some, refl, sym, ap, subst, ◌∙◌}
 use Rattle.std.proofs.lemmas.List.{take_more}
 use Rattle.std.proofs.lemmas.List.Folds.{list_any-append}
 use Rattle.std.specs.Prelude.{◌==◌, is_some, option_map, unwrap_or}
-use Rattle.std.specs.List.{list_any}
+use Rattle.std.specs.List.{AllByRecursion, list_any}
 use Rattle.iv_rows.specs.Options.{if_some}
-use Rattle.iv_machine.specs.State.{Session, Subscription, session_of}
+use Rattle.iv_machine.specs.State.{Session, Subscription, actor, session_of}
+use Rattle.iv_readers.specs.Index.{IsIndexOf}
 use Rattle.iv_readers.specs.declared.ids.ReaderId.{ReaderId}
-use Rattle.iv_store.specs.Found.{AreReadersOf}
-use Rattle.iv_store.specs.Store.{Store, frame_of, is_read_through, place_of}
-use Rattle.iv_store.proofs.SubscriptionsAfterRights.{Each-get_or, length-Each}
+use Rattle.iv_readers.specs.declared.index.ReaderIndex.{ReaderIndex}
+use Rattle.iv_readers.proofs.Lists.{AllByRecursion-zip}
+use Rattle.iv_store.specs.Found.{IsFoundBy}
+use Rattle.iv_store.specs.Store.{IsOpen, Store, frame_of, is_read_through, place_of}
 
-module _ (e : Store) (rs : List ReaderId) (h : AreReadersOf e rs) where
-  Has : Subscription → ReaderId → Type 0
-  Has s r = place_of e s ≡ Some r.0
+-- an index of all readers finds that of each subscription
+pub all_found : (e : Store) (index : ReaderIndex) → IsIndexOf e.circuits index → (ss : List Subscription) → AllByRecursion (IsOpen e) ss → AllByRecursion (λ s. is_some (place_of e s) ≡ true) ss → AllByRecursion (IsFoundBy e index) ss
+all_found e index finds ss shows there = AllByRecursion-zip (IsOpen e) (λ s. is_some (place_of e s) ≡ true) (IsFoundBy e index) ss
+    (λ s o t. record { session = o.session; found = finds (actor (frame_of e) s.session) s.rel; there = t }) shows there
 
-  pub length-AreReadersOf : length rs ≡ length e.subscriptions
-  length-AreReadersOf = length-Each Has e.subscriptions rs h
+-- a subscription among those of a store that is seen otherwise
+pub own_at : (e v : Store) (items : List Subscription) (i : ℕ) (s : Subscription) → items ≡ v.subscriptions → v ≡ e → i < length items → s ≡ get_or items i s → (i < length e.subscriptions) × (s ≡ get_or e.subscriptions i s)
+own_at e v items i s own view low at =
+    let same : items ≡ e.subscriptions = own ∙ ap (λ (w : Store). w.subscriptions) view in
+    (subst (λ (ss : List Subscription). i < length ss) same low, subst (λ (ss : List Subscription). s ≡ get_or ss i s) same at)
 
-  pub place_of-AreReadersOf : (i : ℕ) (s : Subscription) (r : ReaderId) → i < length e.subscriptions → s ≡ get_or e.subscriptions i s → r ≡ get_or rs i r → place_of e s ≡ Some r.0
-  place_of-AreReadersOf i s r low here at = subst (λ (x : Subscription). Has x r) (sym here) (subst (Has (get_or e.subscriptions i s)) (sym at) (Each-get_or Has e.subscriptions rs i s r h low))
+-- and past the last one
+pub over_own : (e v : Store) (items : List Subscription) (i : ℕ) → items ≡ v.subscriptions → v ≡ e → length items ≤ i → length e.subscriptions ≤ i
+over_own e v items i own view out = subst (λ (ss : List Subscription). length ss ≤ i) (own ∙ ap (λ (w : Store). w.subscriptions) view) out
 
 -- what is found where there is something
 pub is_found : (found : Option ReaderId) (place : Option ℕ) → option_map (λ r. r.0) found ≡ place → is_some place ≡ true → is_some found ≡ true

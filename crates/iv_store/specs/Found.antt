@@ -1,17 +1,19 @@
 -- Which reader a subscription has, and what is beside its circuit.
-use Rattle.std.specs.Prelude.{◌≡◌, ℕ, cond, List, [], ◌∷◌, Some, slice_get}
+use Rattle.std.specs.Prelude.{◌≡◌, ℕ, true, cond, List, [], ◌∷◌, is_some, slice_get}
 use Rattle.iv_zset.specs.Weights.{Weighed}
 use Rattle.iv_rows.specs.Options.{if_some}
 use Rattle.iv_circuit.specs.Nodes.{total_of}
-use Rattle.iv_machine.specs.State.{Subscription, actor}
+use Rattle.iv_machine.specs.State.{Subscription, actor, is_open}
 use Rattle.iv_store.specs.Store.{Store, frame_of, place_of}
 use Rattle.iv_readers.specs.Readers.{RoleCircuit, is_for}
-use Rattle.iv_readers.specs.Each.{Each}
-use Rattle.iv_readers.specs.declared.ids.ReaderId.{ReaderId}
+use Rattle.iv_readers.specs.Index.{found_in}
+use Rattle.iv_readers.specs.declared.index.ReaderIndex.{ReaderIndex}
 
--- each is the reader of the subscription beside it
-abbrev pub AreReadersOf : Store → List ReaderId → Type 0
-AreReadersOf e readers = Each (λ s r. place_of e s ≡ Some r.0) e.subscriptions readers
+-- the session of the subscription is open, and its reader is there, and found by the index
+pub record IsFoundBy (e : Store) (index : ReaderIndex) (s : Subscription) : Type 0 where
+  pub session : is_open (frame_of e) s.session ≡ true
+  pub found : found_in index (actor (frame_of e) s.session) s.rel ≡ place_of e s
+  pub there : is_some (place_of e s) ≡ true
 
 -- the rows that the circuit at the place shows
 abbrev pub total_at : Store → ℕ → Weighed

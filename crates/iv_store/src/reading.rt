@@ -1,9 +1,7 @@
-//! Who reads what, found once for a request: the reader of each subscription (`readers`), and what roles still read (`still_read`).
+//! Who reads what, found once for a request: the reader of each subscription (`index`), and what roles still read (`still_read`).
 ghost use Rattle.std.specs.Prelude.{◌≡◌, ◌==◌, ◌&&◌, ◌||◌, ℕ, IfOk, OnOk, Some, false, is_some, true};
 ghost use Rattle.std.specs.List.{AllByRecursion};
-ghost use Rattle.iv_machine.specs.State.{is_open};
-ghost use Rattle.iv_readers.specs.Index.{IsIndexOf};
-ghost use Rattle.iv_store.specs.Found.{AreReadersOf};
+ghost use Rattle.iv_store.specs.Found.{IsFoundBy};
 ghost use Rattle.iv_store.specs.Reading.{reads};
 ghost use Rattle.iv_store.specs.Store.{IsOpen, frame_of, is_read_by, is_read_through, place_of};
 
@@ -48,11 +46,18 @@ impl Read {
 }
 
 impl Store {
-    /// The reader of a subscription, by the index.
-    fn reader_in(&self, index: &ReaderIndex, subscription: &Subscription) -> ReaderId
-        requires index { IsIndexOf self.now.circuits index.now }
-        requires open { is_open (frame_of self.now) subscription.now.session ≡ true }
-        requires there { is_some (place_of self.now subscription.now) ≡ true }
+    /// The index by which the reader of each open subscription is found.
+    pub(crate) fn index(&self) -> Result<ReaderIndex, AllocError>
+        requires open { AllByRecursion (IsOpen self.now) self.now.subscriptions }
+        requires there { AllByRecursion (λ s. is_some (place_of self.now s) ≡ true) self.now.subscriptions }
+        ensures { IfOk result (λ index. AllByRecursion (IsFoundBy self.now index) self.now.subscriptions) }
+    {
+        self.circuits.index(self.alloc)
+    }
+
+    /// The reader of a subscription.
+    pub(crate) fn reader_in(&self, index: &ReaderIndex, subscription: &Subscription) -> ReaderId
+        requires { IsFoundBy self.now index.now subscription.now }
         ensures { place_of self.now subscription.now ≡ Some result.0 }
     {
         let role = self.role_of(subscription);
@@ -60,20 +65,6 @@ impl Store {
             Some(reader) => reader,
             None => unreachable!(),
         }
-    }
-
-    /// The reader of each open subscription, in the order of the subscriptions.
-    pub(crate) fn readers(&self) -> Result<Vec<ReaderId>, AllocError>
-        requires open { AllByRecursion (IsOpen self.now) self.now.subscriptions }
-        requires there { AllByRecursion (λ s. is_some (place_of self.now s) ≡ true) self.now.subscriptions }
-        ensures { IfOk result (λ readers. AreReadersOf self.now readers.items) }
-    {
-        let index = self.circuits.index(self.alloc)?;
-        let mut readers = Vec::with_capacity(self.alloc, self.subscriptions.len())?;
-        for subscription in &self.subscriptions {
-            readers.push(self.reader_in(&index, subscription))?;
-        }
-        Ok(readers)
     }
 
     /// Adds what the role of a subscription reads, if its session is open.
