@@ -1,16 +1,14 @@
 -- Readers found by role and relation, one after the other.
-use Rattle.std.proofs.Common.{◌≡◌, ℕ, zero, suc, ◌+◌, ◌<◌, ◌≤◌, Bool, true, false, cond, eqb, ◌&&◌, List, [], ◌∷◌, ◌++◌, length, length-append, get_or, take, Option, None, Some, refl, sym, ap, ◌∙◌, arith}
+use Rattle.std.proofs.Common.{◌≡◌, ℕ, ◌+◌, ◌<◌, Bool, true, false, cond, ◌&&◌, List, [], ◌∷◌, ◌++◌, length, get_or, take, Option, None, Some, refl, sym, ap, ◌∙◌, arith}
 use Rattle.std.proofs.lemmas.Bool.Decides.{nat_tests}
 use Rattle.std.proofs.lemmas.List.{length-take-le, take_more}
-use Rattle.std.proofs.lemmas.List.Folds.{position_or_len_push}
-use Rattle.std.proofs.lemmas.List.Sums.{prefix_len-le-length}
-use Rattle.std.specs.Prelude.{◌==◌, is_some, nat_lt, not, option_map, position}
-use Rattle.std.specs.List.{position_or_len}
+use Rattle.std.specs.Prelude.{◌==◌, is_some, option_map, position}
 use Rattle.std.specs.Ordering.{is_eq}
 use Rattle.iv_rows.specs.Options.{if_some}
 use Rattle.iv_readers.specs.Index.{pair_cmp, with_reader}
 use Rattle.iv_readers.specs.Readers.{RoleCircuit, is_for}
 use Rattle.iv_readers.specs.declared.ids.ReaderId.{ReaderId}
+use Rattle.iv_readers.proofs.Positions.{position-push}
 
 -- pairs tie where both parts are the same
 pub is_eq-pair_cmp : (a b c d : ℕ) → is_eq (pair_cmp (a, b) (c, d)) ≡ ((a == c) && (b == d))
@@ -59,45 +57,6 @@ with_reader-come role rel r old new none updates a b =
         cc
     by false None e f = refl
     by false (Some x) e f = refl
-
--- ---- the first for which it holds
-
-pushed : (n m : ℕ) (b : Bool) → n ≤ m
-    → cond (nat_lt (cond (eqb n m) (m + cond b 0 1) n) (m + 1)) (Some (cond (eqb n m) (m + cond b 0 1) n)) None ≡ if_some (cond (nat_lt n m) (Some n) None) (cond b (Some m) None) (λ i. Some i)
-pushed n m b low = by (eqb n m) (nat_lt n m) b refl refl
-  where
-    same : eqb n m ≡ true → nat_lt n m ≡ true → ⊥
-    same e f = grind (arith, nat_tests)
-
-    apart : n ≤ m → eqb n m ≡ false → nat_lt n m ≡ false → ⊥
-    apart l e f = grind (arith, nat_tests)
-
-    within : nat_lt (m + 0) (m + 1) ≡ true
-    within = grind (arith, nat_tests)
-
-    past : nat_lt (m + 1) (m + 1) ≡ false
-    past = grind (arith, nat_tests)
-
-    later : nat_lt n m ≡ true → nat_lt n (m + 1) ≡ true
-    later e = grind (arith, nat_tests)
-
-    zero_on : m + 0 ≡ m
-    zero_on = omega arith
-
-    by : (x y b : Bool) → eqb n m ≡ x → nat_lt n m ≡ y
-        → cond (nat_lt (cond x (m + cond b 0 1) n) (m + 1)) (Some (cond x (m + cond b 0 1) n)) None ≡ if_some (cond y (Some n) None) (cond b (Some m) None) (λ i. Some i)
-    by true true b e f = absurd (same e f)
-    by true false true e f = ap (λ t. cond t (Some (m + 0)) None) within ∙ ap (λ i. Some i) zero_on
-    by true false false e f = ap (λ t. cond t (Some (m + 1)) None) past
-    by false true b e f = ap (λ t. cond t (Some n) None) (later f)
-    by false false b e f = absurd (apart low e f)
-
-module _ (p : RoleCircuit → Bool) where
-  pub position-push : (ks : List RoleCircuit) (k : RoleCircuit) → position p (ks ++ k ∷ []) ≡ if_some (position p ks) (cond (p k) (Some (length ks)) None) (λ i. Some i)
-  position-push ks k =
-      let long : length (ks ++ k ∷ []) ≡ length ks + 1 = length-append ks (k ∷ []) in
-      let is = position_or_len_push p ks k in
-      (λ j. cond (nat_lt (is j) (long j)) (Some (is j)) None) ∙ pushed (position_or_len p ks) (length ks) (p k) (prefix_len-le-length (λ x. not (p x)) ks)
 
 -- an index of the readers so far is one of one more
 pub with_reader-next : (ks : List RoleCircuit) (i : ℕ) (k : RoleCircuit) (role rel : ℕ) → i < length ks → k ≡ get_or ks i k → role ≡ k.role → rel ≡ k.rel → (old new : (role rel : ℕ) → Option ℕ)

@@ -205,6 +205,17 @@ fn drop_free(held: &mut [Option<Held>], flags: &[bool])
     }
 }
 
+/// Drops the circuits that no role reads, by flags of which none is set yet.
+fn drop_unread(readers: &[RoleReader], held: &mut [Option<Held>], flags: &mut [bool])
+    requires long { length flags.old ≡ length held.old }
+    requires unset { (i : ℕ) → get_or flags.old i false ≡ false }
+    requires within { AllByRecursion (λ r. r.at < length flags.old) readers.now }
+    ensures { AreLeftTo readers.now held.old held.new }
+{
+    set_read(readers, flags);
+    drop_free(held, flags);
+}
+
 /// The roles that read, and the circuits that they read. Roles that see the same of a relation read one circuit.
 #[derive(Drop)]
 pub struct Readers {
@@ -390,8 +401,7 @@ impl Readers {
     {
         let mut flags = unset(alloc, self.held.len())?;
         self.readers.retain(|reader| stays(reader.role, reader.rel));
-        set_read(&self.readers, &mut flags);
-        drop_free(&mut self.held, &flags);
+        drop_unread(&self.readers, &mut self.held, &mut flags);
         Ok(())
     }
 }

@@ -41,7 +41,7 @@ use Rattle.iv_command.specs.declared.command.Refusal.TheVariants.{Limit}
 use Rattle.iv_command.specs.declared.command.Reply.{Reply}
 use Rattle.iv_command.specs.declared.stop.Stop.{Stop}
 use Rattle.iv_command.specs.declared.stop.Stop.TheVariants.{Refused, Memory}
-use Rattle.iv_store.proofs.Beside.{is_own, place_pushed, slice_get-of_get_or}
+use Rattle.iv_store.proofs.Beside.{is_own, slice_get-of_get_or}
 use Rattle.iv_store.proofs.RelationCircuits.{IsCircuitFor-other_readers, IsCircuitFor-Serves}
 use Rattle.iv_store.proofs.SubscriptionRounds.{AllByRecursion-IsBeside, AllByRecursion-AreGiven, beside_number-next, now_counted, rounds_more}
 use Rattle.iv_readers.proofs.RowLists.{Moves-from_none}
@@ -291,8 +291,7 @@ HasReaderFor-HasComeTo e d role rel place c none is at ks come state =
       is = (record { acts = refl; shows = refl; is = is; came = refl; opened = refl }, tt);
       shared = λ h. let no : false ≡ true = ap (λ (o : Option ℕ). is_some o) (sym none) ∙ h in cc;
       first = ap (λ (v : Store). position (is_for role rel) v.circuits) left
-          ∙ place_pushed (is_for role rel) k (is_own role rel come.at c) e.circuits none
-          ∙ ap (λ j. Some j) (sym at);
+          ∙ position-push (is_for role rel) e.circuits k ∙ (λ j. if_some (none j) (cond (is_own role rel come.at c j) (Some (sym at j)) None) (λ i. Some i));
       state = left;
     }
 
