@@ -41,6 +41,7 @@ use Rattle.iv_command.specs.declared.command.Refusal.TheVariants.{Limit}
 use Rattle.iv_command.specs.declared.command.Reply.{Reply}
 use Rattle.iv_command.specs.declared.stop.Stop.{Stop}
 use Rattle.iv_command.specs.declared.stop.Stop.TheVariants.{Refused, Memory}
+use Rattle.iv_readers.proofs.Positions.{position-push}
 use Rattle.iv_store.proofs.Beside.{is_own, slice_get-of_get_or}
 use Rattle.iv_store.proofs.RelationCircuits.{IsCircuitFor-other_readers, IsCircuitFor-Serves}
 use Rattle.iv_store.proofs.SubscriptionRounds.{AllByRecursion-IsBeside, AllByRecursion-AreGiven, beside_number-next, now_counted, rounds_more}

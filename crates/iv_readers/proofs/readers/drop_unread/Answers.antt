@@ -1,4 +1,4 @@
-use Rattle.std.proofs.Common.{◌∙◌, arith, length}
+use Rattle.std.proofs.Common.{arith}
 use Rattle.iv_readers.proofs.readers.drop_unread.Goals as goal
 
 pub drop_free-requires : goal.drop_free-requires

@@ -1,4 +1,4 @@
-use Rattle.std.proofs.Common.{◌≡◌, ◌∙◌, ◌+◌, ◌++◌, ◌∷◌, ◌<◌, [], List, Bool, ap, get_or, length, refl, set, subst, sym, take, true}
+use Rattle.std.proofs.Common.{◌≡◌, ◌∙◌, ◌+◌, ◌++◌, ◌∷◌, ◌<◌, [], List, ap, length, refl, set, subst, sym, take, true}
 use Rattle.std.proofs.lemmas.List.{take_all, take_more}
 use Rattle.iv_readers.specs.Held.{Reading, is_read_at}
 use Rattle.iv_readers.proofs.Lists.{AllByRecursion-get_or}
