@@ -231,10 +231,10 @@ module _ {X : Type 0} (key : X → ℕ) where
         ∙ in_skip xs i (λ k d low high. less (suc k) d (omega arith) (omega (arith, high)))
 
     -- by the point from which on none is below it
-    module _ (xs : List X) (rise : AreRisingFrom 0 (map key xs)) (i : ℕ) (point : IsPartitionPoint (λ x. ltb (key x) place ≡ true) (λ x. ltb (key x) place ≡ false) xs i) where
+    module _ (xs : List X) (rise : AreRisingFrom 0 (map key xs)) (i : ℕ) (point : IsPartitionPoint (λ (x : X). ltb (key x) place ≡ true) (λ x. ltb (key x) place ≡ false) xs i) where
       pub in_at_point : (x : X) → i < length xs → x ≡ get_or xs i x → is_in xs ≡ (key x == place)
       in_at_point x low at =
-          let here : ltb (key x) place ≡ false = ap (λ y. ltb (key y) place) at ∙ point.1 i x (omega arith) low in
+          let here : ltb (key x) place ≡ false = ap (λ (y : X). ltb (key y) place) at ∙ point.1 i x (omega arith) low in
           in_skip xs i point.0 ∙ in_past 0 xs i x rise low at (ltb-false (key x) place here)
 
       pub in_over_point : length xs ≤ i → is_in xs ≡ false
@@ -272,10 +272,10 @@ module _ (place : ℕ) (ps : List Prepared) (rise : AreRisingFrom 0 (places_in p
   rows_at_point p low at is = rows_skip place ps i point.0 ∙ rows_found place ps i p low at is
 
   pub rows_over_point : length ps ≤ i → rows_at place ps ≡ []
-  rows_over_point out = rows_absent place ps (in_over_point (λ p. p.at.0) place ps rise i point out)
+  rows_over_point out = rows_absent place ps (in_over_point (λ (p : Prepared). p.at.0) place ps rise i point out)
 
   pub rows_not_at_point : (p : Prepared) → i < length ps → p ≡ get_or ps i p → p.at.0 ≢ place → rows_at place ps ≡ []
-  rows_not_at_point p low at not_it = rows_absent place ps (in_at_point (λ p. p.at.0) place ps rise i point p low at ∙ other p.at.0 place not_it)
+  rows_not_at_point p low at not_it = rows_absent place ps (in_at_point (λ (p : Prepared). p.at.0) place ps rise i point p low at ∙ other p.at.0 place not_it)
     where
       other : (m n : ℕ) → m ≢ n → (m == n) ≡ false
       other m n apart = grind (arith, nat_tests)

@@ -11,7 +11,7 @@ use Rattle.iv_store.proofs.lines.push_at.Goals as goal
 pub returns-then-place-prepared : goal.returns-then-place-prepared
 returns-then-place-prepared c =
     let ps = c.args.prepared.now in
-    let parted = IsPartitionedBy-ltb (λ (p : Prepared). p.at.0) ps c.args.at.0 (IsNonDecreasingBy-AreRisingFrom 0 ps c.requires) in
+    let parted = IsPartitionedBy-ltb (λ (p : Prepared). p.at.0) ps c.args.at.0 (IsNonDecreasingBy-AreRisingFrom (λ (p : Prepared). p.at.0) 0 ps c.requires) in
     let point = IsPartitionPoint-from_clause (λ (p : Prepared). ltb p.at.0 c.args.at.0) ps _ c.partition_point-place.ensures.partitioned parted (λ a r q k. search rules) in
     let rows = rows_over_point c.args.at.0 ps c.requires c.partition_point-place.result point c.if-place-prepared.true in
     sym (append-no_lines (map line_of c.args.lines.now.items)) ∙ ap (λ rs. map line_of c.args.lines.now.items ++ machine.lines_told None c.args.subscription.now rs) (sym rows)
@@ -19,7 +19,7 @@ returns-then-place-prepared c =
 pub returns-then-one-at : goal.returns-then-one-at
 returns-then-one-at c =
     let ps = c.args.prepared.now in
-    let parted = IsPartitionedBy-ltb (λ (p : Prepared). p.at.0) ps c.args.at.0 (IsNonDecreasingBy-AreRisingFrom 0 ps c.requires) in
+    let parted = IsPartitionedBy-ltb (λ (p : Prepared). p.at.0) ps c.args.at.0 (IsNonDecreasingBy-AreRisingFrom (λ (p : Prepared). p.at.0) 0 ps c.requires) in
     let point = IsPartitionPoint-from_clause (λ (p : Prepared). ltb p.at.0 c.args.at.0) ps _ c.partition_point-place.ensures.partitioned parted (λ a r q k. search rules) in
     let rows = rows_not_at_point c.args.at.0 ps c.requires c.partition_point-place.result point c.index-prepared-place.result c.if-place-prepared.false c.index-prepared-place.is c.if-one-at.true in
     sym (append-no_lines (map line_of c.args.lines.now.items)) ∙ ap (λ rs. map line_of c.args.lines.now.items ++ machine.lines_told None c.args.subscription.now rs) (sym rows)
@@ -27,7 +27,7 @@ returns-then-one-at c =
 pub returns : goal.returns
 returns c =
     let ps = c.args.prepared.now in
-    let parted = IsPartitionedBy-ltb (λ (p : Prepared). p.at.0) ps c.args.at.0 (IsNonDecreasingBy-AreRisingFrom 0 ps c.requires) in
+    let parted = IsPartitionedBy-ltb (λ (p : Prepared). p.at.0) ps c.args.at.0 (IsNonDecreasingBy-AreRisingFrom (λ (p : Prepared). p.at.0) 0 ps c.requires) in
     let point = IsPartitionPoint-from_clause (λ (p : Prepared). ltb p.at.0 c.args.at.0) ps _ c.partition_point-place.ensures.partitioned parted (λ a r q k. search rules) in
     let rows = rows_at_point c.args.at.0 ps c.requires c.partition_point-place.result point c.index-prepared-place.result c.if-place-prepared.false c.index-prepared-place.is c.if-one-at.false in
     IfOk-weaker c.push_rows.result _ _ (λ _ more. more
