@@ -3,6 +3,9 @@ use Rattle.std.proofs.Common.{◌≡◌, ℕ, zero, suc, ◌+◌, ◌<◌, ◌�
 use Rattle.std.proofs.lemmas.Simd.{splat_is_map}
 use Rattle.std.proofs.lemmas.List.{map-append, take_all, take_more}
 use Rattle.iv_readers.specs.Each.{Each}
+use Rattle.iv_readers.specs.Touching.{numbers_of}
+use Rattle.iv_readers.specs.declared.ids.CircuitId.{CircuitId}
+use Rattle.iv_readers.proofs.Held.{get_or-map_place, length-mapped}
 
 -- a list that grows by what a function makes of each
 pub map-take_next : {X Y : Type 0} (f : X → Y) (xs : List X) (i : ℕ) (x : X) (y : Y) (ys new : List Y) → i < length xs → x ≡ get_or xs i x → ys ≡ map f (take i xs) → y ≡ f x → new ≡ ys ++ y ∷ [] → new ≡ map f (take (i + 1) xs)
@@ -42,3 +45,7 @@ map-replicate_true xs n m old new none long is =
 pub Each-map : {X Y : Type 0} (P : X → Y → Type 0) (f : X → Y) (xs : List X) → ((x : X) → P x (f x)) → Each P xs (map f xs)
 Each-map P f [] go = tt
 Each-map P f (x ∷ xs) go = (go x, Each-map P f xs go)
+
+-- a circuit at a place among others, by its number
+pub number_at : (cs : List CircuitId) (i : ℕ) (c : CircuitId) → i < length cs → c ≡ get_or cs i c → (i < length (numbers_of cs)) × (c.0 ≡ get_or (numbers_of cs) i c.0)
+number_at cs i c low at = (subst (λ n. i < n) (sym (length-mapped (λ (x : CircuitId). x.0) cs)) low, get_or-map_place (λ (x : CircuitId). x.0) cs i c low at)
