@@ -8,6 +8,9 @@ use Rattle.iv_rows.specs.Options.{if_some}
 next_lt : (m n : ℕ) → nat_lt (1 + m) (suc n) ≡ nat_lt m n
 next_lt m n = grind (arith, nat_tests)
 
+zero_lt : (n : ℕ) → nat_lt 0 (suc n) ≡ true
+zero_lt n = grind (arith, nat_tests)
+
 module _ {X : Type 0} (p : X → Bool) where
   pub position-cons : (x : X) (xs : List X) → position p (x ∷ xs) ≡ cond (p x) (Some 0) (option_map (λ i. 1 + i) (position p xs))
   position-cons x xs = by (p x) (nat_lt (position_or_len p xs) (length xs)) refl
@@ -15,7 +18,7 @@ module _ {X : Type 0} (p : X → Bool) where
       by : (b c : Bool) → nat_lt (position_or_len p xs) (length xs) ≡ c
           → cond (nat_lt (cond (not b) (1 + position_or_len p xs) 0) (suc (length xs))) (Some (cond (not b) (1 + position_or_len p xs) 0)) None
           ≡ cond b (Some 0) (option_map (λ i. 1 + i) (cond c (Some (position_or_len p xs)) None))
-      by true c e = refl
+      by true c e = ap (λ d. cond d (Some 0) None) (zero_lt (length xs))
       by false true e = ap (λ d. cond d (Some (1 + position_or_len p xs)) None) (next_lt (position_or_len p xs) (length xs) ∙ e)
       by false false e = ap (λ d. cond d (Some (1 + position_or_len p xs)) None) (next_lt (position_or_len p xs) (length xs) ∙ e)
 
