@@ -34,8 +34,11 @@ module _ (rs : List Reading) (r : Reading) (old flags new : List Bool) (h : AreR
       ap (λ (bs : List Bool). get_or bs i false) is ∙ get_or-set_other flags r.at i true false (not_same-eq_false i r.at e) ∙ h.each i
       ∙ sym (is_read_at-push_other i rs r (eq_false-swapped i r.at e))
 
+  length-flags : length (set flags r.at true) ≡ length flags
+  length-flags = simp length-set
+
   pub AreReadFlags-more : AreReadFlags (rs ++ r ∷ []) old new
-  AreReadFlags-more = record { long = ap (λ (bs : List Bool). length bs) is ∙ simp length-set ∙ h.long; each = λ i. flag_by i (i == r.at) refl }
+  AreReadFlags-more = record { long = ap (λ (bs : List Bool). length bs) is ∙ length-flags ∙ h.long; each = λ i. flag_by i (i == r.at) refl }
 
 -- all read places at which something may be held
 pub lt-AreHeld : (hs : List (Option Running)) (rs : List Reading) → AreHeld hs rs → AllByRecursion (λ r. r.at < length hs) rs
