@@ -8,13 +8,6 @@ use Rattle.iv_readers.proofs.readers.set_read.Goals as goal
 pub loop-reader-init : goal.loop-reader-init
 loop-reader-init c = record { long = refl; each = c.requires.unset }
 
-pub bounds-flags-reader : goal.bounds-flags-reader
-bounds-flags-reader c =
-    let r = c.reader-item.result in
-    let at : c.reader.inside.at.0 ≡ r.at = ap (λ (x : Reading). x.at) c.reader.view_is in
-    let low = AllByRecursion-get_or (λ (x : Reading). x.at < length c.args.flags.now) c.args.readers.now c.loop-reader.reader-index r c.requires.within c.loop-reader-test.true c.reader-item.is in
-    subst (λ n. n < length c.loop-reader.flags) (sym at) (subst (λ n. r.at < n) (sym c.loop-reader.invariant.long) low)
-
 pub loop-reader-preserved : goal.loop-reader-preserved
 loop-reader-preserved c =
     let rs = c.args.readers.now in

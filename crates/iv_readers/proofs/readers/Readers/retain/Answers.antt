@@ -14,7 +14,7 @@ use Rattle.iv_readers.proofs.readers.Readers.retain.Goals as goal
 
 pub drop_unread-requires-clause-long : goal.drop_unread-requires-clause-long
 drop_unread-requires-clause-long g c =
-    ap (λ (bs : List Bool). length bs) c.deref_mut-2.ensures.value ∙ c.in_ok-flags.ensures.long ∙ c.len.ensures ∙ sym (ap (λ (xs : List (Option Running)). length xs) c.deref_mut.ensures.value)
+    ap (λ (bs : List Bool). length bs) c.deref_mut-2.ensures.value ∙ c.in_ok-flags.ensures.long ∙ c.len.ensures ∙ c.self.inside.held.ok.0 ∙ sym (ap (λ (xs : List (Option Running)). length xs) c.deref_mut.ensures.value)
 
 pub drop_unread-requires-clause-unset : goal.drop_unread-requires-clause-unset
 drop_unread-requires-clause-unset g c = λ i. ap (λ (bs : List Bool). get_or bs i false) c.deref_mut-2.ensures.value ∙ c.in_ok-flags.ensures.unset i
@@ -25,12 +25,12 @@ drop_unread-requires-clause-within g c =
     let rs = c.retain.new.self.items in
     let some = c.retain.ensures.filtered in
     let held = AreHeld-items_where_true hs some.0 c.self.inside.readers.items rs some.4 c.self.invariant.held in
-    let long : length c.deref_mut-2.result.now ≡ length hs = ap (λ (bs : List Bool). length bs) c.deref_mut-2.ensures.value ∙ c.in_ok-flags.ensures.long ∙ c.len.ensures in
+    let long : length c.deref_mut-2.result.now ≡ length hs = ap (λ (bs : List Bool). length bs) c.deref_mut-2.ensures.value ∙ c.in_ok-flags.ensures.long ∙ c.len.ensures ∙ c.self.inside.held.ok.0 in
     subst (λ (xs : List Reading). AllByRecursion (λ r. r.at < length c.deref_mut-2.result.now) xs) (sym c.deref.ensures.value)
     (subst (λ n. AllByRecursion (λ (r : Reading). r.at < n) rs) (sym long) (lt-AreHeld hs rs held))
 
-pub invariant_of-self-2 : goal.invariant_of-self-2
-invariant_of-self-2 g c =
+pub invariant_of-self : goal.invariant_of-self
+invariant_of-self g c =
     let hs = c.self.inside.held.items in
     let rs = c.retain.new.self.items in
     let new = c.drop_unread.new.held in

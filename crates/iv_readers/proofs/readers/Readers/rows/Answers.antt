@@ -13,7 +13,7 @@ returns-clause-rows c =
     let hs = c.self.inside.held.items in
     let rs = c.self.inside.readers.items in
     let ks = c.args.self.now in
-    let at = c.behind-self.inside.at in
+    let at = c.behind-self.inside.at.0 in
     let here = ap (λ (xs : List (Option Running)). held_at xs at) c.deref_mut.ensures.value ∙ ap (λ (x : Reading). held_at hs x.at) c.behind-self.view_is in
     IfOk-weaker c.rows_at.result (λ rows. AreInOrder (total_of (held_at c.deref_mut.result.now at).node) false (shared_rows rows))
     (λ rows. (k : RoleCircuit) → k ≡ get_or ks c.args.reader.0 k → AreInOrder (total_of k.circuit.node) false (shared_rows rows))
