@@ -57,12 +57,19 @@ def texts(data: bytes, where: str) -> Iterator[tuple[bool, bytes]]:
     none."""
     digest, at = bytes(32), 0
     for number, line in enumerate(data.split(b"\n")[:-1], 1):
-        mark, digits, text = line[:9], line[9:73], line[75:]
-        digest = hashlib.sha256(digest + mark + text).digest()
-        if mark not in (LAST, PART) or digits != digest.hex().encode() or line[73:75] != b'",' or (number == 1) != text.startswith(FORM):
+        found = link(digest, line, number == 1)
+        if not found:
             raise Damaged(f"{where}: line {number}, at byte {at}, is not what was written")
-        at += len(line) + 1
-        yield mark == LAST, text
+        digest, at = found, at + len(line) + 1
+        yield line.startswith(LAST), line[75:]
+
+
+def link(before: bytes, line: bytes, is_head: bool) -> bytes:
+    """The digest of all lines up to this one; empty if it is none that comes there."""
+    mark, digits, text = line[:9], line[9:73], line[75:]
+    digest = hashlib.sha256(before + mark + text).digest()
+    is_linked = mark in (LAST, PART) and digits == digest.hex().encode() and line[73:75] == b'",'
+    return digest if is_linked and is_head == text.startswith(FORM) else b""
 
 
 def text_of(text: bytes) -> Text:

@@ -37,8 +37,21 @@ sys.exit(main())
 COMPACT = """#!/bin/sh
 # writes a journal anew while no gateway writes it: viewd-compact [--rows N] JOURNAL
 here=$(dirname "$(readlink -f "$0")")
-exec /usr/bin/python3 "$here/../lib/viewd/compact.py" "$@" "$here/viewd"
+exec /usr/bin/python3 "$here/../lib/viewd/frontend/compact.py" "$@" "$here/viewd"
 """
+KEEPER = """#!/bin/sh
+# has a gateway follow the journal of another one: viewd-keeper --help
+exec /usr/bin/python3 "$(dirname "$(readlink -f "$0")")/../lib/viewd/frontend/keeper.py" "$@"
+"""
+POSTGRESQL = """#!/bin/sh
+# viewd beside a PostgreSQL: viewd-postgresql --help
+for module in psycopg2 pglast; do
+  /usr/bin/python3 -c "import $module" 2>/dev/null || { echo "viewd-postgresql: apt-get install -y python3-$module" >&2; exit 2; }
+done
+exec /usr/bin/python3 "$(dirname "$(readlink -f "$0")")/../lib/viewd/postgresql/program.py" "$@"
+"""
+# programs in Python; what is beside them that they import comes with them
+PROGRAMS = ["frontend/compact.py", "frontend/keeper.py", "postgresql/program.py"]
 
 
 def with_modules(path: pathlib.Path) -> list[pathlib.Path]:
@@ -59,12 +72,15 @@ def copied(root: pathlib.Path) -> None:
             raise ValueError(f"{pattern} is nothing")
         for it in found:
             put(root, "/".join([place, *it.parts[-1 - depth:]]), it.read_bytes())
-    for it in with_modules(TOP / "frontend/compact.py"):
-        put(root, f"usr/lib/viewd/{it.name}", it.read_bytes())
+    for program in PROGRAMS:
+        for it in with_modules(TOP / program):
+            put(root, f"usr/lib/viewd/{it.relative_to(TOP)}", it.read_bytes())
     for name, (place, mode) in SETTINGS.items():
         put(root, place, (TOP / name).read_bytes(), mode)
     put(root, "usr/bin/viewd-client", CLIENT.encode(), PROGRAM)
     put(root, "usr/bin/viewd-compact", COMPACT.encode(), PROGRAM)
+    put(root, "usr/bin/viewd-keeper", KEEPER.encode(), PROGRAM)
+    put(root, "usr/bin/viewd-postgresql", POSTGRESQL.encode(), PROGRAM)
 
 
 def said(program: pathlib.Path | str, *words: str) -> str:
@@ -87,6 +103,11 @@ def pages(viewd: pathlib.Path, gateway: pathlib.Path) -> list[Page]:
              ["`viewd`(1)", "`viewd-client`(1)", *also]),
         Page("viewd-client", 1, "asks, follows and writes relations of a gateway", [said(TOP / "clients/python/viewd-client", "--help")],
              [("description", chapter(document["CLIENTS"], "The command line")), ("what may happen", chapter(document["CLIENTS"], "What may happen"))],
+             ["`viewd-gateway`(8)", *also]),
+        Page("viewd-keeper", 1, "has a gateway follow the journal of another one", [said(TOP / "frontend/keeper.py", "--help")],
+             [("what it says", chapter(document["LOG"], "Lines")), ("steps", chapter(document["LOG"], "Steps"))], ["`viewd-gateway`(8)", *also]),
+        Page("viewd-postgresql", 1, "viewd beside a PostgreSQL that stays as it is", [said(TOP / "viewd-postgresql", "--help")],
+             [("run", chapter(document["POSTGRESQL"], "Run")), ("what is refused", chapter(document["POSTGRESQL"], "What is refused"))],
              ["`viewd-gateway`(8)", *also])]
 
 

@@ -7,18 +7,21 @@ is another one. So a right that came and went between two cuts shows no row that
 """
 import time
 from collections import deque
+from collections.abc import Callable
 from typing import NamedTuple
 
 import psycopg2
 
 from catalog import MARK, TRIES, Catalog, Connection, Unsettled, asked, printed_as, within
 from pgoutput import lsn_of
-from stream import OWN, Lost, Stream, Transaction
+from stream import OWN, Lost, Place, Stream, Transaction
 
 CUT = f"select pg_current_snapshot()::text, pg_current_wal_insert_lsn()::text, ({MARK})"
 PUSH = 0.002  # seconds, after which a commit of this side's own brings the log to the disk, and so to the stream
 PATIENCE = 0.05  # seconds between two looks at a stream that is late
 PIECE = 5_000  # messages that are taken at a time
+SPARE = 1 << 24  # bytes that others write, behind which a commit of this side's own lets the server forget them
+GONE = "the last transaction that was told is not in the log: it is the log of a copy of the database, say"
 ALL, HALF = 1 << 32, 1 << 31  # numbers of transactions in the stream have 32 bits
 
 
@@ -58,11 +61,15 @@ class Step(NamedTuple):
 class Steps:
     """The cuts of a database, one after another."""
 
-    def __init__(self, connection: Connection, dsn: str, stream: Stream, oids: list[int], publication: str, told: Cut, place: int):
+    def __init__(self, connection: Connection, dsn: str, stream: Stream, oids: list[int], publication: str, told: Cut | None, place: Place,
+                 is_known: bool = False):
         self.connection, self.stream, self.oids, self.publication = connection, stream, oids, publication
-        self.told = told  # the last one that was told: all that it sees, rows and rights
-        self.place = place  # after the last transaction that was told
-        self.committed = 0  # where the last commit stands that was told
+        self.told = told  # the last one that was told: all that it sees, rows and rights; none behind a start
+        self.place = place  # of the last transaction that was told
+        self.certain = place.end  # all rows of commits before it were told
+        self.known = place if is_known and place.commit else None  # a transaction that has to come again
+        self.last = place.end  # the place of the last cut
+        self.late: Callable[[], None] = lambda: None  # is called while the stream is waited for
         self.waiting: deque[Transaction] = deque()
         self.names = ""  # by which the texts of policies and views are printed
         self.texts: dict[str, str] = {}  # that are known, so that none waits for somebody's lock
@@ -77,9 +84,15 @@ class Steps:
             self.stream.wait(seconds)
             self.take()
         found, catalog = self.ask()
+        self.last = found.place
         if catalog is None and not self.waiting:
+            self.certain = max(self.certain, min(self.stream.reached, found.place))
+            if found.place - self.place.end > SPARE:
+                self.push()
             return None
         self.come_to(found.place)
+        if self.known:
+            raise Lost(GONE)
         seen = [number for number, it in enumerate(self.waiting, 1) if found.sees(it.xid)]
         count = seen[-1] if seen else 0
         if len(seen) < count:  # one that committed before another is seen after it, for a moment
@@ -87,7 +100,9 @@ class Steps:
         transactions = [self.waiting.popleft() for _ in range(count)]
         self.told = found
         if transactions:
-            self.committed, self.place = transactions[-1].commit, transactions[-1].end
+            last = transactions[-1]
+            self.place = Place(last.commit, last.end, last.xid)
+        self.certain = max(self.certain, self.place.end if self.waiting else found.place)
         return Step(transactions, found, catalog) if transactions or catalog else None
 
     def take(self) -> None:
@@ -95,7 +110,18 @@ class Steps:
         more = True
         while more:
             came, more = self.stream.take(PIECE)
-            self.waiting.extend(it for it in came if it.end > self.place)
+            for it in came:
+                if self.known:
+                    self.recognize(it, self.known)
+                if it.end > self.place.end:
+                    self.waiting.append(it)
+
+    def recognize(self, it: Transaction, known: Place) -> None:
+        """The server was told of no more than the beginning of the last commit, so that one comes again."""
+        if (it.commit, it.end, it.xid) == known:
+            self.known = None
+        elif it.end >= known.end:
+            raise Lost(GONE)
 
     def ask(self) -> tuple[Cut, Catalog | None]:
         """A cut, with its catalog if the mark is another one."""
@@ -103,7 +129,7 @@ class Steps:
             for _ in range(TRIES):
                 self.connection.rollback()
                 found = cut(self.connection, self.oids, self.publication)
-                if found.mark == self.told.mark:
+                if self.told and found.mark == self.told.mark:
                     return found, None
                 names = printed_as(self.connection, self.oids)
                 if names != self.names:
@@ -123,10 +149,11 @@ class Steps:
         began, pushed = time.monotonic(), False
         while not self.stream.has(place):
             if self.stream.connection.closed:
-                raise Lost("the stream has ended")
+                raise psycopg2.OperationalError("the stream has ended")
             if not pushed and time.monotonic() - began > PUSH:
                 self.push()
                 pushed = True
+            self.late()
             self.stream.wait(PATIENCE if pushed else PUSH)
             self.take()
 
@@ -135,10 +162,10 @@ class Steps:
         with self.pusher.cursor() as cursor:
             cursor.execute("select pg_logical_emit_message(true, %s, '')", [OWN])
 
-    def confirm(self) -> None:
-        """The steps so far are kept."""
-        if self.committed:
-            self.stream.confirm(self.committed)
+    def confirm(self, place: Place) -> None:
+        """The steps up to this place are kept."""
+        if place.commit:  # psycopg2 takes the slot's own beginning for all that came
+            self.stream.confirm(place.commit)
 
     def close(self) -> None:
         self.pusher.close()

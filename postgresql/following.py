@@ -3,19 +3,23 @@
 They are one step: what stands between two of them is no state of PostgreSQL, and is to be shown to nobody. viewd has no request that drops
 or changes a relation, so if one is another one all begins anew.
 """
-from collections.abc import Iterator
+from collections import Counter
+from collections.abc import Iterable, Iterator
 
 import beginning
 import rows
-from beginning import Beginning
-from catalog import Attribute, Relation
+from beginning import Beginning, Progress, no_progress
+from catalog import Relation
 from mirror import Table
 from relations import Made
+from resuming import resume
 from rights import ROLES
-from rows import Request
+from rows import Request, Row
 from settings import Settings
+from source import FORM, NAME, Print, Source, changes, read, sourced
 from state import State, said
-from stream import Transaction
+from stream import Lost, Place, Transaction
+from told import Guards, Told, off, written
 
 
 class Anew(Exception):
@@ -25,16 +29,52 @@ class Anew(Exception):
 class Following:
     """A database that is followed: what viewd was told of it, and what it is to be told next."""
 
-    def __init__(self, settings: Settings, most: int):
+    def __init__(self, settings: Settings, most: int, begun: Beginning, told: Told, source: Source):
+        self.settings, self.most, self.begun, self.told, self.source = settings, most, begun, told, source
+        self.state = begun.state
+
+    @staticmethod
+    def anew(settings: Settings, most: int, progress: Progress = no_progress) -> "Following":
         """Raises what `begin` raises."""
-        self.settings, self.most = settings, most
-        self.begun: Beginning = beginning.begin(settings, most)
-        self.state = self.begun.state
-        self.roles = {"admin", *self.state.rights.roles}  # that viewd has, also those that are gone
+        begun = beginning.begin(settings, most, progress)
+        return Following(settings, most, begun, Told(), sourced(settings, begun.steps.place, begun.state))
+
+    @staticmethod
+    def resumed(settings: Settings, most: int, log: str, requests: Iterable[Request]) -> "Following":
+        """Goes on from what a gateway holds. Raises Lost, Anew, and what `begin` raises."""
+        told, held = Told(), dict[str, Counter[Row]]()
+        for it in requests:
+            told.add(it)
+            written(held, it)
+        try:
+            source = read(held[NAME])
+        except (KeyError, ValueError):
+            raise Lost("what is held does not say where it is from") from None
+
+        def tables(it: Made, _rel: Relation) -> Table:
+            found = Table(it.name, it.columns, most)
+            found.rows = held.get(it.name, found.rows)
+            return found
+        return Following(settings, most, resume(settings, source, log, tables), told, source).formed()
+
+    def again(self) -> "Following":
+        """Goes on from what was told, behind the end of the connection. Raises what `resumed` raises."""
+        self.close()
+        return Following(self.settings, self.most, resume(self.settings, self.source, self.begun.log, self.held), self.told, self.source).formed()
+
+    def formed(self) -> "Following":
+        """Rows and tables fit. All else that is another one by now is seen in the first step, with its transactions."""
+        if why := other_form(self.told, self.state):
+            self.close()
+            raise Anew(why)
+        return self
 
     def first(self) -> Iterator[Request]:
-        """Those that bring an empty viewd to the beginning. They are read from the mirror: all of them before the first step."""
-        return self.state.requests()
+        """Those that bring an empty viewd to the beginning, at last where that is. They are read from the mirror: all of them before the first step."""
+        for part in ((FORM,), self.state.requests(), rows.writes(changes(None, self.source))):
+            for it in part:
+                self.told.add(it)
+                yield it
 
     def next(self, seconds: float) -> list[Request]:
         """Those of the next step; none if nothing has changed. Waits so long for something to come. Raises Anew, Lost, Unreadable,
@@ -46,98 +86,91 @@ class Following:
         for it in self.begun.mirror.tables.values():
             if it.told == bool(fault := it.fault()):
                 raise Anew(f"{it.name}: {fault or 'viewd can hold its rows again'}")
-        written = list(rows.writes(entries))
+        place, taken, given = self.begun.steps.place, list[Request](), list[Request]()
         if step.catalog is None:
-            return written
-        after = said(step.catalog, self.begun.names, self.settings, self.held, follows=True)
-        if why := reformed(self.state, after, step.transactions):
-            raise Anew(why)
-        known = self.roles
-        self.roles = known | set(after.rights.roles)
-        if len(self.roles) > ROLES + 1:
-            raise Anew(f"{len(self.roles) - 1} roles, with those that are gone: viewd can have {ROLES}")
-        taken, given = list(takes(self.state, after, known)), list(gives(self.state, after))
-        self.state = after
-        return [*taken, *written, *given]
+            source = Source(self.source.settings, place, self.source.prints)
+        else:
+            self.state = said(step.catalog, self.begun.names, self.settings, self.held, follows=True)
+            source = sourced(self.settings, place, self.state)
+            if why := other_form(self.told, self.state) or rewritten(self.source.prints, source.prints, self.state, step.transactions):
+                raise Anew(why)
+            if len(roles := self.told.roles | set(self.state.rights.roles)) > ROLES + 1:
+                raise Anew(f"{len(roles) - 1} roles, with those that are gone: viewd can have {ROLES}")
+            taken, given = list(takes(self.told, self.state)), list(gives(self.told, self.state))
+        requests = [*taken, *rows.writes([*entries, *changes(self.source, source)]), *given]
+        for one in requests:
+            self.told.add(one)
+        self.source = source
+        return requests
 
     def held(self, it: Made, rel: Relation) -> Table:
-        """One that is not mirrored is another relation than viewd has: `reformed` says so."""
+        """One that is not mirrored is another relation than viewd has: `other_form` says so."""
         return self.begun.mirror.tables.get(it.oid) or Table(it.name, it.columns, self.most)
 
-    def kept(self) -> None:
-        """What was answered so far is kept: PostgreSQL may forget it."""
-        self.begun.steps.confirm()
+    def kept(self, place: Place | None = None) -> None:
+        """What was answered up to this place, or so far, is kept: PostgreSQL may forget it."""
+        self.begun.steps.confirm(place or self.source.place)
 
     def close(self) -> None:
         self.begun.close()
 
 
-def reformed(before: State, after: State, transactions: list[Transaction]) -> str:
+def other_form(told: Told, after: State) -> str:
     """Why viewd has no request that leads there. Empty if it has."""
-    old, new = ({it.name: it.request for it in state.made.values() if it.request} for state in (before, after))
+    old = {name: it for name, it in told.forms.items() if name != NAME}
+    new = {it.name: it.request for it in after.made.values() if it.request}
     for name in sorted({*old, *new}, key=lambda it: ((old.get(it) or new[it])["do"], it)):  # tables stand before views that reach them
         if old.get(name) != new.get(name):
             left = dict(after.left_out()).get(name)
             return f"{name} is left out: {left}" if left else f"{name} has another form"
+    return ""
+
+
+def rewritten(before: dict[str, Print], after: dict[str, Print], state: State, transactions: list[Transaction]) -> str:
+    """What tells of another relation, or of rows that were not replicated."""
     emptied = {change.relation.oid for it in transactions for change in it.changes if change.truncates()}
-    for oid, it in after.made.items():
-        one, other = before.catalog.relations.get(oid), after.catalog.relations.get(oid)
-        if it.request and one and other and (one.schema, one.name) != (other.schema, other.name):
+    for it in state.made.values():
+        if not it.request:
+            continue
+        old, new = before[it.name], after[it.name]
+        if old.name != new.name:
             return f"{it.name} has another name"
-        if it.table and one and other and (why := rewritten(it, one, other, oid in emptied)):
-            return f"{it.name} {why}"
+        if not it.table:
+            continue
+        if old.published != new.published:
+            return f"{it.name} left the publication, or came back"
+        if old.columns != new.columns:
+            return f"{it.name} has another form"
+        if old.file != new.file and not (it.oid in emptied and old.versions == new.versions):
+            return f"{it.name} was written anew (ALTER TABLE, VACUUM FULL, CLUSTER)"
     return ""
 
 
-def rewritten(it: Made, before: Relation, after: Relation, emptied: bool) -> str:
-    """What tells of rows that were not replicated."""
-    if before.published != after.published:
-        return "left the publication, or came back"
-    if kept(it, before, False) != kept(it, after, False):
-        return "has another form"
-    if before.file != after.file and not (emptied and kept(it, before, True) == kept(it, after, True)):
-        return "was written anew (ALTER TABLE, VACUUM FULL, CLUSTER)"
-    return ""
-
-
-def kept(it: Made, rel: Relation, version: bool) -> list[tuple[object, ...]]:
-    """What of the columns that are followed has to stay as it is."""
-    def of(one: Attribute) -> tuple[object, ...]:
-        return (one.name, one.number, one.notnull, one.whole, one.collation, tuple(one.labels or ()), one.version if version else "")
-    return [of(one) for one in rel.columns if one.name in it.columns]
-
-
-def takes(before: State, after: State, known: set[str]) -> Iterator[Request]:
+def takes(told: Told, after: State) -> Iterator[Request]:
     """Roles that viewd has not, and what goes of the rights."""
-    was, now = before.rights, after.rights
-    yield from ({"do": "create_role", "name": it} for it in now.roles if it not in known)
-    for role, to in sorted(set(was.members) - set(now.members)):
+    now = after.rights
+    yield from ({"do": "create_role", "name": it} for it in now.roles if it not in told.roles)
+    for role, to in sorted(told.members - set(now.members)):
         yield {"do": "revoke_role", "role": role, "to": to}
     for name in now.select:
-        yield from ({"do": "revoke", "on": name, "privileges": ["select"], "to": it} for it in sorted(was.select[name] - now.select[name]))
-    for one, other in guards(before, after):
+        yield from ({"do": "revoke", "on": name, "privileges": ["select"], "to": it} for it in sorted(told.select[name] - now.select[name]))
+    for one, other in guards(told, after):
         yield from ({"do": "drop_policy", "on": it["on"], "name": name} for name, it in one.items() if name and other.get(name) != it)
 
 
-def gives(before: State, after: State) -> Iterator[Request]:
+def gives(told: Told, after: State) -> Iterator[Request]:
     """What comes of the rights."""
-    was, now = before.rights, after.rights
-    for one, other in guards(before, after):
+    now = after.rights
+    for one, other in guards(told, after):
         yield from (it for name, it in other.items() if one.get(name) != it)
-    for role, to in sorted(set(now.members) - set(was.members)):
+    for role, to in sorted(set(now.members) - told.members):
         yield {"do": "grant_role", "role": role, "to": to}
     for name in now.select:
-        yield from ({"do": "grant", "on": name, "privileges": ["select"], "to": it} for it in sorted(now.select[name] - was.select[name]))
+        yield from ({"do": "grant", "on": name, "privileges": ["select"], "to": it} for it in sorted(now.select[name] - told.select[name]))
 
 
-def guards(before: State, after: State) -> Iterator[tuple[dict[str, Request], dict[str, Request]]]:
-    """Of each table its policies by name, and its row security by the empty name, before and after."""
-    old = {it.name: it for it in before.made.values()}
+def guards(told: Told, after: State) -> Iterator[tuple[Guards, Guards]]:
+    """Of each table what it has and what it is to have."""
     for it in after.made.values():
         if it.request and it.request["do"] == "create_table":
-            off: Request = {"do": "row_security", "on": it.name, "enable": False, "force": False}
-            yield by_name(old[it.name].guards, off), by_name(it.guards, off)
-
-
-def by_name(requests: list[Request], off: Request) -> dict[str, Request]:
-    return {"": off} | {it.get("name", ""): it for it in requests}
+            yield told.guards[it.name], {"": off(it.name)} | {one.get("name", ""): one for one in it.guards}

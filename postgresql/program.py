@@ -1,17 +1,25 @@
 """The command line of viewd-postgresql."""
 import argparse
+import itertools
 import os
 import pathlib
 import sys
 
 import psycopg2
 
+sys.path.append(str(pathlib.Path(__file__).resolve().parent.parent / "frontend"))
+
+import door
 import prepare
+from beginning import NotReady
 from catalog import Unsettled, connect
+from door import Ended, Kept
+from follow import Follow
 from settings import Settings, Wrong, read
 from state import State, Unsayable, line, state
 
-GOOD, LEFT_OUT, WRONG, UNREACHED, INTERRUPTED = 0, 1, 2, 3, 130  # exit statuses
+GOOD, LEFT_OUT, WRONG, UNREACHED, LEFT, KEPT, INTERRUPTED = 0, 1, 2, 3, 4, 5, 130  # exit statuses
+BEGIN = {"do": "begin", "role": "admin"}
 ROWS, LEAST, MOST = 65_536, 1_024, 1_048_576
 EPILOG = """examples:
   viewd-postgresql check "host=127.0.0.1 dbname=desk user=viewd"
@@ -20,9 +28,12 @@ EPILOG = """examples:
       writes a configuration with all relations that it could have
   viewd-postgresql show "host=127.0.0.1 dbname=desk user=viewd" viewd.toml | ./viewd replay
       tells a viewd all of it, as it is now
+  viewd-postgresql follow "host=127.0.0.1 dbname=desk user=viewd" viewd.toml -- ./gateway --journal desk.jsonl --tokens tokens.toml
+      starts a gateway, and brings it one state of the database after another
 
 exit status: 0 if all is well; 1 if something is left out or missing (its words are on standard output, or for show and init
-on standard error); 2 if the words or the configuration are wrong; 3 if PostgreSQL cannot be reached or refuses.
+on standard error); 2 if the words or the configuration are wrong; 3 if PostgreSQL cannot be reached or refuses; 4 if follow's
+gateway has ended, 5 if it needs a new journal.
 
 docs/POSTGRESQL.md says what becomes what, and what is refused.
 """
@@ -31,15 +42,26 @@ docs/POSTGRESQL.md says what becomes what, and what is refused.
 def arguments(words: list[str]) -> argparse.Namespace:
     parser = argparse.ArgumentParser(prog="viewd-postgresql", description="viewd beside a PostgreSQL that stays as it is.", epilog=EPILOG,
                                      formatter_class=argparse.RawDescriptionHelpFormatter)
-    commands = parser.add_subparsers(dest="command", required=True, metavar="check|init|show")
+    commands = parser.add_subparsers(dest="command", required=True, metavar="check|init|show|follow")
     for name, what in (("check", "say what viewd could have of a database, and what is missing"), ("show", "print the requests that tell a viewd all of it"),
-                       ("init", "write a configuration")):
+                       ("init", "write a configuration"), ("follow", "bring a gateway one state of it after another")):
         one = commands.add_parser(name, help=what, description=what)
         one.add_argument("dsn", metavar="DSN", help="which database, as libpq says it; \"\" for the one of the configuration")
         file = "where it is written, standard output if left out" if name == "init" else "the configuration, a file of TOML; all relations if left out"
         one.add_argument("config", metavar="CONFIG", nargs="?", type=pathlib.Path, help=file)
+        if name == "follow":  # the gateway says how many rows it can hold
+            one.set_defaults(rows=ROWS)
+            one.add_argument("--port", type=int, help="where a gateway listens for this side; without it, and without words of a gateway behind --, "
+                                                      "the gateway is at standard input and output")
+            one.add_argument("--secret-file", type=pathlib.Path, help="the file that it has, too")
+            continue
         one.add_argument("--rows", type=int, default=ROWS, help=f"different rows of a table, as for viewd: {LEAST:,} to {MOST:,}, {ROWS:,} if left out")
-    given = parser.parse_args(words)
+    count = words.index("--") if "--" in words else len(words)
+    given = parser.parse_args(words[:count])
+    given.gateway = words[count + 1:]
+    follows = given.command == "follow"
+    if given.gateway and (not follows or given.port) or follows and bool(given.port) != bool(given.secret_file):
+        parser.error("follow has a gateway behind --, or --port and --secret-file")
     if not LEAST <= given.rows <= MOST:
         parser.error(f"--rows is {LEAST:,} to {MOST:,}")
     return given
@@ -50,7 +72,7 @@ def complain(why: str) -> None:
 
 
 def show(found: State) -> int:
-    for request in found.requests():
+    for request in itertools.chain([BEGIN], found.requests()):
         print(line(request))
     for name, why in found.left_out():
         complain(f"{name} is left out: {why}")
@@ -62,7 +84,10 @@ def init(found: State, settings: Settings, path: pathlib.Path | None) -> int:
     if path is None:
         print(text, end="")
     else:
-        kept = os.open(path, os.O_WRONLY | os.O_CREAT | os.O_EXCL, 0o600)  # a DSN may have a password
+        try:
+            kept = os.open(path, os.O_WRONLY | os.O_CREAT | os.O_EXCL, 0o600)  # a DSN may have a password
+        except FileExistsError:
+            raise Wrong(f"{path} is there already") from None
         with open(kept, "w", encoding="utf-8") as file:
             file.write(text)
     left = [it.name for it in found.made.values() if it.faults]
@@ -71,8 +96,21 @@ def init(found: State, settings: Settings, path: pathlib.Path | None) -> int:
     return LEFT_OUT if left else GOOD
 
 
+def follow(settings: Settings, given: argparse.Namespace) -> None:
+    try:
+        gateway = door.gateway(given.gateway, given.port, given.secret_file)
+    except OSError as why:
+        raise Ended(f"no gateway: {why}") from None
+    try:
+        Follow(settings, gateway).run()
+    finally:
+        gateway.close()
+
+
 def run(given: argparse.Namespace) -> int:
     settings = read(given.config, given.dsn) if given.config and given.command != "init" else Settings(given.dsn)
+    if given.command == "follow":
+        follow(settings, given)
     connection = connect(settings.dsn)
     try:
         found = state(connection, settings, given.rows)
@@ -101,7 +139,13 @@ def main(words: list[str]) -> int:
     except (Wrong, OSError) as why:
         complain(str(why))
         return WRONG
-    except (psycopg2.Error, Unsettled) as why:
+    except Ended as why:
+        complain(str(why))
+        return LEFT
+    except Kept as why:
+        complain(str(why))
+        return KEPT
+    except (psycopg2.Error, Unsettled, NotReady) as why:
         complain(f"PostgreSQL: {' '.join(str(why).split())}")
         return UNREACHED
     except UnicodeDecodeError as why:

@@ -9,7 +9,7 @@ from rows import Request
 from translate import Words
 from views import COLUMNS, Source, halves, view
 
-TABLES = 64  # and as many views: viewd's limits
+TABLES = 64  # and as many views: viewd's limits; one of them is `viewd_source`
 STRANGE = {"p": "a partitioned table", "m": "a materialized view", "f": "a foreign table"}
 
 
@@ -134,8 +134,8 @@ def tables(catalog: Catalog, names: dict[int, str], chosen: dict[str, list[str]]
         elif not rel.invoker:
             made.faults.append("it reads with the rights of its owner: say ALTER VIEW .. SET (security_invoker = true)")
             made.sql.append(f"ALTER VIEW {rel.sql} SET (security_invoker = true);")
-    for it in [it for it in found.values() if it.request][TABLES:]:
-        close(it, f"more than {TABLES} tables, of which viewd can have {TABLES}")
+    for it in [it for it in found.values() if it.request][TABLES - 1:]:
+        close(it, f"more than {TABLES - 1} tables: viewd can have {TABLES}, and one of them says where they are from")
     return found
 
 

@@ -38,7 +38,6 @@ class State:
 
     def requests(self) -> Iterator[Request]:
         """Those that bring an empty viewd here, of a session of admin. Policies stand before rows: no reader is shown more for a moment."""
-        yield {"do": "begin", "role": "admin"}
         yield from ({"do": "create_role", "name": it} for it in self.rights.roles)
         yield from ({"do": "grant_role", "role": role, "to": to} for role, to in self.rights.members)
         held = [it for it in self.made.values() if it.request]

@@ -47,6 +47,18 @@ class Transaction:
     changes: list[Change]
 
 
+class Place(NamedTuple):
+    """The last transaction that was told."""
+
+    commit: int  # where its commit is; 0: none was told behind the slot
+    end: int  # behind it
+    xid: int = 0  # the lower 32 bits of its number
+
+    def again(self) -> int:
+        """From here on the server has to send what was not told, and that transaction once more."""
+        return self.commit or self.end
+
+
 class Transactions:
     """Puts messages together to transactions."""
 
@@ -123,6 +135,13 @@ class Stream:
         except (psycopg2.errors.UndefinedObject, psycopg2.errors.ObjectInUse, psycopg2.errors.ObjectNotInPrerequisiteState) as why:
             raise Lost(str(why).strip()) from None
         self.reached = place
+
+    def system(self) -> str:
+        """Which database this is, wherever it is reached. Before `begin`."""
+        self.cursor.execute("IDENTIFY_SYSTEM")
+        system = self.cursor.fetchone()[0]
+        self.cursor.execute("select oid from pg_database where datname = current_database()")
+        return f"postgresql {system}/{self.cursor.fetchone()[0]}"
 
     def take(self, most: int) -> tuple[list[Transaction], bool]:
         """Transactions that have come, of at most so many messages, and whether there may be more. Does not wait. Raises Unreadable."""

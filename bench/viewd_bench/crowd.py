@@ -14,7 +14,7 @@ from multiprocessing.connection import Connection
 
 CAME = re.compile(rb"\[1,\[(\d+),")
 UNDER_WAY = 64  # tokens, and then subscriptions, of a process that are not answered yet
-QUIET = 10.0  # seconds without a line, after which those that are missing are lost
+QUIET = 10.0  # seconds without a row, after which those that are missing are lost
 WINDOW = 32  # writes without a reply
 FILES = 2000  # that a process has beside its clients
 
@@ -56,21 +56,22 @@ def came(it: socket.socket) -> socket.socket:
 
 
 class Told:
-    """What readers of a process were told of writes, by the numbers of their rows: when last, and how often."""
+    """What readers of a process were told of writes, by the numbers of their rows: when last, and how often. A write brings a row, in a line
+    of its own unless it is in a step with others."""
 
     def __init__(self) -> None:
         self.last: dict[bytes, float] = {}
         self.count: collections.Counter[bytes] = collections.Counter()
-        self.lines = 0
+        self.rows = 0
 
     def hear(self, data: bytes, now: float) -> None:
         numbers = CAME.findall(data)
-        self.lines += data.count(b'"sub":1}')
+        self.rows += len(numbers)
         self.count.update(numbers)
         self.last.update(dict.fromkeys(numbers, now))
 
     def add(self, other: "Told") -> None:
-        self.lines += other.lines
+        self.rows += other.rows
         self.count.update(other.count)
         for number, at in other.last.items():
             self.last[number] = max(self.last.get(number, 0.0), at)
@@ -117,10 +118,10 @@ class Readers:
         return b""
 
     def listen(self) -> Told:
-        """Hears until as many lines have come as the pipe says, or none comes any more."""
+        """Hears until as many rows have come as the pipe says, or none comes any more."""
         told, wanted, heard = Told(), -1, time.monotonic()
         self.poll.register(self.pipe.fileno(), select.EPOLLIN)
-        while told.lines != wanted:
+        while told.rows != wanted:
             numbers = [number for number, _ in self.poll.poll(0.5, 512)]
             if self.pipe.fileno() in numbers:
                 wanted, heard = self.pipe.recv(), time.monotonic()

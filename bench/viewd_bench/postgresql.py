@@ -113,7 +113,8 @@ class Sql:
 class Server:
     """A server that ends with the block."""
 
-    def __init__(self) -> None:
+    def __init__(self, settings: list[str] = SETTINGS) -> None:
+        self.settings = settings
         # (another user than root has to come to it)
         self.room = tempfile.mkdtemp(prefix="bench-", dir="/tmp" if os.getuid() == 0 else None)
         self.how: dict[str, Any] = {"stdout": subprocess.DEVNULL, "stderr": subprocess.DEVNULL, "cwd": "/"}
@@ -126,7 +127,7 @@ class Server:
         data = os.path.join(self.room, "data")
         initdb, postgres = (os.path.join(binaries() or "", name) for name in ("initdb", "postgres"))
         subprocess.run([initdb, "-D", data, "-U", "admin", "--auth=trust", "--encoding=UTF8", "--locale=C"], check=True, **self.how)
-        settings = [word for it in [*SETTINGS, f"unix_socket_directories={self.room}"] for word in ("-c", it)]
+        settings = [word for it in [*self.settings, f"unix_socket_directories={self.room}"] for word in ("-c", it)]
         self.server = subprocess.Popen([postgres, "-D", data, *settings], **self.how)
         while subprocess.run([*self.psql("postgres"), "-c", "select"], **self.how).returncode:
             time.sleep(0.1)

@@ -48,6 +48,8 @@ MADE = [f'{{"do":"create_role","name":"{role}"}}' for role in ROLES] + [
 class Server:
     """A gateway on a port of its own, with the processes that it has. Each token opens its role to some clients."""
 
+    patience = 60.0  # seconds until it listens
+
     def __init__(self, name: str, words: list[str | pathlib.Path], size: int) -> None:
         self.name, self.room = name, tempfile.TemporaryDirectory(prefix="bench-")
         folder = pathlib.Path(self.room.name)
@@ -62,7 +64,7 @@ class Server:
         self.log = folder / "log"
         with self.log.open("wb") as log:
             self.process = subprocess.Popen([*words, *own], stdin=subprocess.DEVNULL, stdout=log, stderr=log)
-        end = time.monotonic() + 60
+        end = time.monotonic() + self.patience
         while not self.listens():
             if self.process.poll() is not None or time.monotonic() > end:
                 raise SystemExit(f"bench: {name} does not listen: {self.log.read_text()}")
@@ -116,7 +118,7 @@ class Bench:
         due, replied, wall = writer.write(rate, self.given.seconds)
         told = crowd.told(len(due))
         used = [now - then for now, then in zip(server.processor(), before)]
-        lines, wanted = told.lines, len(due) * crowd.size
+        lines, wanted = told.rows, len(due) * crowd.size
         short = sum(told.count[it] != crowd.size for it in due)
         row = {
             "gateway": server.name, "readers": f"{crowd.size:,}", "writes a second": number(len(due) / wall) + ("" if rate else " (most)"),
@@ -158,12 +160,12 @@ class Bench:
             server.end()
 
 
-def document(printed: str) -> None:
-    """Puts it into the page, in the place of what was there."""
-    head, begin, rest = DOCUMENT.read_text().partition(BEGIN)
-    if not begin:
-        raise SystemExit(f"bench: {DOCUMENT} has no place for it")
-    DOCUMENT.write_text(f"{head}{BEGIN}\n{printed}\n{END}{rest.partition(END)[2]}")
+def document(printed: str, begin: str = BEGIN, end: str = END, page: pathlib.Path = DOCUMENT) -> None:
+    """Puts it into a page, in the place of what was there."""
+    head, mark, rest = page.read_text().partition(begin)
+    if not mark:
+        raise SystemExit(f"bench: {page} has no place for it")
+    page.write_text(f"{head}{begin}\n{printed}\n{end}{rest.partition(end)[2]}")
 
 
 def main(words: list[str]) -> None:

@@ -10,7 +10,7 @@ from typing import TYPE_CHECKING
 import pytest
 from _pytest.terminal import TerminalReporter
 
-pytest.register_assert_rewrite("gate", "party", "watchers", "wire", "trial", "model")
+pytest.register_assert_rewrite("gate", "party", "watchers", "wire", "trial", "model", "names")
 
 from trial import many_files
 from wire import PATIENCE, Gateway

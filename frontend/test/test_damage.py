@@ -6,7 +6,7 @@ import json
 import sys
 from collections.abc import Iterator
 
-from test_names import GONE, answer, by_name, holding, place_of, rows
+from names import GONE, answer, by_name, holding, place_of, rows
 from trial import chained, insert, until
 from wire import TOP, Gateway, http
 

@@ -1105,7 +1105,7 @@ def test_each_entry_tells_who_wrote_it_and_when() -> None:
 
 def test_it_tells_its_version_and_that_of_the_protocol() -> None:
     said = subprocess.run([PROGRAM, "--version"], stdin=subprocess.DEVNULL, capture_output=True, timeout=PATIENCE)
-    assert (said.returncode, said.stdout, said.stderr) == (0, b"gateway 0.1.0 (protocol 1)\n", b"")
+    assert (said.returncode, said.stdout, said.stderr) == (0, b"gateway 1.0.0 (protocol 1)\n", b"")
 
 
 def test_one_process_writes_a_journal() -> None:

@@ -94,6 +94,8 @@ class Wire:
             self.more()
         head, self.input = self.input.split(b"\r\n\r\n", 1)
         lines = head.split(b"\r\n")
+        if lines[0].startswith(b"HTTP/1.1 503"):  # a log lets nobody in
+            raise Ended(503)
         assert lines[0] == b"HTTP/1.1 101 Switching Protocols", head
         fields = {name.strip().lower(): value.strip() for name, _, value in (line.partition(b":") for line in lines[1:])}
         assert fields[b"sec-websocket-accept"] == base64.b64encode(hashlib.sha1(key + GUID).digest()), head
@@ -282,6 +284,9 @@ class Gateway:
         fresh.write_text(text)
         fresh.rename(self.tokens)
 
+    def command(self) -> list[Any]:
+        return [PROGRAM, "--journal", self.journal, "--tokens", self.tokens, "--port", str(self.port), *self.words]
+
     def launch(self, most: int | None = None, memory: int | None = None, files: int | None = None) -> subprocess.Popen[bytes]:
         """Starts it. It makes no file longer than so many bytes, has no more memory than so many, and no more files open than so many."""
         def limit() -> None:
@@ -291,8 +296,7 @@ class Gateway:
                     resource.setrlimit(kind, (size, size))
         self.logs.append(self.folder / f"log.{len(self.logs)}")
         with self.logs[-1].open("wb") as log:
-            self.started = subprocess.Popen([PROGRAM, "--journal", self.journal, "--tokens", self.tokens, "--port", str(self.port), *self.words],
-                                            stdin=subprocess.DEVNULL, stderr=log, preexec_fn=None if most is memory is files is None else limit)
+            self.started = subprocess.Popen(self.command(), stdin=subprocess.DEVNULL, stderr=log, preexec_fn=None if most is memory is files is None else limit)
         return self.process
 
     def start(self, most: int | None = None, memory: int | None = None) -> None:

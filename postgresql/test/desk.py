@@ -53,7 +53,11 @@ class Desk:
 
     def __init__(self, dsn: str):
         self.dsn = dsn
-        self.connection = psycopg2.connect(dsn, options="-c datestyle=ISO -c timezone=UTC")
+        self.again()
+
+    def again(self) -> None:
+        """The server may have been stopped."""
+        self.connection = psycopg2.connect(self.dsn, options="-c datestyle=ISO -c timezone=UTC")
         self.connection.autocommit = True
         self.cursor = self.connection.cursor()
         for oid, name in ((1082, "date"), (1114, "timestamp"), (1184, "timestamptz"), (1700, "numeric"), (2950, "uuid")):

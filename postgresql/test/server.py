@@ -61,21 +61,38 @@ class Server:
         data = self.room / "data"
         subprocess.run(self.command(self.folder / "initdb", "-D", data, "-U", "postgres", "--auth=trust", "--encoding=UTF8", "--locale=C.UTF-8", "--no-sync",
                                     "--locale-provider=icu", "--icu-locale=en"), check=True, stdout=subprocess.DEVNULL, stderr=subprocess.DEVNULL, cwd="/")
+        self.start()
+        return self
+
+    def start(self) -> None:
+        data = self.room / "data"
         words = [word for name, value in self.settings.items() for word in ("-c", f"{name}={value}")]
         with (self.room / "log").open("a") as log:
             self.process = subprocess.Popen(self.command(self.folder / "postgres", "-D", data, *words), stdout=log, stderr=log, cwd="/")
         end = time.monotonic() + PATIENCE
         while time.monotonic() < end and self.process.poll() is None:
             if subprocess.run([self.folder / "pg_isready", "-q", "-h", "127.0.0.1", "-p", str(self.port)]).returncode == 0:
-                return self
+                return
             time.sleep(0.1)
         raise RuntimeError((self.room / "log").read_text())
 
     def __exit__(self, kind: type[BaseException] | None, error: BaseException | None, trace: TracebackType | None) -> None:
-        if self.process:
-            subprocess.run(self.command(self.folder / "pg_ctl", "-D", self.room / "data", "-m", "immediate", "-t", str(int(PATIENCE)), "stop"), stdout=subprocess.DEVNULL, stderr=subprocess.DEVNULL, cwd="/")
-            self.process.wait()
+        self.stop("immediate")
         shutil.rmtree(self.room, ignore_errors=True)
+
+    def stop(self, how: str) -> None:
+        """`fast` is in order, and `immediate` a crash."""
+        if self.process:
+            subprocess.run(self.command(self.folder / "pg_ctl", "-D", self.room / "data", "-m", how, "-t", str(int(PATIENCE)), "stop"), stdout=subprocess.DEVNULL, stderr=subprocess.DEVNULL, cwd="/")
+            self.process.wait()
+
+    def put_back(self, data: pathlib.Path) -> None:
+        """An older copy of the server's folder, while it is stopped."""
+        shutil.rmtree(self.room / "data")
+        shutil.move(data, self.room / "data")
+        if os.getuid() == 0:
+            subprocess.run(["chown", "-R", "postgres", self.room / "data"], check=True)
+        os.chmod(self.room / "data", 0o700)
 
     def dsn(self, user: str = "postgres", database: str = "postgres") -> str:
         return f"host=127.0.0.1 port={self.port} user={user} dbname={database}"

@@ -107,7 +107,8 @@ class Program(Base):
         self.assertEqual((done.returncode, done.stderr), (1, "viewd-postgresql: left out: public_notes; check says why\n"))
         self.assertEqual(path.stat().st_mode & 0o777, 0o600)
         self.assertIn('other_notes = "other.notes"\n# public_notes = "public.notes": column doc: viewd has no type jsonb\n', path.read_text())
-        self.assertEqual(self.desk.program("init", str(path)).returncode, 2)
+        again = self.desk.program("init", str(path))
+        self.assertEqual((again.returncode, again.stderr), (2, f"viewd-postgresql: {path} is there already\n"))
         self.assertIn('{"session":1,"do":"create_table","name":"other_notes"', self.desk.program("show", config=path.read_text(), dsn="").stdout)
         shown = Shown(self.desk.program("show", config='[relations]\nnotes = "public.notes"\n[columns]\nnotes = ["who"]').stdout, ())
         self.assertEqual([it for it in shown.told if it["do"] == "write"], [{"session": 1, "do": "write", "entries": [

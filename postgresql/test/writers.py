@@ -65,12 +65,16 @@ class Writer:
     """What PostgreSQL refuses is rolled back."""
 
     def __init__(self, dsn: str, seed: int, forms: bool):
-        self.connection = psycopg2.connect(dsn)
+        self.dsn = dsn
+        self.connect()
+        self.r, self.forms = random.Random(seed), forms
+        self.counts: Counter[str] = Counter()
+
+    def connect(self) -> None:
+        self.connection = psycopg2.connect(self.dsn)
         self.connection.autocommit = True
         self.cursor = self.connection.cursor()
         self.cursor.execute("set lock_timeout = '2s'; set client_min_messages = error")
-        self.r, self.forms = random.Random(seed), forms
-        self.counts: Counter[str] = Counter()
 
     def role(self) -> str:
         return self.r.choice(FIXED + CHURN)
@@ -147,7 +151,8 @@ class Writer:
             self.cursor.execute("rollback" if r.random() < 0.12 else "commit")
         except psycopg2.Error:
             self.counts["refused"] += 1
-            self.cursor.execute("rollback")
+            if not self.connection.closed:
+                self.cursor.execute("rollback")
 
     def savepoint(self, statement: str) -> None:
         self.cursor.execute("savepoint s")
@@ -162,7 +167,12 @@ class Writer:
         for _ in range(most):
             if stop.is_set():
                 break
-            self.transaction()
+            try:
+                if self.connection.closed:
+                    self.connect()
+                self.transaction()
+            except (psycopg2.OperationalError, psycopg2.InterfaceError):  # the server was stopped
+                time.sleep(0.05)
 
     def play(self, text: str, stop: threading.Event) -> None:
         """A scene again and again: `|` parts statements of one transaction, `;` transactions; %n is a number that comes once."""

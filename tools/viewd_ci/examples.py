@@ -179,7 +179,7 @@ def compare_statuses() -> None:
         counts = 1 if words[0] == "replay" else 2
         expect(f"what {words} say of --lines and --connections", counts, written.count(b"[default: 1000000]"))
     status, written, told = run(["--version"], input=first, stdout=subprocess.PIPE)
-    expect("the words ['--version']", (0, b"viewd 0.1.0\n", b""), (status, written, told))
+    expect("the words ['--version']", (0, b"viewd 1.0.0\n", b""), (status, written, told))
     folder = os.open(TOP, os.O_RDONLY)
     expect("a folder as standard input", (2, b"", b"viewd: read failed\n"), run(["replay"], stdin=folder, stdout=subprocess.PIPE))
     with open("/dev/full", "wb") as full:

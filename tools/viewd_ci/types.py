@@ -13,7 +13,7 @@ from viewd_ci.common import TOP
 
 VERSION = "mypy 1.0."
 # what the programs of a folder import from another
-BESIDE = {"packaging": "../frontend/test"}
+BESIDE = {"packaging": "../frontend/test", "postgresql": "../frontend:../frontend/test"}
 STUBS = "/usr/lib/python3/dist-packages/psycopg2-stubs"
 
 

@@ -13,4 +13,4 @@ from .faults import NotSent, Refused, Undecided, ViewdError
 from .rows import Change, Changes, Columns, Live, Row, Value
 
 __all__ = ["Change", "Changes", "Columns", "Db", "Live", "NotSent", "Refused", "Row", "Undecided", "Value", "ViewdError", "connect", "plain"]
-__version__ = "0.1.0"
+__version__ = "1.0.0"

@@ -7,4 +7,4 @@ mod tokens;
 
 pub use admission::Admission;
 pub use scout::{Found, Scout};
-pub use tokens::open_tokens;
+pub use tokens::{no_secret, open_tokens};

@@ -24,7 +24,7 @@ fn say_tokens(rt: &HostRuntime, fault: &TokenFault) {
 }
 
 /// Says why a secret is not usable. The status to exit with.
-fn no_secret(rt: &HostRuntime, path: &str, fault: &SecretFault) -> u8 {
+pub fn no_secret(rt: &HostRuntime, path: &str, fault: &SecretFault) -> u8 {
     let _ = match fault {
         SecretFault::System(error) => eprintln!(rt; "gateway: {path}: {error}"),
         SecretFault::Short => eprintln!(rt; "gateway: {path}: a secret has 32 bytes or more"),

@@ -16,7 +16,7 @@ use std::process::ExitCode;
 use std::{env, io};
 
 /// The program's version.
-const VERSION: &str = "0.1.0";
+const VERSION: &str = "1.0.0";
 
 /// What `--help` tells at its end: examples, what a status means, and who may connect.
 const MORE: &str = "Examples:

@@ -12,4 +12,4 @@ pub use asking::{Asked, Speaker, answer_text, ask_of, first_reply, is_done, spea
 pub use entering::{place_text, push_entry, push_name, push_shape};
 pub use learning::{are_writes, facts_of, learn};
 pub use steps::{Log, Step, read_step};
-pub use tally::{KINDS, Tally};
+pub use tally::{KINDS, Tally, number_of};

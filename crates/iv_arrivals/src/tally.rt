@@ -2,10 +2,10 @@
 ghost use Rattle.std.specs.Prelude.{◌≡◌, ℕ, None, Some, codes, nat_lt, option_map, slice_get, true};
 ghost use Rattle.serde_json.specs.Data.{object, string};
 ghost use Rattle.serde_json.specs.Find.{get};
-ghost use Rattle.iv_command.specs.Views.{act_of, reply_of};
+ghost use Rattle.iv_command.specs.Views.{act_of, refusal_of, reply_of};
 ghost use Rattle.iv_request.specs.Asked.{act_data};
 ghost use Rattle.iv_request.specs.Values.{natural};
-ghost use Rattle.iv_lines.specs.Texts.{reply_members};
+ghost use Rattle.iv_lines.specs.Texts.{refused_members, reply_members};
 ghost use Rattle.iv_arrivals.specs.Tallied.{one_more};
 
 use iv_command::{Act, Refusal, Reply};
@@ -62,31 +62,40 @@ fn kind_of(act: &Act) -> usize
     }
 }
 
+/// The number by which a refusal is told.
+pub fn number_of(refusal: &Refusal) -> usize
+    ensures { get (codes "error") (object (refused_members (refusal_of refusal.now))) ≡ Some (natural result) }
+{
+    match refusal {
+        Refusal::NoSession => 3,
+        Refusal::SessionInUse => 4,
+        Refusal::UnknownRole => 5,
+        Refusal::NameTaken => 6,
+        Refusal::UnknownRelation => 7,
+        Refusal::NotATable => 8,
+        Refusal::BadRow { .. } => 9,
+        Refusal::BadQuery { .. } => 10,
+        Refusal::NotAdministrator => 11,
+        Refusal::NotOwner { .. } => 12,
+        Refusal::MissingPrivilege { .. } => 13,
+        Refusal::NoPermissive { .. } => 14,
+        Refusal::RestrictiveFailed { .. } => 15,
+        Refusal::NoSuchRow { .. } => 16,
+        Refusal::Limit => 17,
+        Refusal::UnknownPolicy => 18,
+        Refusal::UnknownSubscription => 19,
+        Refusal::TooMany => 20,
+        Refusal::MembershipLoop => 23,
+    }
+}
+
 /// The number that a reply has at `error`, if it is a refusal.
 fn number_in(reply: &Reply) -> Option<usize>
     ensures { option_map natural result ≡ get (codes "error") (object (reply_members (reply_of reply.now))) }
 {
     match reply {
         Reply::Ok | Reply::Subscribed(_) => None,
-        Reply::Refused(Refusal::NoSession) => Some(3),
-        Reply::Refused(Refusal::SessionInUse) => Some(4),
-        Reply::Refused(Refusal::UnknownRole) => Some(5),
-        Reply::Refused(Refusal::NameTaken) => Some(6),
-        Reply::Refused(Refusal::UnknownRelation) => Some(7),
-        Reply::Refused(Refusal::NotATable) => Some(8),
-        Reply::Refused(Refusal::BadRow { .. }) => Some(9),
-        Reply::Refused(Refusal::BadQuery { .. }) => Some(10),
-        Reply::Refused(Refusal::NotAdministrator) => Some(11),
-        Reply::Refused(Refusal::NotOwner { .. }) => Some(12),
-        Reply::Refused(Refusal::MissingPrivilege { .. }) => Some(13),
-        Reply::Refused(Refusal::NoPermissive { .. }) => Some(14),
-        Reply::Refused(Refusal::RestrictiveFailed { .. }) => Some(15),
-        Reply::Refused(Refusal::NoSuchRow { .. }) => Some(16),
-        Reply::Refused(Refusal::Limit) => Some(17),
-        Reply::Refused(Refusal::UnknownPolicy) => Some(18),
-        Reply::Refused(Refusal::UnknownSubscription) => Some(19),
-        Reply::Refused(Refusal::TooMany) => Some(20),
-        Reply::Refused(Refusal::MembershipLoop) => Some(23),
+        Reply::Refused(refusal) => Some(number_of(refusal)),
     }
 }
 

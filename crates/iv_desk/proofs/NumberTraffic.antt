@@ -12,6 +12,7 @@ use Rattle.iv_access.specs.Rights.{Name}
 use Rattle.iv_clients.specs.Clients.{Client, Shown, at_client, client_at, fresh, handing, is_free, may_say, saying, text_shown}
 use Rattle.iv_clients.specs.Feeds.{seat_of}
 use Rattle.iv_clients.specs.Tokens.{Token, role_opened, token_of}
+use Rattle.iv_gate.specs.Arriving.{Step}
 use Rattle.iv_gate.specs.Events.{Event, IsWell, arrived, failed, forgave, gone, handed, known, message, next, presented, synced, ticked}
 use Rattle.iv_gate.specs.Gate.{Gate, begun_for, came, at_text, has_session, is_heard, seated, token_for, with_session}
 use Rattle.iv_gate.specs.Laws.{HoldAlways, marked}
@@ -23,7 +24,7 @@ use Rattle.iv_peer.specs.Socket as socket
 use Rattle.iv_peer.specs.Hearing.{Hears, accepts, refuses_other, refuses_bad, refuses_long, frames, fails}
 use Rattle.iv_peer.specs.Lives.{Lives, listed}
 use Rattle.iv_peer.specs.Lives as life
-use Rattle.iv_desk.specs.Front.{Front, FrontRuns, Happens, HearsAt, at_socket, begins, begun, by_event, closes, dismisses, fails as front_fails, forgives, front_at_start}
+use Rattle.iv_desk.specs.Front.{Front, FrontRuns, Happens, HearsAt, arrives, at_socket, begins, begun, by_event, closes, dismisses, fails as front_fails, forgives, front_at_start}
 use Rattle.iv_desk.specs.Front.{goes_on, has_presented, hears, knows, leaves, left, let_go, let_in, later_text, no_text, first_text, nothing, offered}
 use Rattle.iv_desk.specs.Front.{offered_to, offers, put_off, sends, socket_at, starts, syncs, takes, text_for, ticks, told_some, turned_away, with_both}
 use Rattle.iv_desk.specs.Front.{is_dropped}
@@ -71,6 +72,9 @@ ticked_comes n token e = cc e
 
 forgave_comes : (n : ℕ) (token : List ℕ) → forgave ≡ presented n token → ⊥
 forgave_comes n token e = cc e
+
+arrived_comes : (s : Step) (n : ℕ) (token : List ℕ) → arrived s ≡ presented n token → ⊥
+arrived_comes s n token e = cc e
 
 synced_comes : (n : ℕ) (token : List ℕ) → synced ≡ presented n token → ⊥
 synced_comes n token e = cc e
@@ -590,6 +594,9 @@ happens_living l cap d _ a v syncs =
 happens_living l cap d _ a v (knows tokens) =
     event_living cap d (known tokens) tt v (λ n. stays_same d.gate (known tokens) n (event_touches l cap d.gate (known tokens) tt v.runs a)
     (does_not_go n (known tokens) refl) (λ c. refl) (known_comes tokens n))
+happens_living l cap d _ a v (arrives s w) =
+    event_living cap d (arrived s) w v (λ n. stays_same d.gate (arrived s) n (event_touches l cap d.gate (arrived s) w v.runs a) (does_not_go n (arrived s) refl) (λ c. refl)
+    (arrived_comes s n))
 happens_living l cap d _ a v ticks =
     event_living cap d ticked tt v (λ n. stays_same d.gate ticked n (event_touches l cap d.gate ticked tt v.runs a) (does_not_go n ticked refl) (λ c. refl)
     (ticked_comes n))

@@ -1,4 +1,4 @@
--- What the contracts of a desk's calls name leads from a run to a run.
+-- What the contracts of a desk's calls name goes on from a front, and what goes on from a run is one.
 use Rattle.std.proofs.Common.{◌≡◌, ℕ, Bool, true, false, cond, List, [], ◌∷◌, Option, Some, None, refl, ap, ◌∙◌, sym, subst}
 use Rattle.iv_rows.specs.Options.{if_some}
 use Rattle.iv_clients.specs.Clients.{Shown, client_at}
@@ -8,8 +8,8 @@ use Rattle.iv_gate.specs.Restoring.{Restores, gate_at_start}
 use Rattle.iv_gate.specs.Runs.{Runs}
 use Rattle.iv_journal.specs.Journal.{Line}
 use Rattle.iv_peer.specs.Socket.{Socket}
-use Rattle.iv_desk.specs.Front.{Front, FrontRuns, at_socket, dismissed, dismisses, front_at_start, goes_on, hears, is_dropped, offered, offered_to, offers}
-use Rattle.iv_desk.specs.Front.{socket_at, starts, turned_away, with_both}
+use Rattle.iv_desk.specs.Front.{Front, FrontRuns, GoesOn, at_socket, closes, dismissed, dismisses, front_at_start, goes_on, hears, is_dropped, offered, offered_to, offers}
+use Rattle.iv_desk.specs.Front.{socket_at, starts, stays, then_closes, then_happens, turned_away, with_both}
 use Rattle.iv_desk.specs.Desks.{IsHeardBy, at_each}
 use Rattle.iv_desk.specs.declared.place.Hearing.{Hearing}
 use Rattle.iv_desk.proofs.Slots.{client_at-replicate}
@@ -20,13 +20,18 @@ pub FrontRuns-Restores : (cap most places : ℕ) (tokens : List Token) (head : H
     → FrontRuns cap (front_at_start g places)
 FrontRuns-Restores cap most places tokens head sent journal g r runs = starts g places runs (λ m. ap (λ (x : Gate). client_at x.clients m) r.leads.gate ∙ client_at-replicate most m)
 
-pub FrontRuns-IsHeardBy : (cap m : ℕ) (d e : Front) (hearing : Hearing) → FrontRuns cap d → d.gate.dead ≡ false → IsHeardBy d m (socket_at d m) hearing e
-    → FrontRuns cap e
-FrontRuns-IsHeardBy cap m d e hearing r a h = by (socket_at d m) refl h
+-- what goes on from a run is one
+pub FrontRuns-GoesOn : (cap : ℕ) (d e : Front) → FrontRuns cap d → GoesOn d e → FrontRuns cap e
+FrontRuns-GoesOn cap d e r stays = r
+FrontRuns-GoesOn cap d e r (then_happens b f g a h) = goes_on b f (FrontRuns-GoesOn cap d b r g) a h
+FrontRuns-GoesOn cap d e r (then_closes b m code words g a t) = closes b m code words (FrontRuns-GoesOn cap d b r g) a t
+
+pub GoesOn-IsHeardBy : (m : ℕ) (d e : Front) (hearing : Hearing) → d.gate.dead ≡ false → IsHeardBy d m (socket_at d m) hearing e → GoesOn d e
+GoesOn-IsHeardBy m d e hearing a h = by (socket_at d m) refl h
   where
-    by : (o : Option Socket) → socket_at d m ≡ o → IsHeardBy d m o hearing e → FrontRuns cap e
-    by None k h = subst (FrontRuns cap) (sym h.1) r
-    by (Some s) k h = subst (FrontRuns cap) (sym h.4) (goes_on d (with_both m h.0 h.1 d) r a (hears m s h.1 h.0 k h.2))
+    by : (o : Option Socket) → socket_at d m ≡ o → IsHeardBy d m o hearing e → GoesOn d e
+    by None k h = subst (GoesOn d) (sym h.1) stays
+    by (Some s) k h = subst (GoesOn d) (sym h.4) (then_happens d (with_both m h.0 h.1 d) stays a (hears m s h.1 h.0 k h.2))
 
 pub dead-offered : LeavesMarks → (m : ℕ) (d : Front) → d.gate.dead ≡ false → (offered m d).gate.dead ≡ false
 dead-offered k m d a = by (socket_at d m)
@@ -35,13 +40,13 @@ dead-offered k m d a = by (socket_at d m)
     by None = a
     by (Some s) = dead-offered_to k d.gate m s a
 
-pub FrontRuns-offered : LeavesMarks → (cap : ℕ) (ms : List ℕ) (d : Front) → FrontRuns cap d → d.gate.dead ≡ false → FrontRuns cap (at_each offered ms d)
-FrontRuns-offered k cap [] d r a = r
-FrontRuns-offered k cap (m ∷ ms) d r a = FrontRuns-offered k cap ms (offered m d) (goes_on d (offered m d) r a (offers m)) (dead-offered k m d a)
+pub GoesOn-offered : LeavesMarks → (b : Front) (ms : List ℕ) (d : Front) → GoesOn b d → d.gate.dead ≡ false → GoesOn b (at_each offered ms d)
+GoesOn-offered k b [] d g a = g
+GoesOn-offered k b (m ∷ ms) d g a = GoesOn-offered k b ms (offered m d) (then_happens d (offered m d) g a (offers m)) (dead-offered k m d a)
 
-pub FrontRuns-dismissed : (cap : ℕ) (ms : List ℕ) (d : Front) → FrontRuns cap d → d.gate.dead ≡ false → FrontRuns cap (at_each dismissed ms d)
-FrontRuns-dismissed cap [] d r a = r
-FrontRuns-dismissed cap (m ∷ ms) d r a = FrontRuns-dismissed cap ms (dismissed m d) (goes_on d (dismissed m d) r a (dismisses m)) (by (is_dropped d.gate m))
+pub GoesOn-dismissed : (b : Front) (ms : List ℕ) (d : Front) → GoesOn b d → d.gate.dead ≡ false → GoesOn b (at_each dismissed ms d)
+GoesOn-dismissed b [] d g a = g
+GoesOn-dismissed b (m ∷ ms) d g a = GoesOn-dismissed b ms (dismissed m d) (then_happens d (dismissed m d) g a (dismisses m)) (by (is_dropped d.gate m))
   where
     by : (b : Bool) → (cond b (at_socket m turned_away d) d).gate.dead ≡ false
     by true = a

@@ -5,7 +5,8 @@ use Rattle.sha2.specs.Sha256.{sha256}
 use Rattle.iv_rows.specs.Options.{if_some}
 use Rattle.iv_clients.specs.Clients.{at_client, client_at, is_free, text_shown}
 use Rattle.iv_clients.specs.Tokens.{Token, role_opened}
-use Rattle.iv_gate.specs.Events.{Event, failed, forgave, gone, handed, known, message, next, presented, synced, ticked}
+use Rattle.iv_gate.specs.Arriving.{Step}
+use Rattle.iv_gate.specs.Events.{Event, IsWell, arrived, failed, forgave, gone, handed, known, message, next, presented, synced, ticked}
 use Rattle.iv_gate.specs.Gate.{Gate, is_heard, token_for}
 use Rattle.iv_gate.specs.Runs.{Runs}
 use Rattle.iv_peer.specs.Socket.{Socket, closed, fresh, is_open, passing, told_text, took}
@@ -136,6 +137,7 @@ pub data Happens (d : Front) : Front → Type 0 where
   leaves : (m : ℕ) → Happens d (left m d)
   syncs : Happens d (by_event synced d)
   knows : (tokens : List Token) → Happens d (by_event (known tokens) d)
+  arrives : (s : Step) → IsWell (arrived s) → Happens d (by_event (arrived s) d)
   ticks : Happens d (by_event ticked d)
   forgives : Happens d (by_event forgave d)
   fails : Happens d (by_event failed d)
@@ -147,3 +149,10 @@ pub data FrontRuns (cap : ℕ) : Front → Type 0 where
   goes_on : (d e : Front) → FrontRuns cap d → d.gate.dead ≡ false → Happens d e → FrontRuns cap e
   closes : (d : Front) (m code : ℕ) (words : List ℕ) → FrontRuns cap d → d.gate.dead ≡ false → may_tell code words ≡ true
       → FrontRuns cap (at_socket m (closed code words) d)
+
+-- where a front goes on to: nowhere, or while it is alive anything happens, and sockets are closed from outside
+pub data GoesOn (d : Front) : Front → Type 0 where
+  stays : GoesOn d d
+  then_happens : (e f : Front) → GoesOn d e → e.gate.dead ≡ false → Happens e f → GoesOn d f
+  then_closes : (e : Front) (m code : ℕ) (words : List ℕ) → GoesOn d e → e.gate.dead ≡ false → may_tell code words ≡ true
+      → GoesOn d (at_socket m (closed code words) e)

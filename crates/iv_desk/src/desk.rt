@@ -1,10 +1,12 @@
 //! `Desk`: the peers by their numbers, and the gateway whose clients have the same numbers.
-ghost use Rattle.std.specs.Prelude.{◌≡◌, ◌++◌, ℕ, [], Err, IfOk, OnErr, OnOk, drop, false, option_map, take, true};
+ghost use Rattle.std.specs.Prelude.{◌≡◌, ◌++◌, ℕ, [], Err, IfErr, IfOk, OnErr, OnOk, drop, false, option_map, take, true};
 ghost use Rattle.iv_clients.specs.Clients.{client_at, is_free};
 ghost use Rattle.iv_records.specs.Journal.{journal_of};
-ghost use Rattle.iv_gate.specs.Events.{failed, forgave, known, synced, ticked};
+ghost use Rattle.iv_gate.specs.Arriving.{settled_at};
+ghost use Rattle.iv_gate.specs.Events.{IsWell, arrived, failed, forgave, known, synced, ticked};
 ghost use Rattle.iv_gate.specs.Gate.{Gate};
 ghost use Rattle.iv_gate.specs.Restoring.{IsDamagedAt};
+ghost use Rattle.iv_gateway.specs.Arriving.{IsFaultOf, IsTakenBy};
 ghost use Rattle.iv_gateway.specs.Replays.{IsNew};
 ghost use Rattle.iv_gateway.specs.Views.{IsGate};
 ghost use Rattle.iv_gateway.specs.Waiting.{WaitsWithin};
@@ -16,10 +18,10 @@ use crate::place::{Hearing, Place};
 use crate::places::{
     close_at, dismiss_told, empty_places, hear_at, is_free, offer_told, pass_at, put_at, read_at,
 };
-use iv_arrivals::Tally;
+use iv_arrivals::{Step, Tally};
 use iv_clients::Token;
 use iv_gate::laws::events_leave_their_marks;
-use iv_gateway::{Gateway, GatewayFault, Journal, RestoreFault};
+use iv_gateway::{Gateway, GatewayFault, Journal, RestoreFault, StepFault};
 use iv_journal::Line;
 use iv_records::OwnedLine;
 use std::alloc::{AllocError, Global};
@@ -217,6 +219,32 @@ impl Desk {
         }
     }
 
+    /// Takes a step of the log that is followed, of which its clients are told once what differs. Whether it was not taken before.
+    ///
+    /// # Errors
+    /// Why it is not taken. The desk is dead then.
+    pub fn take_step(&mut self, step: Step) -> Result<bool, StepFault>
+        requires { IsWell (arrived step) }
+        ensures front { OnOk result ((d : Front) → IsDesk d self.old → IsDesk (by_event (arrived step) d) self.new) }
+        ensures taken { IfOk result (λ is. (d : Front) → IsDesk d self.old → d.gate.dead ≡ false → IsTakenBy d.gate step is) }
+        ensures fault { IfErr result (λ f. (d : Front) → IsDesk d self.old → d.gate.dead ≡ false → IsFaultOf d.gate step f) }
+        ensures fails { OnErr result ((d : Front) → IsDesk d self.old → IsDesk (by_event failed d) self.new) }
+        ensures dead { (d : Front) → IsDesk d self.old → d.gate.dead ≡ true → result ≡ Err StepFault.Dead }
+    {
+        if self.dead {
+            drop(step);
+            return Err(StepFault::Dead);
+        }
+        events_leave_their_marks();
+        match self.gateway.take_step(step) {
+            Ok(is) => Ok(is),
+            Err(fault) => {
+                self.dead = true;
+                Err(fault)
+            }
+        }
+    }
+
     /// Tells all clients that the line is alive.
     ///
     /// # Errors
@@ -303,6 +331,13 @@ impl Desk {
         ensures { (d : Front) → IsDesk d self.now → d.gate.dead ≡ false → WaitsWithin d.gate result }
     {
         self.gateway.waiting()
+    }
+
+    /// Up to where the log that is followed is on disk: what its source is to be told, and nothing beyond it.
+    pub fn settled_at(&self) -> u64
+        ensures { (d : Front) → IsDesk d self.now → d.gate.dead ≡ false → result ≡ settled_at d.gate }
+    {
+        self.gateway.settled_at()
     }
 
     /// What is counted of messages since the start.

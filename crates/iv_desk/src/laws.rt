@@ -6,7 +6,7 @@ ghost use Rattle.iv_gate.specs.Gate.{Gate, Head};
 ghost use Rattle.iv_gate.specs.Restoring.{Restores, gate_at_start};
 ghost use Rattle.iv_gate.specs.Runs.{Runs};
 ghost use Rattle.iv_journal.specs.Journal.{Line};
-ghost use Rattle.iv_desk.specs.Front.{Front, FrontRuns, dismissed, front_at_start, offered, socket_at};
+ghost use Rattle.iv_desk.specs.Front.{Front, FrontRuns, GoesOn, dismissed, front_at_start, offered, socket_at};
 ghost use Rattle.iv_desk.specs.Served.{BrowsersAreTold};
 ghost use Rattle.iv_desk.specs.Progress.{HeldAreFreed};
 ghost use Rattle.iv_desk.specs.Causes.{ClosesForCause};
@@ -51,15 +51,16 @@ pub fn sockets_are_closed_for_cause()
     told_texts_are_lines();
 }
 
-/// What the contracts of a desk's calls name leads from a run to a run: to restore, to hear all that a number says, to offer to each of
-/// some numbers what it may be sent, and to close each of some whose token opens its role no more. The other calls are steps themselves.
+/// What the contracts of a desk's calls name goes on from a front that is alive: to hear all that a number says, to offer to each of some
+/// numbers what it may be sent, and to close each of some whose token opens its role no more. The other calls are steps themselves. And
+/// what goes on from a run is one; a gateway that was restored begins one.
 pub fn calls_lead_from_runs_to_runs()
     ensures restores { (cap most places : ℕ) (tokens : List Token) (head : Head) (sent : List Shown) (journal : List Line) (g : Gate)
         → Restores (gate_at_start cap tokens most head sent) journal g → Runs cap g → FrontRuns cap (front_at_start g places) }
-    ensures hears { (cap m : ℕ) (d e : Front) (hearing : Hearing) → FrontRuns cap d → d.gate.dead ≡ false
-        → IsHeardBy d m (socket_at d m) hearing e → FrontRuns cap e }
-    ensures offers { (cap : ℕ) (ms : List ℕ) (d : Front) → FrontRuns cap d → d.gate.dead ≡ false → FrontRuns cap (at_each offered ms d) }
-    ensures dismisses { (cap : ℕ) (ms : List ℕ) (d : Front) → FrontRuns cap d → d.gate.dead ≡ false → FrontRuns cap (at_each dismissed ms d) }
+    ensures runs { (cap : ℕ) (d e : Front) → FrontRuns cap d → GoesOn d e → FrontRuns cap e }
+    ensures hears { (m : ℕ) (d e : Front) (hearing : Hearing) → d.gate.dead ≡ false → IsHeardBy d m (socket_at d m) hearing e → GoesOn d e }
+    ensures offers { (ms : List ℕ) (d : Front) → d.gate.dead ≡ false → GoesOn d (at_each offered ms d) }
+    ensures dismisses { (ms : List ℕ) (d : Front) → d.gate.dead ≡ false → GoesOn d (at_each dismissed ms d) }
 {
     events_leave_their_marks();
 }

@@ -61,13 +61,16 @@ module _ (d : Database) (h : IsDatabase d) where
   abbrev pub has_in : ℕ → Name → Bool
   has_in role name = if_some (named d.catalog name) false (λ e. has_any d.known.rights role e.rel)
 
-  pub has_by_name : (role : ℕ) (name : Name) → has_named d.known role name ≡ has_in role name
-  has_by_name role name = by (relation_of d.known.relations name) refl
+  -- what is asked of the relation that the rights have under a name is asked of the catalog's
+  pub asked_by_name : (ask : ℕ → Bool) (name : Name) → if_some (relation_of d.known.relations name) false ask ≡ if_some (named d.catalog name) false (λ e. ask e.rel)
+  asked_by_name ask name = by (relation_of d.known.relations name) refl
     where
-      by : (o : Option ℕ) → relation_of d.known.relations name ≡ o → if_some o false (has_any d.known.rights role) ≡ has_in role name
-      by None n = by_none false (λ e. has_any d.known.rights role e.rel) name (sym n)
-      by (Some k) n = let x = known d h name k n in
-          ap (has_any d.known.rights role) (sym x.1.placed) ∙ sym (ap (λ o. if_some o false (λ e. has_any d.known.rights role e.rel)) x.1.named)
+      by : (o : Option ℕ) → relation_of d.known.relations name ≡ o → if_some o false ask ≡ if_some (named d.catalog name) false (λ e. ask e.rel)
+      by None n = by_none false (λ e. ask e.rel) name (sym n)
+      by (Some k) n = let x = known d h name k n in ap ask (sym x.1.placed) ∙ sym (ap (λ o. if_some o false (λ e. ask e.rel)) x.1.named)
+
+  pub has_by_name : (role : ℕ) (name : Name) → has_named d.known role name ≡ has_in role name
+  has_by_name role = asked_by_name (has_any d.known.rights role)
 
   same_names : names d.known.relations ≡ map (λ e. e.name) d.catalog
   same_names = ap names h.relations ∙ map-map (λ (r : Relation). r.name) relation_in d.catalog

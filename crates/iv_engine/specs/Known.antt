@@ -6,6 +6,7 @@ use Rattle.iv_rows.specs.Options.{if_some}
 use Rattle.iv_bind.specs.Catalogs.{columns_of, named}
 use Rattle.iv_access.specs.Privileges.{acts_as, has, role_of}
 use Rattle.iv_access.specs.Rights.{Name, Rights}
+use Rattle.iv_access.specs.declared.privilege.Privilege.{Privilege}
 use Rattle.iv_access.specs.declared.privilege.Privilege.TheVariants.{Select, Insert, Update, Delete}
 use Rattle.iv_machine.specs.State.{Frame}
 
@@ -20,6 +21,10 @@ has_any r role rel = list_any (λ p. has r role p rel) (Select ∷ Insert ∷ Up
 -- the role has some privilege on the relation (PostgreSQL 16, Privileges)
 abbrev pub has_some : Frame → Name → Name → Bool
 has_some f role rel = if_some (role_of f.rights role) false (λ r. if_some (named f.catalog rel) false (λ e. has_any f.rights r e.rel))
+
+-- the role has the privilege on the relation (PostgreSQL 16, Privileges)
+abbrev pub has_on : Frame → Name → Privilege → Name → Bool
+has_on f role p rel = if_some (role_of f.rights role) false (λ r. if_some (named f.catalog rel) false (λ e. has f.rights r p e.rel))
 
 -- the role is the other, or a member of it (PostgreSQL 16, Role Membership)
 abbrev pub is_member : Frame → Name → Name → Bool

@@ -6,8 +6,8 @@ ghost use Rattle.std.specs.Prelude.{◌≡◌, [], IfOk, false, filter, is_some,
 ghost use Rattle.iv_access.specs.Privileges.{role_of};
 ghost use Rattle.iv_bind.specs.Catalogs.{columns_of, numbered};
 ghost use Rattle.iv_rows.specs.Options.{if_some};
-ghost use Rattle.iv_engine.specs.Known.{columns_named, has_any, has_some, is_member, relations_with};
-ghost use Rattle.iv_engine.specs.Looked.{has_named};
+ghost use Rattle.iv_engine.specs.Known.{columns_named, has_any, has_on, has_some, is_member, relations_with};
+ghost use Rattle.iv_engine.specs.Looked.{has_named, has_one};
 
 use crate::engine::Engine;
 use iv_access::{Access, Privilege, RoleId};
@@ -44,6 +44,16 @@ fn has_named(access: &Access, role: RoleId, rel: &str) -> bool
 {
     match access.relation(rel) {
         Some(rel) => has_any(access, role, rel),
+        None => false,
+    }
+}
+
+/// Whether the role has the privilege on the relation of a name.
+fn has_one(access: &Access, role: RoleId, privilege: Privilege, rel: &str) -> bool
+    ensures { result ≡ has_one access.now role.0 privilege rel.now }
+{
+    match access.relation(rel) {
+        Some(rel) => access.has(role, privilege, rel),
         None => false,
     }
 }
@@ -108,6 +118,19 @@ impl Engine {
         let access = self.store.database.access();
         match access.role(role) {
             Some(role) => has_named(access, role, rel),
+            None => false,
+        }
+    }
+
+    /// Whether the role has the privilege on the relation: `admin` has each. It takes no memory.
+    ///
+    /// Source: PostgreSQL 16, Privileges.
+    pub fn has(&self, role: &str, privilege: Privilege, rel: &str) -> bool
+        ensures { self.now.failed ≡ false → result ≡ has_on self.now.frame role.now privilege rel.now }
+    {
+        let access = self.store.database.access();
+        match access.role(role) {
+            Some(role) => has_one(access, role, privilege, rel),
             None => false,
         }
     }

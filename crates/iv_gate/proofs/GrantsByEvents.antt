@@ -41,7 +41,8 @@ use Rattle.iv_gate.proofs.SessionFacts.{Sits, at_all_swept, at_done, at_with}
 use Rattle.iv_gate.proofs.SoundCommands.{Adds, IsSoundGate, Sounds}
 use Rattle.iv_gate.proofs.EventMarks.{came_as}
 use Rattle.iv_steps.specs.Steps.{Fact, all_carried, among, carried, is_shared, looked_at, shared, stepped, passed}
-use Rattle.iv_gate.specs.Arriving.{Step, entry_of, fact_of, fault_of, was_taken, landed, newly, takes}
+use Rattle.iv_gate.specs.Arriving.{Step, entry_of, fact_of, fault_of, was_taken, landed, gains, newly, takes}
+use Rattle.iv_gate.proofs.NewPrivileges.{has_some-gains}
 
 -- ---- the superuser stays the first role
 
@@ -210,18 +211,16 @@ module _ (adds : Adds) (starts : Starts) (sounds : Sounds) (gives : GrantsGive) 
       (calm_all (next g e).machine.frame c.role a.back a.calm.1)))
 
   -- what a step grants it has after it
-  newly_true : (before behind : Frame) (names : List Name)
-      → AllByRecursion (λ rel. has_some behind c.role rel ≡ true) (filter (λ rel. has_some behind c.role rel && not (has_some before c.role rel)) names)
+  newly_true : (before behind : Frame) (names : List Name) → AllByRecursion (λ rel. has_some behind c.role rel ≡ true) (filter (gains before behind c.role) names)
   newly_true before behind [] = tt
-  newly_true before behind (n ∷ names) = by (has_some behind c.role n) (has_some before c.role n) refl (newly_true before behind names)
+  newly_true before behind (n ∷ names) = by (gains before behind c.role n) refl (newly_true before behind names)
     where
       rest : List Name
-      rest = filter (λ rel. has_some behind c.role rel && not (has_some before c.role rel)) names
+      rest = filter (gains before behind c.role) names
 
-      by : (x y : Bool) → has_some behind c.role n ≡ x → AllByRecursion (λ rel. has_some behind c.role rel ≡ true) rest → AllByRecursion (λ rel. has_some behind c.role rel ≡ true) (cond (x && not y) (n ∷ rest) rest)
-      by true true q a = a
-      by true false q a = (q, a)
-      by false y q a = a
+      by : (x : Bool) → gains before behind c.role n ≡ x → AllByRecursion (λ rel. has_some behind c.role rel ≡ true) rest → AllByRecursion (λ rel. has_some behind c.role rel ≡ true) (cond x (n ∷ rest) rest)
+      by true q a = (has_some-gains before behind c.role n q, a)
+      by false q a = a
 
   grants_told : HearsBy g e c d → AllByRecursion (IsGrantTrue (next g e).machine.frame c.role) (told_by c d)
   grants_told (untaken n k same) = subst (AllByRecursion (IsGrantTrue (next g e).machine.frame c.role)) (sym (told_by-append c d [] (ap told (sym same) ∙ sym (append-nil (told c))))) tt

@@ -1,6 +1,6 @@
 -- A client is told exactly what the accepted request granted, name by name.
 use Rattle.std.proofs.Common.{◌≡◌, ◌+◌, Bool, true, false, cond, List, [], ◌∷◌, ◌++◌, drop, length, map, refl, ap, ◌∙◌, sym, append-nil, subst}
-use Rattle.std.specs.Prelude.{◌==◌, filter, flat_map, ◌&&◌, not}
+use Rattle.std.specs.Prelude.{◌==◌, Contains, filter, flat_map}
 use Rattle.std.proofs.lemmas.Bool.{false≢true}
 use Rattle.std.proofs.lemmas.List.Elements.{filter-append}
 use Rattle.iv_access.specs.Rights.{Name}
@@ -10,8 +10,9 @@ use Rattle.iv_message.specs.Told.{Told, changed, over, granted}
 use Rattle.iv_clients.specs.Clients.{Client, Sub, own_line, own_lines, told}
 use Rattle.iv_clients.specs.Feeds.{Feed, rel_read}
 use Rattle.iv_records.specs.Journal.{Entry, requests_in, Request}
-use Rattle.iv_gate.specs.Events.{Event, next, arrived, failed, forgave, gone, handed, known, message, presented, synced, ticked}
-use Rattle.iv_gate.specs.Gate.{Gate, granted_by, is_accepted, entries_of, has_some, reply_to}
+use Rattle.iv_gate.specs.Events.{Event, next, arrived, happens, failed, forgave, gone, handed, known, message, presented, synced, ticked}
+use Rattle.iv_gate.specs.Gate.{Gate, granted_by, is_accepted, entries_of, has_on, reply_to}
+use Rattle.iv_gate.specs.Implied.{NewRightsAreTold}
 use Rattle.iv_gate.specs.Laws.{GrantsAreTold, granted_at, is_granted}
 use Rattle.iv_gate.specs.Replies.{told_by, added_by}
 use Rattle.iv_gate.proofs.GrownTexts.{drop-append_front}
@@ -21,7 +22,8 @@ use Rattle.iv_gate.proofs.EventNews.{HearsBy-next, told_by-append, HearsBy, take
 use Rattle.iv_gate.proofs.SoundCommands.{IsSoundGate, Sounds}
 use Rattle.iv_gate.proofs.EventMarks.{entries-next}
 use Rattle.iv_machine.specs.State.{Frame, State}
-use Rattle.iv_gate.specs.Arriving.{Step, entry_of, newly}
+use Rattle.iv_gate.specs.Arriving.{Step, entry_of, gains, newly}
+use Rattle.iv_gate.proofs.NewPrivileges.{Contains-filtered, gains-has_on, named_passes, none_gained, on_named}
 use Rattle.std.proofs.lemmas.List.Concat.{flat_map-append}
 use Rattle.iv_steps.specs.Steps.{is_shared}
 
@@ -118,16 +120,9 @@ module _ (g h : Gate) (c d : Client) (es : List Entry) (e : h.entries ≡ g.entr
 
 -- ---- each event
 
-none_newly : (f : Frame) (role : Name) (names : List Name) → filter (λ rel. has_some f role rel && not (has_some f role rel)) names ≡ []
+none_newly : (f : Frame) (role : Name) (names : List Name) → filter (gains f f role) names ≡ []
 none_newly f role [] = refl
-none_newly f role (n ∷ names) = by (has_some f role n) (none_newly f role names)
-  where
-    rest : List Name
-    rest = filter (λ rel. has_some f role rel && not (has_some f role rel)) names
-
-    by : (b : Bool) → rest ≡ [] → cond (b && not b) (n ∷ rest) rest ≡ []
-    by true h = h
-    by false h = h
+none_newly f role (n ∷ names) = (λ i. cond (none_gained f role n i) (n ∷ filter (gains f f role) names) (filter (gains f f role) names)) ∙ none_newly f role names
 
 -- an event that is no step grants what its requests grant
 other_grants : (g : Gate) (e : Event) (role : Name) → ((s : Step) → e ≡ arrived s → ⊥) → granted_at g e role ≡ flat_map (λ q. granted_by (next g e).machine.frame q.act role) (requests_in (added_by g e))
@@ -169,3 +164,22 @@ GrantsAreTold-IsSoundGate sounds g e b live m c d x y = by (HearsBy-next sounds 
         outcome_grants g (next g e) a.outcome (map granted names) (entry_of s ∷ []) c d a.by (names_stay names)
         ∙ (ap (λ (st : State). map granted (newly g.machine.frame st.frame c.role)) (sym a.by.machine)
         ∙ ap (map granted) (subst (λ f. newly g.machine.frame (next g f).machine.frame c.role ≡ granted_at g f c.role) (sym q) refl))
+
+-- what a role has by a step, and had not, is among what is told
+pub NewRightsAreTold-IsSoundGate : Sounds → (g : Gate) (s : Step) → IsSoundGate g → NewRightsAreTold g s
+NewRightsAreTold-IsSoundGate sounds g s b m c d x y p rel before now = by g.dead refl
+  where
+    after : Frame
+    after = (next g (arrived s)).machine.frame
+
+    there : Contains (map granted (newly g.machine.frame after c.role)) (granted rel)
+    there =
+        let e = on_named after c.role p rel now in
+        named_passes (gains g.machine.frame after c.role) after.catalog rel e.0 e.1 (gains-has_on g.machine.frame after c.role p rel before now)
+
+    by : (t : Bool) → g.dead ≡ t → Contains (told_by c d) (granted rel)
+    by true dead =
+        let still = ap (λ t. cond t g (happens g (arrived s))) dead in
+        absurd (false≢true (sym before ∙ (ap (λ (h : Gate). has_on h.machine.frame c.role p rel) (sym still) ∙ now)))
+    by false live = Contains-filtered is_granted (told_by c d) (granted rel)
+        (subst (λ ts. Contains ts (granted rel)) (sym (GrantsAreTold-IsSoundGate sounds g (arrived s) b live m c d x y)) there)

@@ -47,6 +47,7 @@ pub mod EventNews
 pub mod FollowedNumbers
 pub mod ClientBounds
 pub mod GrantsByCommands
+pub mod NewPrivileges
 pub mod GrantsByEvents
 pub mod GrantsByName
 pub mod ShapeTold

@@ -25,7 +25,7 @@ use Rattle.iv_clients.specs.Feeds.{Feed, Seat, feed_for, is_begun, next_seat, ro
 use Rattle.iv_records.specs.Journal.{said_by, Request, claim_said, names_in, Entry}
 use Rattle.iv_clients.proofs.Slots.{not_None-Some}
 use Rattle.iv_gate.specs.Events.{Event}
-use Rattle.iv_gate.specs.Gate.{Gate, begun_for, in_session, is_accepted, reply_in, reply_to, seated, has_shape_room, Log, answer_text, answering, asked_by, entered, entries_of, may_have, names_of, place_at, place_of}
+use Rattle.iv_gate.specs.Gate.{Gate, begun_for, in_session, is_accepted, reply_in, reply_to, seated, has_shape_room, answer_text, answering, asked_by, entered, entries_of, may_have, names_of, number_here, place_at, place_of}
 use Rattle.iv_gate.specs.Replies.{ActsAs, AreReplied, HasToWait, IsFull, IsReadingReply, IsReplyTo, IsReplyToAct, reading_told, IsNamedReply, IsReplyToShared, IsSharedReply, added_by, MayBeDone, count_of, elsewhere, is_repeated, names_by, place_after, is_done, is_left, waits}
 use Rattle.iv_gate.proofs.ClientAnswers.{IsOwn-heard_by, replies-heard_by, OwnAnswer-IsOwn, told_by-OwnAnswer, next-IsOwn, IsOwn}
 use Rattle.iv_gate.proofs.SoundRequests.{refusal-begun_for, ActsAs-feed_for, ActsAs-begun_for, ActsAs-room_for, ActsAs-seat_of}
@@ -40,7 +40,7 @@ use Rattle.iv_gate.proofs.NumberSums.{or-both_false}
 use Rattle.iv_once.specs.Names.{Ask, Verdict, verdict, Named}
 use Rattle.iv_records.specs.Names.{Claim, place_text}
 use Rattle.iv_gate.proofs.NameVerdicts.{has_to_wait, is_again, is_ahead, is_another, is_carried, is_foreign, is_late, place_text-place_after, Reason, Reason-verdict}
-use Rattle.iv_gate.proofs.NamedReplies.{AreNew, HasToWait-ahead, HasToWait-is_over, IsAnswer-find_named, IsBarred-late, IsBarred-other_digest, IsBarred-other_epoch, MayBeDone-IsFree, NoneAnswers-other_digest, NoneAnswers-remembered_by, not_HasToWait}
+use Rattle.iv_gate.proofs.NamedReplies.{AreNew, HasToWait-ahead, HasToWait-is_over, IsAnswer-find_named, IsBarred-late, IsBarred-other_digest, IsBarred-other_epoch, MayBeDone-IsFree, NoneAnswers-other_digest, NoneAnswers-remembered_by, log_none, not_HasToWait}
 use Rattle.std.proofs.lemmas.Slice.Eq.{bytes_eq-Decides}
 use Rattle.iv_gate.proofs.GrownTexts.{drop-append_front}
 use Rattle.std.proofs.lemmas.List.Elements.{filter-append}
@@ -307,11 +307,6 @@ place_more g q a r h =
     more : length (names_by (entered g (entries_of q (Some a) r)) a.holder) ≡ length (names_by g a.holder) + 1
     more = ap length names ∙ length-append (names_by g a.holder) (record { ask = a; refused = not (is_accepted r); answer = answer_text r } ∷ [])
 
--- where a log is followed, and where none is
-log_none : (o : Option Log) → is_some o ≡ false → o ≡ None
-log_none None h = refl
-log_none (Some l) h = absurd (false≢true (sym h))
-
 named_true : (g : Gate) (c : Client) (id : Option Data) (q : Request) (a : Ask) → MayBeDone g a → (is_some g.head.log ≡ false → (number : ℕ) → HasToWait g a number → ⊥)
     → q.role ≡ c.role → is_shared q.act ≡ true → is_some (seat_of g.seats c.role) ≡ true → IsSoundGate g
     → IsNamedReply g c id q a (decided_reply g id q (Some a)) (decided_added g q (Some a))
@@ -334,9 +329,9 @@ verdict_true g new c id q a _ (is_again x f t) role shared seat b =
     (is_repeated x.answer (IsAnswer-find_named g a x f t))
 verdict_true g new c id q a _ (is_another x f t) role shared seat b = is_left 101 (NoneAnswers-other_digest g a new x f t) (IsBarred-other_digest g a x f t)
 verdict_true g new c id q a _ (is_late n t) role shared seat b = is_left 102 (NoneAnswers-remembered_by g a n) (IsBarred-late g a t)
-verdict_true g new c id q a _ (is_foreign n t) role shared seat b = is_left 103 (NoneAnswers-remembered_by g a n) (IsBarred-other_epoch g a t)
-verdict_true g new c id q a _ (is_ahead f t) role shared seat b = waits 104 (MayBeDone-IsFree g a new f) (HasToWait-ahead g a t)
-verdict_true g new c id q a _ (has_to_wait f t) role shared seat b = waits 104 (MayBeDone-IsFree g a new f) (HasToWait-is_over g a t)
+verdict_true g new c id q a _ (is_foreign n t) role shared seat b = is_left (number_here g 103) (NoneAnswers-remembered_by g a n) (IsBarred-other_epoch g a t)
+verdict_true g new c id q a _ (is_ahead f t) role shared seat b = waits (number_here g 104) (MayBeDone-IsFree g a new f) (HasToWait-ahead g a t)
+verdict_true g new c id q a _ (has_to_wait f t) role shared seat b = waits (number_here g 104) (MayBeDone-IsFree g a new f) (HasToWait-is_over g a t)
 
 shared_true : (g : Gate) → AreNew g → (c : Client) (id : Option Data) (q : Request) (claim : Option Claim) → q.role ≡ c.role → is_shared q.act ≡ true → is_some (seat_of g.seats c.role) ≡ true → IsSoundGate g
     → IsReplyToShared g c id q claim (shared_reply g c id q claim) (shared_added g c q claim)

@@ -12,9 +12,9 @@ use Rattle.iv_once.specs.Names.{Ask, Known, Named, Own, find_named, is_over, is_
 use Rattle.iv_once.proofs.HolderEntries.{Among-find_named}
 use Rattle.iv_once.proofs.Lists.{Among-append, Among-take, and-both_true, append-associative, bytes_eq-itself, is_place-itself, le-nat_le, le-nat_lt_false, lt-nat_le_false, not_None-Some, same-Some, same-bytes_eq, same-is_place, take-take_more}
 use Rattle.iv_gate.specs.Arriving.{first_known, is_new, not_new}
-use Rattle.iv_gate.specs.Gate.{Gate, known_at, known_by, known_of, names_of, spent_in}
+use Rattle.iv_gate.specs.Gate.{Gate, Log, known_at, known_by, known_of, names_of, number_here, place_at, spent_in}
 use Rattle.iv_gate.specs.Replies as replies
-use Rattle.iv_gate.specs.Replies.{HasToWait, IsAnswer, IsBarred, MayBeDone, NoneAnswers, another, count_of, elsewhere, foreign, late, many, names_by, refused_by, refused_often, remembered_by}
+use Rattle.iv_gate.specs.Replies.{HasToWait, IsAnswer, IsBarred, MayBeDone, NoneAnswers, another, count_of, elsewhere, foreign, foreign_yet, late, many, names_by, refused_by, refused_often, remembered_by}
 use Rattle.iv_gate.proofs.NameVerdicts.{IsFree, IsUsed, count_is, epoch_is, found_in_more, own_at, own_other, own_same, spent_by-count_by, used_first, used_more}
 use Rattle.iv_gate.proofs.NumberSums.{or-both_false}
 
@@ -245,19 +245,39 @@ IsAnswer-find_named g a x f t =
     let same = same_ask a x (among_filtered (λ (e : Named). bytes_eq e.ask.holder a.holder) x (names_in g.entries) there).1 m.1 t in
     (x.refused, subst (λ z. Contains (remembered_by g a.holder) (record { ask = z; refused = x.refused; answer = x.answer })) same (Contains-remembered_by g a.holder x m.0))
 
+-- where a log is followed, and where none is
+pub log_none : (o : Option Log) → is_some o ≡ false → o ≡ None
+log_none None h = refl
+log_none (Some l) h = absurd (false≢true (sym h))
+
 module _ (g : Gate) (a : Ask) where
   pub IsBarred-other_digest : (x : Named) → find_named a.name (own_of (known_of g) a.holder).recent ≡ Some x → (is_place x.ask.at a.at && bytes_eq x.ask.digest a.digest) ≡ false → IsBarred g a 101
   IsBarred-other_digest x f t =
       let m = Among-find_named a.name (own_of (known_of g) a.holder).recent x f in another x (Contains-remembered_by g a.holder x m.0) m.1 (not_same_ask a x t)
 
-  pub IsBarred-other_epoch : bytes_eq a.at.epoch (own_of (known_of g) a.holder).epoch ≡ false → IsBarred g a 103
-  IsBarred-other_epoch t = foreign (λ h. false≢true (sym t ∙ (ap (bytes_eq a.at.epoch) (epoch_is g a.holder ∙ sym h) ∙ bytes_eq-itself a.at.epoch)))
+  other_epoch : bytes_eq a.at.epoch (own_of (known_of g) a.holder).epoch ≡ false → a.at.epoch ≢ (place_at g.head a.holder).epoch
+  other_epoch t h = false≢true (sym t ∙ (ap (bytes_eq a.at.epoch) (epoch_is g a.holder ∙ sym h) ∙ bytes_eq-itself a.at.epoch))
+
+  pub IsBarred-other_epoch : bytes_eq a.at.epoch (own_of (known_of g) a.holder).epoch ≡ false → IsBarred g a (number_here g 103)
+  IsBarred-other_epoch t = by (is_some g.head.log) refl
+    where
+      by : (l : Bool) → is_some g.head.log ≡ l → IsBarred g a (cond l 100 103)
+      by true e = foreign_yet e (other_epoch t)
+      by false e = foreign (log_none g.head.log e) (other_epoch t)
 
   pub IsBarred-late : nat_lt (a.at.count + limits.names) (own_of (known_of g) a.holder).count ≡ true → IsBarred g a 102
   IsBarred-late t = late (subst (λ n. a.at.count + 64 < n) (count_is g a.holder) (ltb-true (a.at.count + 64) (own_of (known_of g) a.holder).count t))
 
-  pub HasToWait-ahead : nat_lt (own_of (known_of g) a.holder).count a.at.count ≡ true → HasToWait g a 104
-  HasToWait-ahead t = replies.ahead (subst (λ n. n < a.at.count) (count_is g a.holder) (ltb-true (own_of (known_of g) a.holder).count a.at.count t))
+  -- what has to wait here is decided elsewhere while a log is followed
+  waits_here : (g.head.log ≡ None → HasToWait g a 104) → HasToWait g a (number_here g 104)
+  waits_here w = by (is_some g.head.log) refl
+    where
+      by : (l : Bool) → is_some g.head.log ≡ l → HasToWait g a (cond l 100 104)
+      by true e = elsewhere e
+      by false e = w (log_none g.head.log e)
+
+  pub HasToWait-ahead : nat_lt (own_of (known_of g) a.holder).count a.at.count ≡ true → HasToWait g a (number_here g 104)
+  HasToWait-ahead t = waits_here (λ l. replies.ahead l (subst (λ n. n < a.at.count) (count_is g a.holder) (ltb-true (own_of (known_of g) a.holder).count a.at.count t)))
 
   abbrev spent : ℕ
   spent = spent_by (spent_in (names_in (drop g.forgiven g.entries))) a.holder
@@ -265,27 +285,27 @@ module _ (g : Gate) (a : Ask) where
   spent_is : spent_by (spent_in (names_in (drop g.forgiven g.entries))) a.holder ≡ refused_by g a.holder
   spent_is = spent_by-count_by (names_in (drop g.forgiven g.entries)) a.holder
 
-  pub HasToWait-is_over : is_over (names_of g) a.holder ≡ true → HasToWait g a 104
-  HasToWait-is_over t = by (nat_le limits.refusals spent) (nat_le limits.holders (known_of g).holders) ((known_of g).owns a.holder) refl refl refl t
+  pub HasToWait-is_over : is_over (names_of g) a.holder ≡ true → HasToWait g a (number_here g 104)
+  HasToWait-is_over t = waits_here (λ l. by l (nat_le limits.refusals spent) (nat_le limits.holders (known_of g).holders) ((known_of g).owns a.holder) refl refl refl t)
     where
-      by : (r h : Bool) (o : Option Own) → nat_le limits.refusals spent ≡ r → nat_le limits.holders (known_of g).holders ≡ h → (known_of g).owns a.holder ≡ o
+      by : g.head.log ≡ None → (r h : Bool) (o : Option Own) → nat_le limits.refusals spent ≡ r → nat_le limits.holders (known_of g).holders ≡ h → (known_of g).owns a.holder ≡ o
           → (r || (h && not (is_some o))) ≡ true → HasToWait g a 104
-      by true h o e f k u = refused_often (subst (λ n. limits.refusals ≤ n) spent_is (le-nat_le limits.refusals spent e))
-      by false true None e f k u = many (le-nat_le limits.holders (known_of g).holders f) k
-      by false true (Some o) e f k u = absurd (false≢true u)
-      by false false o e f k u = absurd (false≢true u)
+      by l true h o e f k u = refused_often l (subst (λ n. limits.refusals ≤ n) spent_is (le-nat_le limits.refusals spent e))
+      by l false true None e f k u = many l (le-nat_le limits.holders (known_of g).holders f) k
+      by l false true (Some o) e f k u = absurd (false≢true u)
+      by l false false o e f k u = absurd (false≢true u)
 
   -- who is over nothing, and ahead of nothing, has nothing to wait for where no log is followed
   pub not_HasToWait : is_some g.head.log ≡ false → is_over (names_of g) a.holder ≡ false → nat_lt (own_of (known_of g) a.holder).count a.at.count ≡ false → (number : ℕ) → HasToWait g a number → ⊥
   not_HasToWait l w d _ (elsewhere t) = false≢true (sym l ∙ t)
-  not_HasToWait l w d _ (replies.ahead t) =
+  not_HasToWait l w d _ (replies.ahead z t) =
       let here : a.at.count ≤ count_of g a.holder = subst (λ n. a.at.count ≤ n) (count_is g a.holder) (le-nat_lt_false (own_of (known_of g) a.holder).count a.at.count d) in
       omega (arith, t, here)
-  not_HasToWait l w d _ (refused_often t) =
+  not_HasToWait l w d _ (refused_often z t) =
       let b = or-both_false (nat_le limits.refusals spent) (nat_le limits.holders (known_of g).holders && not (is_some ((known_of g).owns a.holder))) w in
       let less : refused_by g a.holder < limits.refusals = subst (λ n. n < limits.refusals) spent_is (lt-nat_le_false limits.refusals spent b.0) in
       omega (arith, t, less)
-  not_HasToWait l w d _ (many t n) =
+  not_HasToWait l w d _ (many y t n) =
       let b = or-both_false (nat_le limits.refusals spent) (nat_le limits.holders (known_of g).holders && not (is_some ((known_of g).owns a.holder))) w in
       no_room (nat_le limits.holders (known_of g).holders) refl (ap (λ (o : Option Own). nat_le limits.holders (known_of g).holders && not (is_some o)) (sym n) ∙ b.1)
     where
@@ -322,8 +342,12 @@ module _ (g : Gate) (a : Ask) where
           let c = u.1.count in let k = kept in
           false≢true (sym (ap is_some f.none) ∙ found_in_more a.name (suc u.0) (own_of (known_of g) a.holder).recent (u.1.found (omega (arith, c, k))))
 
+      here : a.at.epoch ≡ (place_at g.head a.holder).epoch
+      here = same-bytes_eq a.at.epoch (own_of (known_of g) a.holder).epoch f.epoch ∙ epoch_is g a.holder
+
       free : (number : ℕ) → IsBarred g a number → ⊥
       free _ (another e there same other) =
           not_found e (own_of (known_of g) a.holder).recent (Among-recent g a.holder e there) (ap (λ n. find_named n (own_of (known_of g) a.holder).recent) same ∙ f.none)
       free _ (late l) = let k : count_of g a.holder ≤ a.at.count + 64 = subst (λ n. n ≤ a.at.count + 64) (count_is g a.holder) kept in omega (arith, l, k)
-      free _ (foreign n) = n (same-bytes_eq a.at.epoch (own_of (known_of g) a.holder).epoch f.epoch ∙ epoch_is g a.holder)
+      free _ (foreign l n) = n here
+      free _ (foreign_yet l n) = n here

@@ -16,7 +16,7 @@ use Rattle.iv_clients.specs.Clients.{Client, Slots, Sub, answered, at_all, at_cl
 use Rattle.iv_clients.specs.Feeds.{Feed, feed_for, feed_of, is_reading, room_for, seat_of, without_feed}
 use Rattle.iv_records.specs.Journal.{Entry, said_by, shape_for, Request, claim_said}
 use Rattle.iv_clients.proofs.Slots.{client_at-at_all, client_at-at_client, same-Some}
-use Rattle.iv_gate.specs.Gate.{Gate, acts, begun_for, closes, columns_in, done_for, entered, feed_begun, hears, in_session, joined, joined_by, joins, next_own, ran, reads, reads_first, reply_to, done_in, seated, settles, shut, subscribes, swept, tells, told_of, informs, entries_of, has_shape_room, asked_by, by_verdict, decided_elsewhere, decides, may_have, names_of, place_of, replies_to, reply_told, shares}
+use Rattle.iv_gate.specs.Gate.{Gate, acts, begun_for, closes, columns_in, done_for, entered, feed_begun, hears, in_session, joined, joined_by, joins, next_own, ran, reads, reads_first, reply_to, done_in, seated, settles, shut, subscribes, swept, tells, told_of, informs, entries_of, has_shape_room, asked_by, by_verdict, decided_elsewhere, decides, may_have, names_of, place_of, replies_to, reply_told, shares, number_here}
 use Rattle.iv_gate.specs.Replies.{is_opened, reading_told, replies, is_reply}
 use Rattle.iv_gate.specs.Seen.{is_end_of}
 use Rattle.iv_gate.proofs.GrownTexts.{Grown, append-associative, Kit-Grown}
@@ -290,8 +290,8 @@ verdict_reply g id q a carry = decided_reply g id q (Some a)
 verdict_reply g id q a (again answer) = texts.answered id true (place_text (place_of g a.holder)) answer
 verdict_reply g id q a another = undecided id 101
 verdict_reply g id q a late = undecided id 102
-verdict_reply g id q a foreign = undecided id 103
-verdict_reply g id q a _ = undecided id 104
+verdict_reply g id q a foreign = undecided id (number_here g 103)
+verdict_reply g id q a _ = undecided id (number_here g 104)
 
 abbrev pub shared_reply : Gate → Client → Option Data → Request → Option Claim → Told
 shared_reply g c id q claim = if_some claim (decided_reply g id q None) (λ k. let a = asked_by c q.line k in verdict_reply g id q a (verdict (names_of g) a))
@@ -536,9 +536,9 @@ module _ (g : Gate) (m : ℕ) (c : Client) (text : List ℕ) where
   answers_verdict s id q a (again answer) e = answers_plain g s (texts.answered id true (place_text (place_of g a.holder)) answer) m (saying text c) refl e
   answers_verdict s id q a another e = answers_plain g s (undecided id 101) m (saying text c) refl e
   answers_verdict s id q a late e = answers_plain g s (undecided id 102) m (saying text c) refl e
-  answers_verdict s id q a foreign e = answers_plain g s (undecided id 103) m (saying text c) refl e
-  answers_verdict s id q a ahead e = answers_plain g s (undecided id 104) m (saying text c) refl e
-  answers_verdict s id q a over e = answers_plain g s (undecided id 104) m (saying text c) refl e
+  answers_verdict s id q a foreign e = answers_plain g s (undecided id (number_here g 103)) m (saying text c) refl e
+  answers_verdict s id q a ahead e = answers_plain g s (undecided id (number_here g 104)) m (saying text c) refl e
+  answers_verdict s id q a over e = answers_plain g s (undecided id (number_here g 104)) m (saying text c) refl e
 
   answers_shared : (s : Message) (id : Option Data) (q : Request) (claim : Option Claim) → client_at g.clients m ≡ Some (saying text c)
       → Answers g s (shared_reply g c id q claim) m (saying text c) (shares g m c id q claim).clients

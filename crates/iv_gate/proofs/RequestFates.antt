@@ -9,7 +9,7 @@ use Rattle.iv_clients.specs.Feeds.{seat_of}
 use Rattle.iv_records.specs.Journal.{Request}
 use Rattle.iv_records.specs.Names.{Claim, place_text}
 use Rattle.iv_once.specs.Names.{Ask, Verdict, carry, again, another, late, foreign, ahead, over, verdict}
-use Rattle.iv_gate.specs.Gate.{Gate, asked_by, by_verdict, carries, decided_elsewhere, decides, has_shape_room, names_of, place_of, replies_to, done_in, shares, tells}
+use Rattle.iv_gate.specs.Gate.{Gate, asked_by, by_verdict, carries, decided_elsewhere, decides, has_shape_room, names_of, number_here, place_of, replies_to, done_in, shares, tells}
 use Rattle.iv_gate.proofs.ShapeTexts.{cond-either}
 
 -- what is told of it otherwise
@@ -46,9 +46,9 @@ module _ (P : Gate → Type 0) (g : Gate) (m : ℕ) (id : Option Data) (q : Requ
   verdict_so a (again answer) = let at = place_text (place_of g a.holder) in x.tells (answered id true at answer) (repeats id at answer)
   verdict_so a another = x.tells (undecided id 101) (leaves id 101)
   verdict_so a late = x.tells (undecided id 102) (leaves id 102)
-  verdict_so a foreign = x.tells (undecided id 103) (leaves id 103)
-  verdict_so a ahead = x.tells (undecided id 104) (leaves id 104)
-  verdict_so a over = x.tells (undecided id 104) (leaves id 104)
+  verdict_so a foreign = x.tells (undecided id (number_here g 103)) (leaves id (number_here g 103))
+  verdict_so a ahead = x.tells (undecided id (number_here g 104)) (leaves id (number_here g 104))
+  verdict_so a over = x.tells (undecided id (number_here g 104)) (leaves id (number_here g 104))
 
   pub shares_so : (c : Client) (claim : Option Claim) → P (shares g m c id q claim)
   shares_so c None = decides_so None

@@ -1,5 +1,6 @@
 -- Steps of the log that is followed: which are taken, and what is told of one.
 use Rattle.std.specs.Prelude.{ℕ, ◌+◌, ◌==◌, ◌&&◌, not, Bool, false, true, if◌then◌else◌, List, [], ◌∷◌, ◌++◌, map, filter, bytes_eq, nat_le, nat_lt, take, Option, Some, None, is_some, option_map}
+use Rattle.std.specs.List.{list_any}
 use Rattle.iv_rows.specs.Options.{if_some}
 use Rattle.iv_access.specs.Rights.{Name}
 use Rattle.iv_machine.specs.Act.{Refusal}
@@ -12,7 +13,7 @@ use Rattle.iv_records.specs.Names.{limits}
 use Rattle.iv_once.specs.Names as once
 use Rattle.iv_once.specs.Names.{Ask, Known, Named, learned, named}
 use Rattle.iv_steps.specs.Steps.{Fact, first_refused, shared, stepped}
-use Rattle.iv_gate.specs.Gate.{Gate, Log, entered, has_some, informs, known_of, settles, went_on}
+use Rattle.iv_gate.specs.Gate.{Gate, Log, each_privilege, entered, has_on, informs, known_of, settles, went_on}
 
 -- a step: which log it is of, from which position to which it leads, what was done there, and the names that have an answer by it
 pub record Step : Type 0 where
@@ -67,9 +68,13 @@ fault_of g s =
 abbrev pub entry_of : Step → Entry
 entry_of s = record { requests = s.requests; names = s.names; position = Some s.to }
 
--- the relations on which the role has some privilege after it, and had none before
+-- the role has some privilege on the relation after it that it had not before
+abbrev pub gains : Frame → Frame → Name → Name → Bool
+gains before after role rel = list_any (λ p. has_on after role p rel && not (has_on before role p rel)) each_privilege
+
+-- the relations on which it has one
 abbrev pub newly : Frame → Frame → Name → List Name
-newly before after role = filter (λ rel. has_some after role rel && not (has_some before role rel)) (map (λ e. e.name) after.catalog)
+newly before after role = filter (gains before after role) (map (λ e. e.name) after.catalog)
 
 -- it is carried out whole: each client is told once what differs, also of what it may read from now on and of the shape, and that this is all
 abbrev pub landed : Gate → Entry → Outcome → Gate

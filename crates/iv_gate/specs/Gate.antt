@@ -10,6 +10,7 @@ use Rattle.iv_rows.specs.Options.{if_some}
 use Rattle.iv_bind.specs.Catalogs.{columns_of, named}
 use Rattle.iv_access.specs.Privileges.{acts_as, has, role_of}
 use Rattle.iv_access.specs.Rights.{Name}
+use Rattle.iv_access.specs.declared.privilege.Privilege.{Privilege}
 use Rattle.iv_access.specs.declared.privilege.Privilege.TheVariants.{Select, Insert, Update, Delete}
 use Rattle.iv_machine.specs.Act.{Act, begin, finish, create_table, create_view, grant, grant_role, subscribe, unsubscribe, Command, Line, reply, Reply, done, subscribed, refused, limit, no_session, too_many, unknown_subscription}
 use Rattle.iv_machine.specs.Machine.{Outcome, step}
@@ -70,10 +71,16 @@ is_accepted done = true
 is_accepted (subscribed k) = true
 is_accepted (refused r) = false
 
+abbrev pub each_privilege : List Privilege
+each_privilege = Select ∷ Insert ∷ Update ∷ Delete ∷ []
+
+-- the role has the privilege on the relation
+abbrev pub has_on : Frame → Name → Privilege → Name → Bool
+has_on f role p rel = if_some (role_of f.rights role) false (λ r. if_some (named f.catalog rel) false (λ e. has f.rights r p e.rel))
+
 -- the role has some privilege on the relation
 abbrev pub has_some : Frame → Name → Name → Bool
-has_some f role rel = if_some (role_of f.rights role) false (λ r. if_some (named f.catalog rel) false (λ e.
-    list_any (λ p. has f.rights r p e.rel) (Select ∷ Insert ∷ Update ∷ Delete ∷ [])))
+has_some f role rel = if_some (role_of f.rights role) false (λ r. if_some (named f.catalog rel) false (λ e. list_any (λ p. has f.rights r p e.rel) each_privilege))
 
 -- the role is the other, or a member of it
 abbrev pub is_member : Frame → Name → Name → Bool
@@ -303,6 +310,10 @@ decided_elsewhere id (Some a) = undecided id 100
 abbrev pub decides : Gate → ℕ → Option Data → Request → Option Ask → Gate
 decides g m id q name = if is_some g.head.log then tells g m (decided_elsewhere id name) else carries g m id q name
 
+-- what is said of a name that has no answer here: this number; while a log is followed, which may still bring one, that it is decided there
+abbrev pub number_here : Gate → ℕ → ℕ
+number_here g number = if is_some g.head.log then 100 else number
+
 -- by its name it is done, or told its first answer again, or that it stays undecided whether it was: for ever by 102 and 103; after 104 it may be
 -- sent again
 abbrev pub by_verdict : Gate → ℕ → Option Data → Request → Ask → Verdict → Gate
@@ -310,8 +321,8 @@ by_verdict g m id q a carry = decides g m id q (Some a)
 by_verdict g m id q a (again answer) = tells g m (answered id true (place_text (place_of g a.holder)) answer)
 by_verdict g m id q a another = tells g m (undecided id 101)
 by_verdict g m id q a late = tells g m (undecided id 102)
-by_verdict g m id q a foreign = tells g m (undecided id 103)
-by_verdict g m id q a _ = tells g m (undecided id 104)
+by_verdict g m id q a foreign = tells g m (undecided id (number_here g 103))
+by_verdict g m id q a _ = tells g m (undecided id (number_here g 104))
 
 abbrev pub shares : Gate → ℕ → Client → Option Data → Request → Option Claim → Gate
 shares g m c id q claim = if_some claim (decides g m id q None) (λ k. let a = asked_by c q.line k in by_verdict g m id q a (verdict (names_of g) a))

@@ -1,7 +1,8 @@
 -- What the laws imply, in other words; nobody has to believe it beside them.
-use Rattle.std.specs.Prelude.{◌≡◌, ◌≢◌, ◌⊎◌, ◌≤◌, ◌<◌, ◌+◌, ℕ, true, List, Contains, length, nat_lt, Some, is_some, ℤ}
+use Rattle.std.specs.Prelude.{◌≡◌, ◌≢◌, ◌⊎◌, ◌≤◌, ◌<◌, ◌+◌, ℕ, false, true, List, Contains, length, nat_lt, Some, is_some, ℤ}
 use Rattle.std.specs.List.{AllByRecursion, list_any}
 use Rattle.iv_rows.specs.Cell.{Cell}
+use Rattle.iv_access.specs.declared.privilege.Privilege.{Privilege}
 use Rattle.iv_access.specs.Rights.{Name}
 use Rattle.iv_machine.specs.declared.Cause.{Cause}
 use Rattle.iv_message.specs.Told.{granted, over}
@@ -13,7 +14,7 @@ use Rattle.iv_journal.specs.Journal.{Line}
 use Rattle.iv_once.specs.Names.{Ask}
 use Rattle.iv_gate.specs.Arriving.{Step, position, settled_at}
 use Rattle.iv_gate.specs.Events.{Event, arrived, next}
-use Rattle.iv_gate.specs.Gate.{Gate, has_some, most_shape, place_at, shape_text}
+use Rattle.iv_gate.specs.Gate.{Gate, has_on, has_some, most_shape, place_at, shape_text}
 use Rattle.iv_gate.specs.Replies.{ByClient, count_of, told_by}
 use Rattle.iv_gate.specs.Restoring.{Restores, gate_at_start}
 use Rattle.iv_gate.specs.Runs.{LeavesOnDisk}
@@ -38,6 +39,11 @@ HearsFollowed g e = ByClient g e (λ m c d. (own : ℕ) → list_any (is_told_of
 -- what a client is told to be granted its role has now
 abbrev pub GrantsAreTrue : Gate → Event → Type 0
 GrantsAreTrue g e = ByClient g e (λ m c d. (rel : Name) → Contains (told_by c d) (granted rel) → has_some (next g e).machine.frame c.role rel ≡ true)
+
+-- a privilege that a client's role has by a step, and had not before it, is told
+abbrev pub NewRightsAreTold : Gate → Step → Type 0
+NewRightsAreTold g s = ByClient g (arrived s) (λ m c d. (p : Privilege) (rel : Name) → has_on g.machine.frame c.role p rel ≡ false
+    → has_on (next g (arrived s)).machine.frame c.role p rel ≡ true → Contains (told_by c d) (granted rel))
 
 -- if the shape's text is beyond its bound, no client's message adds anything to it
 abbrev pub ShapeIsBounded : Gate → Event → Type 0

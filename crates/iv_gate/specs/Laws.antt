@@ -92,7 +92,7 @@ abbrev pub is_granted : Told → Bool
 is_granted (granted rel) = true
 is_granted _ = false
 
--- what an event grants a role: what an accepted request grants it; by a step, what it has after it and had not before
+-- what an event grants a role: what an accepted request grants it; by a step, that on which it has a privilege after it that it had not before
 abbrev pub granted_at : Gate → Event → Name → List Name
 granted_at g (arrived s) role = newly g.machine.frame (next g (arrived s)).machine.frame role
 granted_at g e role = flat_map (λ q. granted_by (next g e).machine.frame q.act role) (requests_in (added_by g e))

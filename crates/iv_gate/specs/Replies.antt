@@ -114,24 +114,25 @@ abbrev pub NoneAnswers : List Named → Ask → Type 0
 NoneAnswers es a = (answer : List ℕ) → IsAnswer es a answer → ⊥
 
 -- what bars a request with a name: its name is another request's; its place is so old that its answer may be forgotten; or its place is of
--- another epoch
+-- another epoch: then its answer may still come, if a log is followed
 pub data IsBarred (g : Gate) (a : Ask) : ℕ → Type 0 where
   another : (e : Named) → Contains (remembered_by g a.holder) e → e.ask.name ≡ a.name → e.ask ≢ a → IsBarred g a 101
   late : a.at.count + limits.names < count_of g a.holder → IsBarred g a 102
-  foreign : a.at.epoch ≢ (place_at g.head a.holder).epoch → IsBarred g a 103
+  foreign : g.head.log ≡ None → a.at.epoch ≢ (place_at g.head a.holder).epoch → IsBarred g a 103
+  foreign_yet : is_some g.head.log ≡ true → a.at.epoch ≢ (place_at g.head a.holder).epoch → IsBarred g a 100
 
 -- it may be done: none of its holder's names answers it, and nothing bars it
 pub record MayBeDone (g : Gate) (a : Ask) : Type 0 where
   pub new : NoneAnswers (names_by g a.holder) a
   pub free : (number : ℕ) → IsBarred g a number → ⊥
 
--- why it has to wait: what is shared is decided elsewhere; its place is ahead; too many of its holder's names were refused; or too many holders
--- have names
+-- why it has to wait: what is shared is decided elsewhere; or it is decided here, and its place is ahead, or too many of its holder's names were
+-- refused, or too many holders have names
 pub data HasToWait (g : Gate) (a : Ask) : ℕ → Type 0 where
   elsewhere : is_some g.head.log ≡ true → HasToWait g a 100
-  ahead : count_of g a.holder < a.at.count → HasToWait g a 104
-  refused_often : limits.refusals ≤ refused_by g a.holder → HasToWait g a 104
-  many : limits.holders ≤ (known_of g).holders → (known_of g).owns a.holder ≡ None → HasToWait g a 104
+  ahead : g.head.log ≡ None → count_of g a.holder < a.at.count → HasToWait g a 104
+  refused_often : g.head.log ≡ None → limits.refusals ≤ refused_by g a.holder → HasToWait g a 104
+  many : g.head.log ≡ None → limits.holders ≤ (known_of g).holders → (known_of g).owns a.holder ≡ None → HasToWait g a 104
 
 -- where the names of a holder stand when as many more have an answer
 abbrev pub place_after : Gate → List ℕ → ℕ → List ℕ

@@ -102,6 +102,10 @@ both_rows = changed 1 ((row 1, pos 1) ∷ (row 2, pos 1) ∷ []) ∷ settled ∷
 abbrev pub taken : Step
 taken = step 1 7 (by_admin (put 2) ∷ by_admin may_not_read ∷ [])
 
+-- the right is given again, to one who may write
+abbrev pub given_again : Step
+given_again = step 7 8 (by_admin may_read ∷ [])
+
 -- a sum beyond 64 bits: nobody's view refuses a step
 abbrev pub too_large : Step
 too_large = step 1 2 (by_admin (put (2 ^ 62)) ∷ by_admin (put (2 ^ 62)) ∷ [])
@@ -140,3 +144,10 @@ is_done again = answered None again (place_text (record { epoch = codes "e"; cou
 
 abbrev pub done_and_told : List Told
 done_and_told = is_done false ∷ changed 1 ((row 7, pos 1) ∷ []) ∷ []
+
+-- she asks by a place of another journal, and by one that is ahead
+abbrev pub foreign_ask : Ask
+foreign_ask = record (asks 0 (codes "d")) { at = record { epoch = codes "f"; count = 0 } }
+
+abbrev pub ahead_ask : Ask
+ahead_ask = asks 1 (codes "d")

@@ -13,7 +13,7 @@ use Rattle.iv_machine.specs.Act.{create_policy, drop_policy, subscribe, unsubscr
 use Rattle.iv_machine.specs.Machine.{step}
 use Rattle.iv_machine.specs.State.{State}
 use Rattle.iv_message.specs.Message.{request, unknown}
-use Rattle.iv_message.specs.Told.{fault, unasked}
+use Rattle.iv_message.specs.Told.{fault, unasked, undecided}
 use Rattle.iv_once.specs.Names.{Ask, Verdict, verdict}
 use Rattle.iv_once.specs.Views.{names_of as names_in_code, verdict_of}
 use Rattle.iv_once.specs.declared.asks.Verdict as code_once
@@ -264,6 +264,11 @@ verdict_of-IsAlive g a v w x e h b = ap verdict_of (sym e) ∙ (h ∙ ap (λ n. 
 pub IsAlive-by_verdict : (g : Gate) (m : ℕ) (id : Option Data) (q : Request) (a : Ask) (v : Verdict) (x : Gateway) → v ≡ verdict (names_of g) a
     → IsAlive (by_verdict g m id q a v) x → IsAlive (by_verdict g m id q a (verdict (names_of g) a)) x
 IsAlive-by_verdict g m id q a v x e b = subst (λ z. IsAlive (by_verdict g m id q a z) x) e b
+
+-- a name is left by that number
+pub IsAlive-left : (g : Gate) (m : ℕ) (id : Option Data) (number told : ℕ) (x : Gateway) → told ≡ number
+    → IsAlive (tells g m (undecided id told)) x → IsAlive (tells g m (undecided id number)) x
+IsAlive-left g m id number told x e a = subst (λ n. IsAlive (tells g m (undecided id n)) x) e a
 
 -- with a name, and without
 pub IsAlive-shares_plain : (g : Gate) (m : ℕ) (c : Client) (id : Option Data) (q : Request) (claim : Option Claim) (x : Gateway) → claim ≡ None

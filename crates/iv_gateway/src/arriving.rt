@@ -63,7 +63,7 @@ impl Gateway {
     /// Its requests and names have to be as a journal has them, and their texts such as a journal holds: `read_step` reads such steps.
     ///
     /// A step that writes rows alone costs what it writes, and the clients who are told of it. Where it has other requests, all clients are
-    /// looked at: once before it for their roles, of which is asked what each may read, and once after it if a role may read more.
+    /// looked at: once before it for their roles, of which is asked what each may do, and once after it if a role may do more.
     ///
     /// # Errors
     /// Why it is not taken. The gateway is dead then.
@@ -128,7 +128,7 @@ impl Gateway {
         Ok(())
     }
 
-    /// What the roles of clients may read, unless requests write rows alone: by these nobody may read more.
+    /// What the roles of clients may do, unless requests write rows alone: by these nobody may do more.
     fn readable_before(&self, requests: &[Request]) -> Result<Vec<Readable>, AllocError>
         ensures { IfOk result (λ before. (g : Gate) → IsAlive g self.now
             → AreBefore g.machine.frame (list_all (λ q. is_write q.act) requests.now) before.items (kept_slots g.clients)) }
@@ -190,7 +190,7 @@ impl Gateway {
         }
     }
 
-    /// Has the lines of a step told, and then what roles may read newly. What ended is shared no more.
+    /// Has the lines of a step told, and then on which relations roles may do more. What ended is shared no more.
     fn hear_step(&mut self, lines: &[Line], before: &[Readable]) -> Result<(), AllocError>
         ensures { OnOk result ((g : Gate) (o : Outcome) → IsAlive (record g { machine = o.state }) self.old → map line_of lines.now ≡ o.lines
             → AreNewly g.machine.frame o.state.frame before.now (kept_slots g.clients)
@@ -204,7 +204,7 @@ impl Gateway {
         Ok(())
     }
 
-    /// Has a step told: its lines, what roles may read newly, to administrators what it makes of the shape, and that this is all.
+    /// Has a step told: its lines, on which relations roles may do more, to administrators what it makes of the shape, and that this is all.
     fn tell_step(
         &mut self,
         lines: &[Line],

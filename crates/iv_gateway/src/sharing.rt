@@ -8,7 +8,7 @@ ghost use Rattle.iv_records.specs.Journal.{is_shared};
 ghost use Rattle.iv_clients.specs.Clients as spec;
 ghost use Rattle.iv_records.specs.Names.{place_text};
 ghost use Rattle.iv_once.specs.Names.{Ask, verdict};
-ghost use Rattle.iv_gate.specs.Gate.{Gate, answer_text, by_verdict, carries, decides, done_in, entered, entries_of, in_session, is_accepted, names_of, place_of, replies_to, reply_in, shares, tells};
+ghost use Rattle.iv_gate.specs.Gate.{Gate, answer_text, by_verdict, carries, decides, done_in, entered, entries_of, in_session, is_accepted, names_of, number_here, place_of, replies_to, reply_in, shares, tells};
 ghost use Rattle.iv_notices.specs.Granting.{IsGranting};
 ghost use Rattle.iv_arrivals.specs.Speaking.{asked_id, request_of};
 ghost use Rattle.iv_arrivals.specs.Entering.{made_of};
@@ -280,6 +280,16 @@ impl Gateway {
         }
     }
 
+    /// By which number a name without an answer here is left: while a log is followed, that it is decided there.
+    fn number_here(&self, number: u64) -> u64
+        ensures { (g : Gate) → IsAlive g self.now → result ≡ number_here g number }
+    {
+        if self.log.is_none() {
+            return number;
+        }
+        100
+    }
+
     /// Has done what a client asks by a name, once.
     fn ask_named(&mut self, asked: &Asked<'_>, ask: Ask, act: Act) -> Result<(), AllocError>
         requires well { is_well_act (act_of act) ≡ true }
@@ -306,15 +316,18 @@ impl Gateway {
                 Ok(())
             }
             Verdict::Foreign => {
-                self.leave(asked, 103)?;
+                let number = self.number_here(103);
+                self.leave(asked, number)?;
                 Ok(())
             }
             Verdict::Ahead => {
-                self.leave(asked, 104)?;
+                let number = self.number_here(104);
+                self.leave(asked, number)?;
                 Ok(())
             }
             Verdict::Over => {
-                self.leave(asked, 104)?;
+                let number = self.number_here(104);
+                self.leave(asked, number)?;
                 Ok(())
             }
         }

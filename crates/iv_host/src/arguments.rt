@@ -1,9 +1,12 @@
 //! `asked_for`: the words after the program's name as settings, with help, version and errors.
 //!
-//! Ranges alone are promised. Which words give which settings is shown by tests.
-ghost use Rattle.std.specs.Prelude.{◌≤◌, IfOk, IfSome};
+//! Ranges are promised, and the keeper of a log by its three options. Which words give which of the other settings is shown by tests.
+ghost use Rattle.std.specs.Prelude.{◌≡◌, ◌≤◌, ℕ, IfOk, IfSome, None, Ok, Option, Some, codes, option_map, string_bytes};
+ghost use Rattle.std.specs.Str.Parse.{ParsesUnsigned};
+ghost use Rattle.clap.specs.Words.{first_value, found_of};
 ghost use Rattle.iv_rows.specs.RowLimit.{IsRowLimit};
-ghost use Rattle.iv_host.specs.Settings.{AreValid};
+ghost use Rattle.iv_host.specs.Settings.{AreValid, IsKeeper};
+ghost use Rattle.iv_host.specs.declared.arguments.KeeperAt.{KeeperAt};
 
 use clap::error::ErrorKind;
 use clap::{Arg, ArgMatches, Command, Error, value_parser};
@@ -13,7 +16,16 @@ use std::process::ExitCode;
 use std::{env, io};
 
 /// The program's version, and the number of the protocol that it speaks.
-const VERSION: &str = "0.1.0 (protocol 1)";
+const VERSION: &str = "1.0.0 (protocol 1)";
+
+/// Where the keeper of a log is.
+#[derive(Debug, Drop)]
+pub enum KeeperAt {
+    /// At standard input and output.
+    Standard,
+    /// At a port of 127.0.0.1, where it shows the secret in a file.
+    Port(u16, String),
+}
 
 /// What the program is asked to do.
 #[derive(Debug, Drop)]
@@ -32,6 +44,8 @@ pub struct Settings {
     pub seed: Option<String>,
     /// The file with the secret that grants web tokens, if there is one.
     pub jwt_secret: Option<String>,
+    /// The keeper of the log that is followed, if one is.
+    pub keeper: Option<KeeperAt>,
     /// The number of different rows at most of a table, and of each step of a view that is read.
     pub rows: u32,
     /// The number of sockets at most.
@@ -114,13 +128,30 @@ fn with_files<'a>(alloc: Global, command: Command<'a>) -> Result<Command<'a>, Al
         ))
 }
 
+/// Adds the options of a log.
+fn with_log<'a>(alloc: Global, command: Command<'a>) -> Result<Command<'a>, AllocError> {
+    command
+        .arg(text(
+            alloc,
+            "log",
+            "PORT",
+            "Follow a log, whose keeper comes to this port of 127.0.0.1, or is at standard input and output (-)",
+        ))?
+        .arg(text(
+            alloc,
+            "log-secret-file",
+            "FILE",
+            "The secret that a keeper shows at the port, of 32 bytes or more",
+        ))
+}
+
 /// The command, by which clap reads the words.
 fn command<'a>(alloc: Global) -> Result<Command<'a>, AllocError> {
     let command = Command::new(alloc, "gateway")
         .version(VERSION)
         .about("Serves browsers by WebSocket, with a journal")
         .no_binary_name(true);
-    let command = with_files(alloc, command)?;
+    let command = with_log(alloc, with_files(alloc, command)?)?;
     with_numbers(alloc, command)
 }
 
@@ -172,11 +203,78 @@ fn text_of(
     alloc: Global,
     matches: &ArgMatches<'_>,
     name: &str,
-) -> Result<Option<String>, AllocError> {
+) -> Result<Option<String>, AllocError>
+    ensures { IfOk result (λ o. option_map string_bytes o ≡ first_value (found_of matches.now) name.now) }
+{
     match matches.get_str(name) {
         None => Ok(None),
         Some(text) => Ok(Some(String::from_str(alloc, text)?)),
     }
+}
+
+/// The port that a text writes, if it is from 1 on.
+fn port_in(text: &str) -> Option<u16>
+    ensures some { IfSome result (λ n. ParsesUnsigned {E = Unit {0}} 16 10 text.now (Ok n) × (1 ≤ n)) }
+    ensures none { result ≡ None → (n : ℕ) → ParsesUnsigned {E = Unit {0}} 16 10 text.now (Ok n) → 1 ≤ n → ⊥ }
+{
+    match text.parse::<u16>() {
+        Ok(number) => { if number >= 1 { Some(number) } else { None } }
+        Err(_) => None,
+    }
+}
+
+/// The keeper at a port, or at standard input and output.
+fn keeper_by(log: &str, secret: Option<String>) -> Option<KeeperAt>
+    ensures some { IfSome result (λ k. IsKeeper (Some log.now) (option_map string_bytes secret) None (Some k)) }
+    ensures none { result ≡ None → (k : Option KeeperAt) → IsKeeper (Some log.now) (option_map string_bytes secret) None k → ⊥ }
+{
+    match secret {
+        Some(file) => Some(KeeperAt::Port(port_in(log)?, file)),
+        None => {
+            if log == "-" {
+                Some(KeeperAt::Standard)
+            } else {
+                None
+            }
+        }
+    }
+}
+
+/// The keeper of a log by the texts of its options and whether there is a seed; none if these cannot be.
+fn keeper_at(
+    log: Option<String>,
+    secret: Option<String>,
+    seed: &Option<String>,
+) -> Option<Option<KeeperAt>>
+    ensures some { IfSome result (IsKeeper (option_map string_bytes log) (option_map string_bytes secret) (option_map string_bytes seed.now)) }
+    ensures none { result ≡ None → (k : Option KeeperAt)
+        → IsKeeper (option_map string_bytes log) (option_map string_bytes secret) (option_map string_bytes seed.now) k → ⊥ }
+{
+    match log {
+        None => { if secret.is_none() { Some(None) } else { None } }
+        Some(log) => {
+            if seed.is_some() {
+                return None;
+            }
+            Some(Some(keeper_by(log.as_str(), secret)?))
+        }
+    }
+}
+
+/// The keeper of a log by the matched words; none if these cannot be.
+fn keeper_of(
+    alloc: Global,
+    matches: &ArgMatches<'_>,
+    seed: &Option<String>,
+) -> Result<Option<Option<KeeperAt>>, AllocError>
+    ensures some { IfOk result (λ o. IfSome o (IsKeeper (first_value (found_of matches.now) (codes "log"))
+        (first_value (found_of matches.now) (codes "log-secret-file")) (option_map string_bytes seed.now))) }
+    ensures none { IfOk result (λ o. o ≡ None → (k : Option KeeperAt) → IsKeeper (first_value (found_of matches.now) (codes "log"))
+        (first_value (found_of matches.now) (codes "log-secret-file")) (option_map string_bytes seed.now) k → ⊥) }
+{
+    let log = text_of(alloc, matches, "log")?;
+    let secret = text_of(alloc, matches, "log-secret-file")?;
+    Ok(keeper_at(log, secret, seed))
 }
 
 /// The numbers of settings.
@@ -204,9 +302,11 @@ fn numbers_of(matches: &ArgMatches<'_>) -> Option<Numbers>
     })
 }
 
-/// The settings that the matched words ask for; none if a number or the address is not valid.
+/// The settings that the matched words ask for; none if a number, the address or the keeper is not valid.
 fn found(alloc: Global, matches: &ArgMatches<'_>) -> Result<Option<Settings>, AllocError>
-    ensures { IfOk result (λ o. IfSome o AreValid) }
+    ensures valid { IfOk result (λ o. IfSome o AreValid) }
+    ensures keeper { IfOk result (λ o. IfSome o (λ s. IsKeeper (first_value (found_of matches.now) (codes "log"))
+        (first_value (found_of matches.now) (codes "log-secret-file")) (first_value (found_of matches.now) (codes "seed")) s.keeper)) }
 {
     let Some(numbers) = numbers_of(matches) else {
         return Ok(None);
@@ -217,14 +317,19 @@ fn found(alloc: Global, matches: &ArgMatches<'_>) -> Result<Option<Settings>, Al
     ) else {
         return Ok(None);
     };
+    let seed = text_of(alloc, matches, "seed")?;
+    let Some(keeper) = keeper_of(alloc, matches, &seed)? else {
+        return Ok(None);
+    };
     Ok(Some(Settings {
         host: numbers.host,
         port: numbers.port,
         journal,
         tokens,
         pages: text_of(alloc, matches, "pages")?,
-        seed: text_of(alloc, matches, "seed")?,
+        seed,
         jwt_secret: text_of(alloc, matches, "jwt-secret-file")?,
+        keeper,
         rows: numbers.rows,
         clients: numbers.clients,
     }))

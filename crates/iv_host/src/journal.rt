@@ -112,7 +112,10 @@ fn records_in(lines: &[Line]) -> u64
 }
 
 /// Lines, where their texts are.
-fn lines_of<'a>(alloc: Global, lines: &'a [OwnedLine]) -> Result<Vec<Line<'a>>, AllocError>
+///
+/// # Errors
+/// `AllocError` if a growth of memory was refused.
+pub fn lines_of<'a>(alloc: Global, lines: &'a [OwnedLine]) -> Result<Vec<Line<'a>>, AllocError>
     ensures { IfOk result (λ out. out.items ≡ lines.now) }
 {
     let mut out = Vec::new(alloc);

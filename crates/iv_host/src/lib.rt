@@ -15,12 +15,12 @@ mod pages;
 mod tokens;
 
 pub use admins::{ADMIN, Admins, presented_in};
-pub use arguments::{Settings, asked_for};
+pub use arguments::{KeeperAt, Settings, asked_for};
 pub use beginning::head_of;
 pub use counts::{BOUNDS, Counts, Why, raise};
 pub use figures::{Now, figures_now, state_now};
 pub use journal::{
-    DiskJournal, FileJournal, JournalFile, OpenFault, Syncs, is_plain, random_digits,
+    DiskJournal, FileJournal, JournalFile, OpenFault, Syncs, is_plain, lines_of, random_digits,
 };
 pub use log::Log;
 pub use pages::{answer, page_in, refusal};

@@ -8,5 +8,6 @@ pub mod laws;
 mod opening;
 mod tokens;
 
+pub use comparing::is_same;
 pub use hashing::hmac_sha256;
 pub use tokens::{Claims, Fault, role_of};

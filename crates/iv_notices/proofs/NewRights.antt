@@ -1,4 +1,4 @@
--- What roles may read newly by a step, as the code finds and tells it.
+-- On which relations roles may do more by a step, as the code finds and tells it.
 use Rattle.std.proofs.Common.{◌≡◌, ◌∙◌, ℕ, zero, suc, ◌+◌, ◌<◌, ◌≤◌, Bool, true, false, cond, not, ◌||◌, List, [], ◌∷◌, ◌++◌, length, take, get_or, map, find, Option, Some, None, is_some, option_map, refl, ap, sym, subst, append-nil, append_assoc, arith}
 use Rattle.std.specs.Prelude.{◌==◌, ◌&&◌, bytes_eq, filter, flat_map, nat_lt, option_and_then}
 use Rattle.std.specs.List.{AllByRecursion, list_all, list_any}
@@ -7,12 +7,13 @@ use Rattle.std.proofs.lemmas.Bool.Decides.{nat_tests}
 use Rattle.std.proofs.lemmas.List.{map_more, map-append}
 use Rattle.std.proofs.lemmas.List.Concat.{flat_map-append}
 use Rattle.std.proofs.lemmas.List.Elements.{filter-append}
-use Rattle.std.proofs.lemmas.Map.Views.{any-filter_same}
 use Rattle.std.proofs.lemmas.Option.{option_and_then_some, slice_get_past}
 use Rattle.std.proofs.lemmas.Slice.Eq.{bytes_eq-Decides}
 use Rattle.iv_rows.specs.Options.{if_some}
 use Rattle.iv_bind.specs.Catalogs.{CatalogEntry, named}
-use Rattle.iv_access.specs.Privileges.{role_of}
+use Rattle.iv_access.specs.Privileges.{has, role_of}
+use Rattle.iv_access.specs.declared.privilege.Privilege.{Privilege}
+use Rattle.iv_access.specs.declared.privilege.Privilege.TheVariants.{Select, Insert, Update, Delete}
 use Rattle.iv_access.specs.Rights.{Name}
 use Rattle.iv_machine.specs.Act.{Act, Line, Refusal, begin, create_policy, create_role, create_table, create_view, drop_policy, finish, grant, grant_role, revoke, revoke_role, row_security, subscribe, unsubscribe, write}
 use Rattle.iv_machine.specs.Changing.{after_catalog, after_rights}
@@ -27,12 +28,13 @@ use Rattle.iv_records.specs.Journal.{Request}
 use Rattle.iv_clients.specs.Kept.{Kept, Places, holding, holding_all}
 use Rattle.iv_clients.proofs.Slots.{same-Some, not_None-Some}
 use Rattle.iv_hall.specs.Hearing.{hearing_lines}
-use Rattle.iv_engine.specs.Known.{has_any, has_some, relations_with}
+use Rattle.iv_engine.specs.Known.{has_any, has_on, has_some, relations_with}
 use Rattle.iv_engine.specs.Stepped.{is_write}
 use Rattle.iv_steps.specs.Steps.{all_carried, among, carried, is_shared, looked_at, passed, shared, stepped}
-use Rattle.iv_gate.specs.Arriving.{fact_of, newly}
+use Rattle.iv_gate.specs.Arriving.{fact_of, gains, newly}
 use Rattle.iv_notices.specs.Granting.{text_granted}
-use Rattle.iv_notices.specs.Newly.{AreBefore, AreNewly, IsReadable, Newly, Readable, had, hearing_newly, is_among, newly_in, only_new, text_for}
+use Rattle.iv_notices.specs.Newly.{AreBefore, AreNewly, Held, IsReadable, Newly, Readable, allowed_before, allowed_in, hearing_newly, held_in, is_among, is_more, is_new, newly_in, nothing, only_new, text_for}
+use Rattle.iv_notices.specs.declared.newly.Allowed.{Allowed}
 use Rattle.iv_notices.proofs.GrantTexts.{both_all, holding_all-holding, role_held, at_all-same, at_all-identity}
 use Rattle.iv_notices.proofs.ClientChanges.{length-told_text}
 
@@ -41,11 +43,6 @@ use Rattle.iv_notices.proofs.ClientChanges.{length-told_text}
 pub all_more : (f : Frame) (rs : List Readable) (r : Readable) → AllByRecursion (IsReadable f) rs → IsReadable f r → AllByRecursion (IsReadable f) (rs ++ r ∷ [])
 all_more f [] r w h = (h, tt)
 all_more f (x ∷ rs) r w h = (w.0, all_more f rs r w.1 h)
-
--- of what is read of each
-pub any_read : {A B : Type 0} (read : A → B) (p : B → Bool) (xs : List A) → list_any (λ x. p (read x)) xs ≡ list_any p (map read xs)
-any_read read p [] = refl
-any_read read p (x ∷ xs) = ap (λ b. p (read x) || b) (any_read read p xs)
 
 either : (a b : Bool) → b ≡ true → (a || b) ≡ true
 either true b h = refl
@@ -104,30 +101,36 @@ pub one_gathered : {A B : Type 0} (read : A → B) (xs : List A) (i : ℕ) (d : 
     → now ≡ before ++ one ∷ [] → one ≡ read (get_or xs i d) → now ≡ map read (take (i + 1) xs)
 one_gathered read xs i d before now one lt b n o = n ∙ ((λ j. b j ++ o j ∷ []) ∙ sym (map_more read xs i d lt))
 
+-- and of what is made of it
+pub one_held : {A B C : Type 0} (read : A → B) (make : B → C) (xs : List A) (i : ℕ) (d : A) (before now : List C) (one : C) → i < length xs
+    → before ≡ map make (map read (take i xs)) → now ≡ before ++ one ∷ [] → one ≡ make (read (get_or xs i d)) → now ≡ map make (map read (take (i + 1) xs))
+one_held read make xs i d before now one lt b n o =
+    n ∙ ((λ j. b j ++ o j ∷ []) ∙ sym (ap (map make) (map_more read xs i d lt) ∙ map-append make (map read (take i xs)) (read (get_or xs i d) ∷ [])))
+
 -- one more of a list
-pub rel_next : {A : Type 0} (read : A → Name) (r : Readable) (xs : List A) (i : ℕ) (d : A) (start before now : List ℕ) → i < length xs
-    → before ≡ start ++ text_granted (only_new r (map read (take i xs)))
-    → now ≡ before ++ text_granted (only_new r (read (get_or xs i d) ∷ [])) → now ≡ start ++ text_granted (only_new r (map read (take (i + 1) xs)))
-rel_next read r xs i d start before now lt e g =
-    g ∙ (ap (λ z. z ++ text_granted (only_new r (read (get_or xs i d) ∷ []))) e
-    ∙ (append_assoc start (text_granted (only_new r (map read (take i xs)))) (text_granted (only_new r (read (get_or xs i d) ∷ [])))
+pub rel_next : {A : Type 0} (read : A → Name) (f : Frame) (r : Readable) (xs : List A) (i : ℕ) (d : A) (start before now : List ℕ) → i < length xs
+    → before ≡ start ++ text_granted (only_new f r (map read (take i xs)))
+    → now ≡ before ++ text_granted (only_new f r (read (get_or xs i d) ∷ [])) → now ≡ start ++ text_granted (only_new f r (map read (take (i + 1) xs)))
+rel_next read f r xs i d start before now lt e g =
+    g ∙ (ap (λ z. z ++ text_granted (only_new f r (read (get_or xs i d) ∷ []))) e
+    ∙ (append_assoc start (text_granted (only_new f r (map read (take i xs)))) (text_granted (only_new f r (read (get_or xs i d) ∷ [])))
     ∙ ap (λ z. start ++ z) (sym more)))
   where
-    more : text_granted (only_new r (map read (take (i + 1) xs)))
-        ≡ text_granted (only_new r (map read (take i xs))) ++ text_granted (only_new r (read (get_or xs i d) ∷ []))
+    more : text_granted (only_new f r (map read (take (i + 1) xs)))
+        ≡ text_granted (only_new f r (map read (take i xs))) ++ text_granted (only_new f r (read (get_or xs i d) ∷ []))
     more =
-        ap (λ z. text_granted (only_new r z)) (map_more read xs i d lt)
-        ∙ (ap text_granted (filter-append (λ rel. not (had r rel)) (map read (take i xs)) (read (get_or xs i d) ∷ []))
-        ∙ (ap (flat_map told_text) (map-append granted (only_new r (map read (take i xs))) (only_new r (read (get_or xs i d) ∷ [])))
-        ∙ flat_map-append told_text (map granted (only_new r (map read (take i xs)))) (map granted (only_new r (read (get_or xs i d) ∷ [])))))
+        ap (λ z. text_granted (only_new f r z)) (map_more read xs i d lt)
+        ∙ (ap text_granted (filter-append (is_new f r) (map read (take i xs)) (read (get_or xs i d) ∷ []))
+        ∙ (ap (flat_map told_text) (map-append granted (only_new f r (map read (take i xs))) (only_new f r (read (get_or xs i d) ∷ [])))
+        ∙ flat_map-append told_text (map granted (only_new f r (map read (take i xs)))) (map granted (only_new f r (read (get_or xs i d) ∷ [])))))
 
-pub one_had : (r : Readable) (rel : Name) (text : List ℕ) → had r rel ≡ true → text ≡ text ++ text_granted (only_new r (rel ∷ []))
-one_had r rel text h = sym (append-nil text) ∙ ap (λ b. text ++ text_granted (cond (not b) (rel ∷ []) [])) (sym h)
+pub one_old : (f : Frame) (r : Readable) (rel : Name) (text : List ℕ) → is_new f r rel ≡ false → text ≡ text ++ text_granted (only_new f r (rel ∷ []))
+one_old f r rel text h = sym (append-nil text) ∙ ap (λ b. text ++ text_granted (cond b (rel ∷ []) [])) (sym h)
 
-pub one_new : (r : Readable) (rel : Name) (text now : List ℕ) → had r rel ≡ false → now ≡ text ++ told_text (granted rel)
-    → now ≡ text ++ text_granted (only_new r (rel ∷ []))
-one_new r rel text now h e =
-    e ∙ (ap (λ z. text ++ z) (sym (append-nil (told_text (granted rel)))) ∙ ap (λ b. text ++ text_granted (cond (not b) (rel ∷ []) [])) (sym h))
+pub one_new : (f : Frame) (r : Readable) (rel : Name) (text now : List ℕ) → is_new f r rel ≡ true → now ≡ text ++ told_text (granted rel)
+    → now ≡ text ++ text_granted (only_new f r (rel ∷ []))
+one_new f r rel text now h e =
+    e ∙ (ap (λ z. text ++ z) (sym (append-nil (told_text (granted rel)))) ∙ ap (λ b. text ++ text_granted (cond b (rel ∷ []) [])) (sym h))
 
 -- ---- what a role is told
 
@@ -188,29 +191,76 @@ some_there f role rel h = by (role_of f.rights role) (named f.catalog rel) refl 
     by (Some r) None e h = absurd (false≢true h)
     by (Some r) (Some d) e h = named_there f.catalog rel d e
 
--- what it had is told by what was asked
-had_is : (f : Frame) (r : Readable) (rel : Name) → IsReadable f r → had r rel ≡ has_some f r.role rel
-had_is f r rel h =
-    ap (λ rels. list_any (λ x. bytes_eq x rel) rels) h
-    ∙ (any-filter_same (λ x. bytes_eq x rel) (has_some f r.role) (has_some f r.role rel)
-    (λ x k. ap (has_some f r.role) ((bytes_eq-Decides x rel).0 k)) (map (λ e. e.name) f.catalog)
-    ∙ by (has_some f r.role rel) refl)
-  where
-    by : (b : Bool) → has_some f r.role rel ≡ b → (b && list_any (λ x. bytes_eq x rel) (map (λ e. e.name) f.catalog)) ≡ b
-    by true e = some_there f r.role rel e
-    by false e = refl
+-- who has none of these may do nothing
+none_of_four : (a b c d : Bool) → (a || (b || (c || (d || false)))) ≡ false → record { select = a; insert = b; update = c; delete = d } ≡ nothing
+none_of_four false false false false h = refl
+none_of_four true b c d h = absurd (false≢true (sym h))
+none_of_four false true c d h = absurd (false≢true (sym h))
+none_of_four false false true d h = absurd (false≢true (sym h))
+none_of_four false false false true h = absurd (false≢true (sym h))
 
-twice_kept : (p q s : Name → Bool) (xs : List Name) → ((x : Name) → q x ≡ s x) → filter (λ x. not (q x)) (filter p xs) ≡ filter (λ x. p x && not (s x)) xs
-twice_kept p q s [] h = refl
-twice_kept p q s (x ∷ xs) h = first (p x) ∙ (λ i. cond (p x && not (h x i)) (x ∷ twice_kept p q s xs h i) (twice_kept p q s xs h i))
+none_allowed : (f : Frame) (role rel : Name) → has_some f role rel ≡ false → allowed_in f role rel ≡ nothing
+none_allowed f role rel h = by (role_of f.rights role) (named f.catalog rel) h
   where
-    first : (a : Bool) → filter (λ y. not (q y)) (cond a (x ∷ filter p xs) (filter p xs))
-        ≡ cond (a && not (q x)) (x ∷ filter (λ y. not (q y)) (filter p xs)) (filter (λ y. not (q y)) (filter p xs))
-    first true = refl
-    first false = refl
+    asked : Option ℕ → Option CatalogEntry → Privilege → Bool
+    asked r o p = if_some r false (λ r. if_some o false (λ e. has f.rights r p e.rel))
 
-newly_is : (f g : Frame) (r : Readable) → IsReadable f r → only_new r (relations_with g r.role) ≡ newly f g r.role
-newly_is f g r h = twice_kept (has_some g r.role) (had r) (has_some f r.role) (map (λ e. e.name) g.catalog) (λ rel. had_is f r rel h)
+    by : (r : Option ℕ) (o : Option CatalogEntry) → if_some r false (λ r. if_some o false (λ e. has_any f.rights r e.rel)) ≡ false
+        → record { select = asked r o Select; insert = asked r o Insert; update = asked r o Update; delete = asked r o Delete } ≡ nothing
+    by None o h = refl
+    by (Some r) None h = refl
+    by (Some r) (Some e) h = none_of_four (has f.rights r Select e.rel) (has f.rights r Insert e.rel) (has f.rights r Update e.rel) (has f.rights r Delete e.rel) h
+
+-- what is told of the names that are left, of which it has something on each
+found : (f : Frame) (role rel : Name) (xs : List Name)
+    → allowed_before (map (held_in f role) (filter (has_some f role) xs)) rel ≡ cond (list_any (λ x. bytes_eq x rel) xs) (allowed_in f role rel) nothing
+found f role rel [] = refl
+found f role rel (x ∷ xs) = by (bytes_eq x rel) (has_some f role x) refl refl (found f role rel xs)
+  where
+    rest : List Held
+    rest = map (held_in f role) (filter (has_some f role) xs)
+
+    others : Bool
+    others = list_any (λ y. bytes_eq y rel) xs
+
+    either_way : (b : Bool) (a : Allowed) → a ≡ nothing → cond b a nothing ≡ a
+    either_way true a h = refl
+    either_way false a h = sym h
+
+    by : (b k : Bool) → bytes_eq x rel ≡ b → has_some f role x ≡ k → allowed_before rest rel ≡ cond others (allowed_in f role rel) nothing
+        → allowed_before (map (held_in f role) (cond k (x ∷ filter (has_some f role) xs) (filter (has_some f role) xs))) rel ≡ cond (b || others) (allowed_in f role rel) nothing
+    by true true e h more =
+        ap (λ t. if_some (cond t (Some (held_in f role x)) (find (λ y. bytes_eq y.rel rel) rest)) nothing (λ y. y.allowed)) e
+        ∙ ap (allowed_in f role) ((bytes_eq-Decides x rel).0 e)
+    by true false e h more =
+        more ∙ either_way others (allowed_in f role rel) (none_allowed f role rel (sym (ap (has_some f role) ((bytes_eq-Decides x rel).0 e)) ∙ h))
+    by false true e h more = ap (λ t. if_some (cond t (Some (held_in f role x)) (find (λ y. bytes_eq y.rel rel) rest)) nothing (λ y. y.allowed)) e ∙ more
+    by false false e h more = more
+
+-- what it might do is told by what was asked
+was_allowed : (f : Frame) (r : Readable) (rel : Name) → IsReadable f r → allowed_before r.rels rel ≡ allowed_in f r.role rel
+was_allowed f r rel h =
+    ap (λ hs. allowed_before hs rel) h ∙ (found f r.role rel (map (λ e. e.name) f.catalog) ∙ by (list_any (λ x. bytes_eq x rel) (map (λ e. e.name) f.catalog)) (has_some f r.role rel) refl refl)
+  where
+    by : (b k : Bool) → list_any (λ x. bytes_eq x rel) (map (λ e. e.name) f.catalog) ≡ b → has_some f r.role rel ≡ k
+        → cond b (allowed_in f r.role rel) nothing ≡ allowed_in f r.role rel
+    by true k e h = refl
+    by false true e h = absurd (false≢true (sym e ∙ some_there f r.role rel h))
+    by false false e h = sym (none_allowed f r.role rel h)
+
+twice_kept : (p q s : Name → Bool) (xs : List Name) → ((x : Name) → q x ≡ s x) → ((x : Name) → p x ≡ false → s x ≡ false) → filter q (filter p xs) ≡ filter s xs
+twice_kept p q s [] same none = refl
+twice_kept p q s (x ∷ xs) same none = by (p x) refl (twice_kept p q s xs same none)
+  where
+    by : (b : Bool) → p x ≡ b → filter q (filter p xs) ≡ filter s xs → filter q (cond b (x ∷ filter p xs) (filter p xs)) ≡ cond (s x) (x ∷ filter s xs) (filter s xs)
+    by true e more = λ i. cond (same x i) (x ∷ more i) (more i)
+    by false e more = more ∙ ap (λ b. cond b (x ∷ filter s xs) (filter s xs)) (sym (none x e))
+
+newly_is : (f g : Frame) (r : Readable) → IsReadable f r → only_new g r (relations_with g r.role) ≡ newly f g r.role
+newly_is f g r h =
+    twice_kept (has_some g r.role) (is_new g r) (gains f g r.role) (map (λ e. e.name) g.catalog)
+    (λ rel. ap (λ a. is_more a (allowed_in g r.role rel)) (was_allowed f r rel h))
+    (λ rel k. ap (is_more (allowed_in f r.role rel)) (none_allowed g r.role rel k))
 
 text_is : (f g : Frame) (rs : List Readable) (role : Name) → AllByRecursion (IsReadable f) rs → is_among rs role ≡ true
     → text_for (map (newly_in g) rs) role ≡ text_granted (newly f g role)
@@ -222,14 +272,16 @@ text_is f g (r ∷ rs) role w h = by (λ k. text_is f g rs role w.1 k) (bytes_eq
     by later true e h = ap text_granted (newly_is f g r w.0 ∙ ap (newly f g) ((bytes_eq-Decides r.role role).0 e))
     by later false e h = later h
 
-none_new : (p q : Name → Bool) (xs : List Name) → ((x : Name) → p x ≡ q x) → filter (λ x. p x && not (q x)) xs ≡ []
-none_new p q [] h = refl
-none_new p q (x ∷ xs) h = by (none_new p q xs h) (p x) (q x) (h x)
-  where
-    by : filter (λ y. p y && not (q y)) xs ≡ [] → (a b : Bool) → a ≡ b → cond (a && not b) (x ∷ filter (λ y. p y && not (q y)) xs) (filter (λ y. p y && not (q y)) xs) ≡ []
-    by later true true e = later
-    by later true false e = absurd (false≢true (sym e))
-    by later false b e = later
+none_new : (p : Name → Bool) (xs : List Name) → ((x : Name) → p x ≡ false) → filter p xs ≡ []
+none_new p [] h = refl
+none_new p (x ∷ xs) h = (λ i. cond (h x i) (x ∷ filter p xs) (filter p xs)) ∙ none_new p xs h
+
+neither : (b : Bool) → (b && not b) ≡ false
+neither true = refl
+neither false = refl
+
+not_more : (a : Allowed) → is_more a a ≡ false
+not_more a = λ i. neither a.select i || (neither a.insert i || (neither a.update i || (neither a.delete i || false)))
 
 -- ---- rows that are written give nobody a privilege
 
@@ -304,10 +356,13 @@ writes_keep qs s o w h = by (all_carried (map fact_of qs) (shared s)) refl h
         let k = all_keep qs (shared s) t w e in
         subst (λ (x : Outcome). HasSameRights s x.state) (same-Some (looked_at s (among s t)) o h) (record { rights = k.rights; catalog = k.catalog })
 
-same_some : (f g : Frame) (role rel : Name) → g.rights ≡ f.rights → g.catalog ≡ f.catalog → has_some g role rel ≡ has_some f role rel
-same_some f g role rel r k = λ i. if_some (role_of (r i) role) false (λ n. if_some (named (k i) rel) false (λ e. has_any (r i) n e.rel))
+same_allowed : (f g : Frame) (role rel : Name) → g.rights ≡ f.rights → g.catalog ≡ f.catalog → allowed_in g role rel ≡ allowed_in f role rel
+same_allowed f g role rel r k = λ i. record { select = now Select i; insert = now Insert i; update = now Update i; delete = now Delete i }
+  where
+    now : (p : Privilege) → has_on g role p rel ≡ has_on f role p rel
+    now p = λ i. if_some (role_of (r i) role) false (λ n. if_some (named (k i) rel) false (λ e. has (r i) n p e.rel))
 
--- ---- each client's role is told what it may read newly
+-- ---- each client's role is told on which relations it may do more
 
 pub are_newly : (f : Frame) (qs : List Request) (s : State) (o : Outcome) (rs : List Readable) (places : Places) → s.frame ≡ f
     → AreBefore f (list_all (λ q. is_write q.act) qs) rs places → stepped (map fact_of qs) s ≡ Some o → AreNewly f o.state.frame rs places
@@ -317,8 +372,9 @@ are_newly f qs s o rs places e w h = by (list_all (λ q. is_write q.act) qs) ref
     by true a n = λ m k t.
         let same = writes_keep qs s o a h in
         ap (λ z. text_for (map (newly_in o.state.frame) z) k.role) n
-        ∙ ap text_granted (sym (none_new (has_some o.state.frame k.role) (has_some f k.role) (map (λ d. d.name) o.state.frame.catalog)
-        (λ rel. same_some f o.state.frame k.role rel (same.rights ∙ ap (λ (z : Frame). z.rights) e) (same.catalog ∙ ap (λ (z : Frame). z.catalog) e))))
+        ∙ ap text_granted (sym (none_new (gains f o.state.frame k.role) (map (λ d. d.name) o.state.frame.catalog)
+        (λ rel. ap (is_more (allowed_in f k.role rel)) (same_allowed f o.state.frame k.role rel (same.rights ∙ ap (λ (z : Frame). z.rights) e) (same.catalog ∙ ap (λ (z : Frame). z.catalog) e))
+        ∙ not_more (allowed_in f k.role rel))))
     by false a w = λ m k t. text_is f o.state.frame rs k.role w.each (w.all m k t)
 
 told_as : ((t : Told) → IsLine (told_text t)) → (ns : List Newly) (k : Kept) (names : List Name) → text_for ns k.role ≡ text_granted names

@@ -1,4 +1,4 @@
-//! What clients are told beside the lines of a command: what it grants to their roles, the shape, and what they may read newly after a step.
+//! What clients are told beside the lines of a command: what it grants to their roles, the shape, and on which relations they may do more after a step.
 #![tactic(auto)]
 
 mod granting;

@@ -1,4 +1,4 @@
-//! What roles of clients may read before a step, and what of it they may read newly after it: each is told that once.
+//! What roles of clients may do before a step, and on which relations they may do more after it: each is told that once.
 ghost use Rattle.std.specs.Prelude.{◌≡◌, ◌==◌, ◌∷◌, ◌++◌, [], IfOk, OnOk, Some, bytes_eq, false, find, length, map, option_map, string_bytes, true};
 ghost use Rattle.std.specs.List.{AllByRecursion, list_all, list_any};
 ghost use Rattle.iv_rows.specs.Options.{if_some};
@@ -6,8 +6,9 @@ ghost use Rattle.iv_access.specs.Rights.{Name};
 ghost use Rattle.iv_clients.specs.Clients.{at_all, at_client, client_at};
 ghost use Rattle.iv_clients.specs.Kept.{Kept};
 ghost use Rattle.iv_notices.specs.Granting.{text_granted};
-ghost use Rattle.iv_notices.specs.Newly.{AreReadable, IsReadable, had, hearing_newly, is_among, newly_in, only_new, text_for};
+ghost use Rattle.iv_notices.specs.Newly.{AreReadable, IsReadable, allowed_before, allowed_in, hearing_newly, held_in, is_among, is_more, is_new, newly_in, only_new, text_for};
 
+use iv_access::Privilege;
 use iv_clients::Client;
 use iv_engine::Engine;
 use iv_hall::Hall;
@@ -15,20 +16,57 @@ use iv_message::push_granted;
 use std::alloc::{AllocError, Global};
 use std::marker::Model;
 
-/// A role, and the relations on which it has a privilege.
+/// What a role may do with a relation.
+#[derive(Clone, Copy)]
+struct Allowed {
+    select: bool,
+    insert: bool,
+    update: bool,
+    delete: bool,
+}
+
+impl Allowed {
+    /// Whether something is allowed that was not before.
+    fn is_more_than(self, before: Allowed) -> bool
+        ensures { result ≡ is_more before self }
+    {
+        (self.select && !before.select)
+            || (self.insert && !before.insert)
+            || (self.update && !before.update)
+            || (self.delete && !before.delete)
+    }
+}
+
+/// A relation, and what a role may do with it.
+#[derive(Drop)]
+struct Held {
+    rel: String,
+    allowed: Allowed,
+}
+
+impl Model for Held {
+    ghost use Rattle.std.specs.Prelude.{string_bytes};
+    ghost use Rattle.iv_notices.specs.Newly.{Held as HeldSpec};
+
+    ghost Value = { HeldSpec };
+
+    ghost view = { λ h. record { rel = string_bytes h.rel; allowed = h.allowed } };
+}
+
+/// A role, and what it may do, relation by relation.
 #[derive(Drop)]
 pub struct Readable {
     role: String,
-    rels: Vec<String>,
+    rels: Vec<Held>,
 }
 
 impl Model for Readable {
-    ghost use Rattle.std.specs.Prelude.{map, string_bytes};
+    ghost use Rattle.std.specs.Prelude.{string_bytes};
     ghost use Rattle.iv_notices.specs.Newly.{Readable as ReadableSpec};
 
     ghost Value = { ReadableSpec };
 
-    ghost view = { λ r. record { role = string_bytes r.role; rels = map string_bytes r.rels.items } };
+    ghost view = { λ r. record { role = string_bytes r.role; rels = r.rels.items } };
 }
 
 /// What a role is told.
@@ -47,37 +85,50 @@ impl Model for Newly {
     ghost view = { λ n. record { role = string_bytes n.role; text = n.text.items } };
 }
 
-/// Whether a name is among these.
-fn is_named(names: &[String], name: &str) -> bool
-    ensures { result ≡ list_any (λ n. bytes_eq (string_bytes n) name.now) names.now }
-{
-    names.iter().any(|other| other.as_str() == name)
-}
-
-impl Readable {
-    /// Whether the role had a privilege on a relation.
-    fn had(&self, rel: &str) -> bool
-        ensures { result ≡ had self.now rel.now }
-    {
-        is_named(&self.rels, rel)
-    }
-}
-
 // ---- before a step
 
-/// The names, in memory of their own.
-fn owned(alloc: Global, names: &[&str]) -> Result<Vec<String>, AllocError>
-    ensures { IfOk result (λ owned. map string_bytes owned.items ≡ map (λ n. n.now) names.now) }
+/// What a role may do with a relation.
+fn allowed_to(engine: &Engine, role: &str, rel: &str) -> Allowed
+    requires { engine.now.failed ≡ false }
+    ensures { result ≡ allowed_in engine.now.frame role.now rel.now }
 {
-    let mut owned = Vec::new(alloc);
-    for name in names {
-        let own = String::from_str(alloc, name)?;
-        owned.push(own)?;
+    Allowed {
+        select: engine.has(role, Privilege::Select, rel),
+        insert: engine.has(role, Privilege::Insert, rel),
+        update: engine.has(role, Privilege::Update, rel),
+        delete: engine.has(role, Privilege::Delete, rel),
     }
-    Ok(owned)
 }
 
-/// On which relations a role has a privilege.
+/// What a role may do with one relation, whose name is in memory of its own.
+fn held_on(alloc: Global, engine: &Engine, role: &str, rel: &str) -> Result<Held, AllocError>
+    requires { engine.now.failed ≡ false }
+    ensures { IfOk result (λ held. held ≡ held_in engine.now.frame role.now rel.now) }
+{
+    let allowed = allowed_to(engine, role, rel);
+    let rel = String::from_str(alloc, rel)?;
+    Ok(Held { rel, allowed })
+}
+
+/// What a role may do with each of these relations.
+fn held_on_all(
+    alloc: Global,
+    engine: &Engine,
+    role: &str,
+    rels: &[&str],
+) -> Result<Vec<Held>, AllocError>
+    requires { engine.now.failed ≡ false }
+    ensures { IfOk result (λ all. all.items ≡ map (held_in engine.now.frame role.now) (map (λ n. n.now) rels.now)) }
+{
+    let mut all = Vec::new(alloc);
+    for rel in rels {
+        let one = held_on(alloc, engine, role, rel)?;
+        all.push(one)?;
+    }
+    Ok(all)
+}
+
+/// What a role may do.
 fn readable_to(alloc: Global, engine: &Engine, role: &str) -> Result<Readable, AllocError>
     requires { engine.now.failed ≡ false }
     ensures role { IfOk result (λ r. r.role ≡ role.now) }
@@ -86,8 +137,8 @@ fn readable_to(alloc: Global, engine: &Engine, role: &str) -> Result<Readable, A
     match engine.relations_with(alloc, role) {
         Err(error) => Err(error),
         Ok(names) => {
+            let rels = held_on_all(alloc, engine, role, &names)?;
             let role = String::from_str(alloc, role)?;
-            let rels = owned(alloc, &names)?;
             Ok(Readable { role, rels })
         }
     }
@@ -152,7 +203,7 @@ fn add_role_of(
     }
 }
 
-/// On which relations the roles of clients have a privilege, each role once.
+/// What the roles of clients may do, each role once.
 ///
 /// # Errors
 /// `AllocError` if a growth of memory was refused, or the engine has failed; so it is of each of these functions.
@@ -175,33 +226,69 @@ pub fn all_readable(
 
 // ---- after it
 
-/// Appends that something is granted on a relation, if the role had no privilege on it.
+/// What is held on a relation, if it is among these.
+fn held_of<'a>(all: &'a [Held], rel: &str) -> Option<&'a Held>
+    ensures { option_map (λ h. h.now) result ≡ find (λ h. bytes_eq h.rel rel.now) all.now }
+{
+    all.iter().find(|held| held.rel.as_str() == rel)
+}
+
+/// What a role might do with a relation, of which these are all that it might do something with.
+fn allowed_before(all: &[Held], rel: &str) -> Allowed
+    ensures { result ≡ allowed_before all.now rel.now }
+{
+    match held_of(all, rel) {
+        None => Allowed {
+            select: false,
+            insert: false,
+            update: false,
+            delete: false,
+        },
+        Some(held) => held.allowed,
+    }
+}
+
+/// Whether a role may do something with a relation that it might not do before.
+fn is_new(engine: &Engine, before: &Readable, rel: &str) -> bool
+    requires { engine.now.failed ≡ false }
+    ensures { result ≡ is_new engine.now.frame before.now rel.now }
+{
+    let had = allowed_before(&before.rels, rel);
+    let has = allowed_to(engine, before.role.as_str(), rel);
+    has.is_more_than(had)
+}
+
+/// Appends that something is granted on a relation, if the role may do something with it that it might not do before.
 fn push_one(
     alloc: Global,
     text: &mut Vec<u8>,
+    engine: &Engine,
     before: &Readable,
     rel: &str,
 ) -> Result<(), AllocError>
-    ensures { OnOk result (text.new.items ≡ text.old.items ++ text_granted (only_new before.now (rel.now ∷ []))) }
+    requires { engine.now.failed ≡ false }
+    ensures { OnOk result (text.new.items ≡ text.old.items ++ text_granted (only_new engine.now.frame before.now (rel.now ∷ []))) }
 {
-    if before.had(rel) {
+    if is_new(engine, before, rel) {
+        push_granted(alloc, text, rel)?;
         return Ok(());
     }
-    push_granted(alloc, text, rel)?;
     Ok(())
 }
 
-/// Appends that something is granted on those relations on which the role had no privilege.
+/// Appends that something is granted on those relations with which the role may do something that it might not do before.
 fn push_new(
     alloc: Global,
     text: &mut Vec<u8>,
+    engine: &Engine,
     before: &Readable,
     rels: &[&str],
 ) -> Result<(), AllocError>
-    ensures { OnOk result (text.new.items ≡ text.old.items ++ text_granted (only_new before.now (map (λ n. n.now) rels.now))) }
+    requires { engine.now.failed ≡ false }
+    ensures { OnOk result (text.new.items ≡ text.old.items ++ text_granted (only_new engine.now.frame before.now (map (λ n. n.now) rels.now))) }
 {
     for rel in rels {
-        push_one(alloc, text, before, rel)?;
+        push_one(alloc, text, engine, before, rel)?;
     }
     Ok(())
 }
@@ -215,7 +302,7 @@ fn newly_told(alloc: Global, engine: &Engine, before: &Readable) -> Result<Newly
         Err(error) => Err(error),
         Ok(rels) => {
             let mut text = Vec::new(alloc);
-            push_new(alloc, &mut text, before, &rels)?;
+            push_new(alloc, &mut text, engine, before, &rels)?;
             let role = before.role.clone()?;
             Ok(Newly { role, text })
         }
@@ -291,7 +378,7 @@ fn are_empty(all: &[Newly]) -> bool
     all.iter().all(|one| one.text.is_empty())
 }
 
-/// Has each client told on which relations its role has a privilege, and had none. Where no role has one, nobody is looked at.
+/// Has each client told on which relations its role has a privilege that it had not. Where no role has one, nobody is looked at.
 pub fn hear_newly(
     alloc: Global,
     clients: &mut Hall,

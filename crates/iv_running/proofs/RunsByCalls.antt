@@ -12,22 +12,48 @@ use Rattle.iv_gate.specs.Runs.{Runs}
 use Rattle.iv_gate.specs.Runs as run
 use Rattle.iv_gateway.specs.Replays as is
 use Rattle.iv_journal.specs.Journal.{Line}
-use Rattle.iv_peer.specs.Socket.{fresh, passing, took}
-use Rattle.iv_desk.specs.Front.{Front, FrontRuns, Happens, at_socket, begins, begun, by_event, fails, front_at_start, goes_on, sends, socket_at, takes}
+use Rattle.iv_peer.specs.Socket.{fresh, passing}
+use Rattle.iv_desk.specs.Front.{Front, FrontRuns, GoesOn, Happens, at_socket, begins, begun, by_event, fails, forgives, front_at_start, sends, socket_at, stays}
+use Rattle.iv_desk.specs.Front.{then_closes, then_happens}
 use Rattle.iv_desk.specs.Desks.{IsCalledOut, IsDesk, IsHeard, IsHeardBy, IsRestored, at_each}
 use Rattle.iv_desk.specs.declared.desk.Desk.{Desk}
 use Rattle.iv_desk.specs.declared.place.Hearing.{Hearing}
-use Rattle.iv_running.specs.Running.{IsNew, IsRunning, Leads}
+use Rattle.iv_running.specs.Running.{HasCome, IsBack, IsNew, IsRunning, Leads}
+
+-- ---- as an order
+
+pub Leads-refl : (x : Desk) → Leads x x
+Leads-refl x d h = h
+
+pub Leads-trans : (x y z : Desk) → Leads x y → Leads y z → Leads x z
+Leads-trans x y z f g d h = g d (f d h)
+
+pub GoesOn-trans : (b d e : Front) → GoesOn b d → GoesOn d e → GoesOn b e
+GoesOn-trans b d e g stays = g
+GoesOn-trans b d e g (then_happens c f k a h) = then_happens c f (GoesOn-trans b d c g k) a h
+GoesOn-trans b d e g (then_closes c m code words k a t) = then_closes c m code words (GoesOn-trans b d c g k) a t
+
+-- what comes of a desk that runs, runs
+pub IsRunning-Leads : ((cap : ℕ) (d e : Front) → FrontRuns cap d → GoesOn d e → FrontRuns cap e) → (cap : ℕ) (x y : Desk) → IsRunning cap x → Leads x y → IsRunning cap y
+IsRunning-Leads law cap x y r h =
+    let w = h r.front (record { front = r.front; goes_on = stays; stands = r.stands }) in
+    record { front = w.front; runs = law cap r.front w.front r.runs w.goes_on; stands = w.stands }
 
 -- ---- one step
 
+-- of each front that stands behind it
+Leads-each : (x y : Desk) → ((d : Front) → IsDesk d x → HasCome d y) → Leads x y
+Leads-each x y h = λ d w.
+    let v = h w.front w.stands in
+    record { front = v.front; goes_on = GoesOn-trans d w.front v.front w.goes_on v.goes_on; stands = v.stands }
+
 step_on : (x y : Desk) (f : Front → Front) → ((d : Front) → d.gate.dead ≡ true → IsDesk d x → IsDesk d y)
-    → ((cap : ℕ) (d : Front) → FrontRuns cap d → d.gate.dead ≡ false → FrontRuns cap (f d)) → ((d : Front) → IsDesk d x → d.gate.dead ≡ false → IsDesk (f d) y) → Leads x y
-step_on x y f dead runs h = λ cap r. by cap r r.front.gate.dead refl
+    → ((d : Front) → d.gate.dead ≡ false → GoesOn d (f d)) → ((d : Front) → IsDesk d x → d.gate.dead ≡ false → IsDesk (f d) y) → Leads x y
+step_on x y f dead goes h = Leads-each x y (λ d s. by d s d.gate.dead refl)
   where
-    by : (cap : ℕ) (r : IsRunning cap x) (b : Bool) → r.front.gate.dead ≡ b → IsRunning cap y
-    by cap r true e = record { front = r.front; runs = r.runs; stands = dead r.front e r.stands }
-    by cap r false e = record { front = f r.front; runs = runs cap r.front r.runs e; stands = h r.front r.stands e }
+    by : (d : Front) → IsDesk d x → (b : Bool) → d.gate.dead ≡ b → HasCome d y
+    by d s true e = record { front = d; goes_on = stays; stands = dead d e s }
+    by d s false e = record { front = f d; goes_on = goes d e; stands = h d s e }
 
 -- nothing but that it is dead is known of a dead one
 still_dead : (d e : Front) (x y : Desk) → d.gate.dead ≡ true → e.gate.dead ≡ d.gate.dead → IsDesk e y → IsDesk d y
@@ -36,21 +62,25 @@ still_dead d e x y h same s = record { dead = s.dead ∙ same; alive = λ a. abs
 pub Leads-failed : (x y : Desk) → ((g : Gate) (e : Event) → g.dead ≡ true → next g e ≡ g) → ((d : Front) → IsDesk d x → IsDesk (by_event failed d) y)
     → Leads x y
 Leads-failed x y rests h = step_on x y (by_event failed)
-    (λ d e s. still_dead d (by_event failed d) x y e (ap (λ (g : Gate). g.dead) (rests d.gate failed e)) (h d s)) (λ cap d r e. goes_on d (by_event failed d) r e fails) (λ d s e. h d s)
+    (λ d e s. still_dead d (by_event failed d) x y e (ap (λ (g : Gate). g.dead) (rests d.gate failed e)) (h d s)) (λ d a. then_happens d (by_event failed d) stays a fails) (λ d s e. h d s)
 
 -- names are forgiven, and a dead one stays dead
-pub Leads-forgave : (x y : Desk) → ((g : Gate) (e : Event) → g.dead ≡ true → next g e ≡ g)
-    → ((cap : ℕ) (d : Front) → FrontRuns cap d → d.gate.dead ≡ false → FrontRuns cap (by_event forgave d)) → ((d : Front) → IsDesk d x → IsDesk (by_event forgave d) y) → Leads x y
-Leads-forgave x y rests runs h = step_on x y (by_event forgave)
-    (λ d e s. still_dead d (by_event forgave d) x y e (ap (λ (g : Gate). g.dead) (rests d.gate forgave e)) (h d s)) runs (λ d s e. h d s)
+pub Leads-forgave : (x y : Desk) → ((g : Gate) (e : Event) → g.dead ≡ true → next g e ≡ g) → ((d : Front) → IsDesk d x → IsDesk (by_event forgave d) y) → Leads x y
+Leads-forgave x y rests h = step_on x y (by_event forgave)
+    (λ d e s. still_dead d (by_event forgave d) x y e (ap (λ (g : Gate). g.dead) (rests d.gate forgave e)) (h d s)) (λ d a. then_happens d (by_event forgave d) stays a forgives) (λ d s e. h d s)
 
 -- where a dead one would have failed
-pub Leads-done : (x y : Desk) (f : Front → Front) → ((d : Front) → IsDesk d x → d.gate.dead ≡ true → ⊥)
-    → ((cap : ℕ) (d : Front) → FrontRuns cap d → d.gate.dead ≡ false → FrontRuns cap (f d)) → ((d : Front) → IsDesk d x → IsDesk (f d) y) → Leads x y
-Leads-done x y f lives runs h = step_on x y f (λ d e s. absurd (lives d s e)) runs (λ d s e. h d s)
+pub Leads-done : (x y : Desk) (f : Front → Front) → ((d : Front) → IsDesk d x → d.gate.dead ≡ true → ⊥) → ((d : Front) → d.gate.dead ≡ false → GoesOn d (f d))
+    → ((d : Front) → IsDesk d x → IsDesk (f d) y) → Leads x y
+Leads-done x y f lives goes h = step_on x y f (λ d e s. absurd (lives d s e)) goes (λ d s e. h d s)
+
+pub Leads-happened : (x y : Desk) (f : Front → Front) → ((d : Front) → IsDesk d x → d.gate.dead ≡ true → ⊥) → ((d : Front) → Happens d (f d))
+    → ((d : Front) → IsDesk d x → IsDesk (f d) y) → Leads x y
+Leads-happened x y f lives happens h = Leads-done x y f lives (λ d a. then_happens d (f d) stays a (happens d)) h
 
 pub Leads-passed : (m n : ℕ) (x y : Desk) → ((d : Front) → IsDesk d x → IsDesk (at_socket m (passing n) d) y) → Leads x y
-Leads-passed m n x y h = step_on x y (at_socket m (passing n)) (λ d e s. still_dead d (at_socket m (passing n) d) x y e refl (h d s)) (λ cap d r e. goes_on d (at_socket m (passing n) d) r e (sends m n)) (λ d s e. h d s)
+Leads-passed m n x y h = step_on x y (at_socket m (passing n)) (λ d e s. still_dead d (at_socket m (passing n) d) x y e refl (h d s))
+    (λ d a. then_happens d (at_socket m (passing n) d) stays a (sends m n)) (λ d s e. h d s)
 
 begun_dead : (d : Front) (m : ℕ) → (begun m d).gate.dead ≡ d.gate.dead
 begun_dead d m = by (is_free m d.sockets)
@@ -60,50 +90,58 @@ begun_dead d m = by (is_free m d.sockets)
     by false = refl
 
 pub Leads-begun : (m : ℕ) (x y : Desk) → ((d : Front) → IsDesk d x → IsDesk (begun m d) y) → Leads x y
-Leads-begun m x y h = step_on x y (begun m) (λ d e s. still_dead d (begun m d) x y e (begun_dead d m) (h d s)) (λ cap d r e. goes_on d (begun m d) r e (begins m)) (λ d s e. h d s)
+Leads-begun m x y h = step_on x y (begun m) (λ d e s. still_dead d (begun m d) x y e (begun_dead d m) (h d s)) (λ d a. then_happens d (begun m d) stays a (begins m)) (λ d s e. h d s)
 
 -- ---- more than one
 
-pub Leads-heard : ((cap m : ℕ) (d e : Front) (hearing : Hearing) → FrontRuns cap d → d.gate.dead ≡ false → IsHeardBy d m (socket_at d m) hearing e → FrontRuns cap e)
+-- a step, and then all that a number says is heard
+pub Leads-heard : ((m : ℕ) (d e : Front) (hearing : Hearing) → d.gate.dead ≡ false → IsHeardBy d m (socket_at d m) hearing e → GoesOn d e)
     → (m : ℕ) (hearing : Hearing) (x y : Desk) (f : Front → Front) → ((d : Front) → IsDesk d x → d.gate.dead ≡ true → ⊥)
-    → ((cap : ℕ) (d : Front) → FrontRuns cap d → d.gate.dead ≡ false → FrontRuns cap (f d)) → ((d : Front) → (f d).gate.dead ≡ d.gate.dead)
+    → ((d : Front) → d.gate.dead ≡ false → GoesOn d (f d)) → ((d : Front) → (f d).gate.dead ≡ d.gate.dead)
     → ((d : Front) → IsDesk d x → IsHeard (f d) m hearing y) → Leads x y
-Leads-heard law m hearing x y f lives runs same h = λ cap r. by cap r r.front.gate.dead refl
+Leads-heard law m hearing x y f lives goes same h = Leads-each x y (λ d s. by d s d.gate.dead refl)
   where
-    by : (cap : ℕ) (r : IsRunning cap x) (b : Bool) → r.front.gate.dead ≡ b → IsRunning cap y
-    by cap r true e = absurd (lives r.front r.stands e)
-    by cap r false e =
-        let w = h r.front r.stands in
-        record { front = w.now; runs = law cap m (f r.front) w.now hearing (runs cap r.front r.runs e) (same r.front ∙ e) w.heard; stands = w.stands }
+    by : (d : Front) → IsDesk d x → (b : Bool) → d.gate.dead ≡ b → HasCome d y
+    by d s true e = absurd (lives d s e)
+    by d s false e =
+        let w = h d s in
+        record { front = w.now; goes_on = GoesOn-trans d (f d) w.now (goes d e) (law m (f d) w.now hearing (same d ∙ e) w.heard); stands = w.stands }
 
-pub FrontRuns-took : (m : ℕ) (bytes : List ℕ) (cap : ℕ) (d : Front) → FrontRuns cap d → d.gate.dead ≡ false → FrontRuns cap (at_socket m (took bytes) d)
-FrontRuns-took m bytes cap d r e = goes_on d (at_socket m (took bytes) d) r e (takes m bytes)
-
+-- an event, and then a step at each of some numbers
 pub Leads-called : ((g : Gate) (e : Event) → IsWell e → g.dead ≡ false → LeavesMarks g e)
-    → (f : ℕ → Front → Front) → ((cap : ℕ) (ms : List ℕ) (d : Front) → FrontRuns cap d → d.gate.dead ≡ false → FrontRuns cap (at_each f ms d))
+    → (f : ℕ → Front → Front) → ((ms : List ℕ) (d : Front) → d.gate.dead ≡ false → GoesOn d (at_each f ms d))
     → (e : Event) → IsWell e → ((g : Gate) → (marked g e).dead ≡ g.dead) → ((d : Front) → Happens d (by_event e d))
     → (x y : Desk) → ((d : Front) → IsDesk d x → d.gate.dead ≡ true → ⊥) → ((d : Front) → IsDesk d x → IsCalledOut f (by_event e d) y) → Leads x y
-Leads-called law f calls e v same happens x y lives h = λ cap r. by cap r r.front.gate.dead refl
+Leads-called law f calls e v same happens x y lives h = Leads-each x y (λ d s. by d s d.gate.dead refl)
   where
-    by : (cap : ℕ) (r : IsRunning cap x) (b : Bool) → r.front.gate.dead ≡ b → IsRunning cap y
-    by cap r true k = absurd (lives r.front r.stands k)
-    by cap r false k =
-        let w = h r.front r.stands in
+    by : (d : Front) → IsDesk d x → (b : Bool) → d.gate.dead ≡ b → HasCome d y
+    by d s true k = absurd (lives d s k)
+    by d s false k =
+        let w = h d s in
         record {
-          front = at_each f w.numbers (by_event e r.front);
-          runs = calls cap w.numbers (by_event e r.front) (goes_on r.front (by_event e r.front) r.runs k (happens r.front)) (ap (λ (z : Gate). z.dead) (law r.front.gate e v k).marks ∙ (same r.front.gate ∙ k));
+          front = at_each f w.numbers (by_event e d);
+          goes_on = GoesOn-trans d (by_event e d) (at_each f w.numbers (by_event e d)) (then_happens d (by_event e d) stays k (happens d))
+              (calls w.numbers (by_event e d) (ap (λ (z : Gate). z.dead) (law d.gate e v k).marks ∙ (same d.gate ∙ k)));
           stands = w.stands;
         }
 
 -- ---- it begins
 
-pub IsRunning-IsRestored : ((cap most places : ℕ) (tokens : List Token) (head : Head) (sent : List Shown) (journal : List Line) (g : Gate) → Restores (gate_at_start cap tokens most head sent) journal g
+pub IsBack-IsRestored : (cap : ℕ) (tokens : List Token) (head : Head) (journal : List Line) (x y : Desk) → IsNew cap tokens head x
+    → ((d : Front) → is.IsNew d.gate → IsDesk d x → IsRestored d journal y) → IsBack cap tokens head journal y
+IsBack-IsRestored cap tokens head journal x y new h = record {
+  most = new.most;
+  places = new.places;
+  back = h (front_at_start (gate_at_start cap tokens new.most head []) new.places) (record { entries = refl; kept = refl; forgiven = refl }) new.stands;
+}
+
+pub IsRunning-IsBack : ((cap most places : ℕ) (tokens : List Token) (head : Head) (sent : List Shown) (journal : List Line) (g : Gate) → Restores (gate_at_start cap tokens most head sent) journal g
     → Runs cap g → FrontRuns cap (front_at_start g places))
-    → (cap : ℕ) (journal : List Line) (x y : Desk) → IsNew cap x → ((d : Front) → is.IsNew d.gate → IsDesk d x → IsRestored d journal y) → IsRunning cap y
-IsRunning-IsRestored law cap journal x y new h =
-    let w = h (front_at_start (gate_at_start cap new.tokens new.most new.head []) new.places) (record { entries = refl; kept = refl; forgiven = refl }) new.stands in
+    → (cap : ℕ) (tokens : List Token) (head : Head) (journal : List Line) (x : Desk) → IsBack cap tokens head journal x → IsRunning cap x
+IsRunning-IsBack law cap tokens head journal x h =
+    let w = h.back in
     record {
-      front = front_at_start w.now new.places;
-      runs = law cap new.most new.places new.tokens new.head [] journal w.now w.restores (run.begins new.tokens new.most new.head journal w.now w.restores);
+      front = front_at_start w.now h.places;
+      runs = law cap h.most h.places tokens head [] journal w.now w.restores (run.begins tokens h.most head journal w.now w.restores);
       stands = w.stands;
     }

@@ -13,6 +13,8 @@ pub enum Fault {
     Desk,
     /// The system has no clock, or does not tell of sockets.
     System,
+    /// What the keeper of a log said cannot be, which was told.
+    Log,
 }
 
 impl From<AllocError> for Fault {

@@ -5,9 +5,11 @@
 
 pub mod calls;
 mod fault;
+mod logs;
 mod opening;
 mod said;
 
 pub use fault::Fault;
+pub use logs::{Follows, begin_log, followed_in, recalled_in, requests_are_recalled};
 pub use opening::{come_back, open_journal};
-pub use said::{SYSTEM, UNUSABLE, failed, out_of_memory};
+pub use said::{KEEPER, SYSTEM, UNUSABLE, failed, no_log_in, out_of_memory};

@@ -1,9 +1,14 @@
 //! `open_journal`: the journal's file, in the form of today; `come_back`: a desk that is where it leads.
-ghost use Rattle.std.specs.Prelude.{ℕ, IfOk, OnOk};
+ghost use Rattle.std.specs.Prelude.{◌≡◌, ℕ, IfOk, List, OnOk, drop};
+ghost use Rattle.iv_audit.specs.Reading.{IsAudit};
+ghost use Rattle.iv_clients.specs.Tokens.{Token as Holder};
 ghost use Rattle.iv_gate.specs.Gate as spec;
 ghost use Rattle.iv_gateway.specs.Views.{IsHead};
+ghost use Rattle.iv_head.specs.Begun.{begun_in};
+ghost use Rattle.iv_host.specs.Beginning.{head_with};
 ghost use Rattle.iv_host.specs.Settings.{AreValid};
-ghost use Rattle.iv_running.specs.Running.{IsNew, IsRunning};
+ghost use Rattle.iv_running.specs.Logs.{IsComeBack};
+ghost use Rattle.iv_running.specs.Running.{IsBack, IsNew, IsRunning};
 
 use crate::calls::{new_desk, restore};
 use crate::said::{damaged_at, damaged_in, no_journal, no_random_bytes, out_of_memory, say_cut};
@@ -26,7 +31,7 @@ fn desk_of(
 ) -> Result<Desk, u8>
     requires settings { AreValid settings.now }
     requires head { (h : spec.Head) × IsHead h head }
-    ensures { IfOk result (IsNew settings.now.rows) }
+    ensures { IfOk result (λ x. (h : spec.Head) → IsHead h head → IsNew settings.now.rows tokens.items h x) }
 {
     let Ok(seed) = Seed::random(rt) else {
         return Err(no_random_bytes(rt));
@@ -46,7 +51,7 @@ fn desk_of(
 
 /// What a gateway begins with whose journal has this epoch, and says this before its first entry.
 fn begins_with(rt: &HostRuntime, epoch: &str, begun: Begun) -> Result<Head, u8>
-    ensures { IfOk result (λ x. (h : spec.Head) × IsHead h x) }
+    ensures { IfOk result (λ x. IsHead (head_with epoch.now begun) x) }
 {
     match head_of(rt.alloc(), epoch, begun) {
         Ok(head) => Ok(head),
@@ -55,7 +60,7 @@ fn begins_with(rt: &HostRuntime, epoch: &str, begun: Begun) -> Result<Head, u8>
 }
 
 /// 32 digits that no other journal has.
-fn new_digits(rt: &HostRuntime) -> Result<[u8; 32], u8> {
+pub(crate) fn new_digits(rt: &HostRuntime) -> Result<[u8; 32], u8> {
     match random_digits(rt) {
         Ok(digits) => Ok(digits),
         Err(_) => Err(no_random_bytes(rt)),
@@ -71,7 +76,9 @@ fn lead(
     behind: usize,
     entries: &[Line<'_>],
 ) -> Result<(), u8>
-    ensures { OnOk result ((cap : ℕ) → IsNew cap desk.old → IsRunning cap desk.new) }
+    ensures runs { OnOk result ((cap : ℕ) (tokens : List Holder) (head : spec.Head) → IsNew cap tokens head desk.old → IsRunning cap desk.new) }
+    ensures back { OnOk result ((cap : ℕ) (tokens : List Holder) (head : spec.Head) → IsNew cap tokens head desk.old
+        → IsBack cap tokens head entries.now desk.new) }
 {
     match restore(desk, entries) {
         Ok(()) => Ok(()),
@@ -167,7 +174,9 @@ pub fn open_journal(rt: &HostRuntime, settings: &Settings) -> Result<(JournalFil
 // ---- the form of today
 
 /// Reads a journal, or says why it is not read.
-fn read<'a>(rt: &HostRuntime, path: &str, bytes: &'a [u8]) -> Result<Audit<'a>, u8> {
+pub(crate) fn read<'a>(rt: &HostRuntime, path: &str, bytes: &'a [u8]) -> Result<Audit<'a>, u8>
+    ensures { IfOk result (λ a. IsAudit bytes.now a) }
+{
     match read_audit(rt.alloc(), bytes) {
         Ok(audit) => Ok(audit),
         Err(AuditFault::Damaged(place)) => Err(damaged_at(rt, path, bytes, place)),
@@ -191,12 +200,24 @@ fn epoch_of(
 }
 
 /// What a journal says before its first entry, and in how many lines after its head.
-fn begun_in(rt: &HostRuntime, lines: &[Line<'_>]) -> Result<(Begun, usize), u8> {
+pub(crate) fn begun_in(rt: &HostRuntime, lines: &[Line<'_>]) -> Result<(Begun, usize), u8>
+    ensures { IfOk result (λ p. (p.0, drop p.1 lines.now) ≡ begun_in lines.now) }
+{
     let mut scratch = Scratch::new(rt.alloc());
     match read_begun(rt.alloc(), lines, &mut scratch) {
         Ok(found) => Ok(found),
         Err(_) => Err(out_of_memory(rt)),
     }
+}
+
+/// The lines behind so many of them.
+fn behind<'l, 'a>(lines: &'l [Line<'a>], count: usize) -> &'l [Line<'a>]
+    ensures { result.now ≡ drop count lines.now }
+{
+    if count > lines.len() {
+        return &lines[..0];
+    }
+    &lines[count..]
 }
 
 /// A desk with these tokens that is where a journal leads, and in how many lines after its head that says something before its first entry.
@@ -209,16 +230,20 @@ fn led(
     digits: &[u8; 32],
 ) -> Result<(Desk, usize), u8>
     requires { AreValid settings.now }
-    ensures { IfOk result (λ p. IsRunning settings.now.rows p.0) }
+    ensures runs { IfOk result (λ p. IsRunning settings.now.rows p.0) }
+    ensures back { IfOk result (λ p. (epoch : List ℕ) × IsBack settings.now.rows tokens.items
+        (head_with epoch (begun_in audit.now.lines.items).0) (begun_in audit.now.lines.items).1 p.0) }
 {
     let path = settings.journal.as_str();
     let epoch = epoch_of(rt, path, bytes, audit, digits)?;
     let (begun, said) = begun_in(rt, &audit.lines)?;
     let head = begins_with(rt, epoch.as_str(), begun)?;
     let mut desk = desk_of(rt, settings, tokens, head)?;
-    let entries = audit.lines.get(said..).unwrap_or(&[]);
-    lead(rt, &mut desk, path, bytes, said.saturating_add(1), entries)?;
-    Ok((desk, said))
+    let entries = behind(&audit.lines, said);
+    match lead(rt, &mut desk, path, bytes, said.saturating_add(1), entries) {
+        Ok(()) => Ok((desk, said)),
+        Err(status) => Err(status),
+    }
 }
 
 /// Begins the journal of a file that this was read of.
@@ -252,7 +277,8 @@ pub fn come_back(
     bytes: Vec<u8>,
 ) -> Result<(Desk, FileJournal), u8>
     requires { AreValid settings.now }
-    ensures { IfOk result (λ p. IsRunning settings.now.rows p.0) }
+    ensures runs { IfOk result (λ p. IsRunning settings.now.rows p.0) }
+    ensures back { IfOk result (λ p. IsComeBack settings.now.rows tokens.items bytes.items p.0) }
 {
     let path = settings.journal.as_str();
     let digits = new_digits(rt)?;

@@ -7,6 +7,8 @@ use iv_host::{FileJournal, OpenFault};
 pub const UNUSABLE: u8 = 1;
 /// The status if the system refuses the network, or random bytes.
 pub const SYSTEM: u8 = 2;
+/// The status if the keeper of a log says what cannot be.
+pub const KEEPER: u8 = 4;
 /// The status if memory is refused.
 const MEMORY: u8 = 3;
 
@@ -53,11 +55,20 @@ pub fn failed(rt: &HostRuntime, journal: &FileJournal, fault: Fault) -> u8 {
             );
             SYSTEM
         }
+        Fault::Log => KEEPER,
         Fault::System => {
             let _ = eprintln!(rt; "gateway: the system has no clock, or does not tell of sockets");
             SYSTEM
         }
     }
+}
+
+/// Says that a journal has no place for a log.
+pub fn no_log_in(rt: &HostRuntime, path: &str) -> u8 {
+    let _ = eprintln!(rt;
+        "gateway: {path}: the journal has entries of its own: a log needs a new journal file"
+    );
+    UNUSABLE
 }
 
 /// Says that the system gives no random bytes.

@@ -1,1 +1,2 @@
+pub mod ClosedSockets
 pub mod TokenCounts

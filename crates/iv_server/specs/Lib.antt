@@ -1,1 +1,2 @@
 pub mod ByToken
+pub mod Shutting

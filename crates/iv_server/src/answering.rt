@@ -2,8 +2,8 @@
 use crate::server::{Kind, Server};
 use iv_arrivals::Tally;
 use iv_desk::Desk;
-use iv_host::{FileJournal, Now, answer, figures_now, page_in, raise, state_now};
-use iv_pages::{Ask, FIGURES_KIND};
+use iv_host::{FileJournal, Now, answer, figures_now, page_in, raise, refusal, state_now};
+use iv_pages::{Ask, FIGURES_KIND, Refusal};
 use iv_running::Fault;
 
 /// The media type of a text.
@@ -29,6 +29,9 @@ impl Server {
         ask: &Ask<'_>,
     ) -> Result<Vec<u8>, Fault> {
         let is_of_health = is(ask, b"/healthz") || is(ask, b"/readyz");
+        if is(ask, b"/readyz") && !self.open {
+            return Ok(refusal(rt, Refusal::Unavailable, ask.only_head)?);
+        }
         if is_of_health {
             return Ok(answer(rt, ask, TEXT, None, b"ok\n")?);
         }

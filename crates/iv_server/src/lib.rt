@@ -3,6 +3,7 @@
 
 mod answering;
 mod by_token;
+pub mod laws;
 mod reading;
 mod sending;
 mod server;

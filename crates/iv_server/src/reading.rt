@@ -1,9 +1,9 @@
 //! What a round reads: heads of requests, and what clients say, at most so much of each, until much is told.
-ghost use Rattle.std.specs.Prelude.{◌≡◌, ◌++◌, OnOk};
+ghost use Rattle.std.specs.Prelude.{◌≡◌, ◌++◌, OnOk, false};
 ghost use Rattle.iv_running.specs.Running.{Leads};
 
 use crate::server::{COMING, Kind, Server};
-use crate::socket::{Got, Stage, listen_at, read_at};
+use crate::socket::{Got, Stage, listen_at, read_at, read_head_at};
 use iv_audit::Share;
 use iv_desk::{Desk, Hearing};
 use iv_host::{ADMIN, FileJournal, Why, raise, refusal};
@@ -34,7 +34,7 @@ const MOST_BY_TOKEN: usize = 64;
 const KEPT: usize = 16;
 
 impl Server {
-    /// Reads of the head of a request.
+    /// Reads of the head of a request. Nothing happens to the desk while nobody may come in.
     fn read_head(
         &mut self,
         rt: &HostRuntime,
@@ -42,22 +42,17 @@ impl Server {
         journal: &FileJournal,
         at: u32,
     ) -> Result<(), Fault>
-        ensures { Leads desk.old desk.new }
+        ensures leads { Leads desk.old desk.new }
+        ensures shut { self.old.open ≡ false → desk.new ≡ desk.old }
     {
-        let Some(socket) = self.socket(at) else {
-            return Ok(());
-        };
-        match socket.read_head()? {
-            Got::Nothing => {
-                socket.readable = false;
-                Ok(())
-            }
+        match read_head_at(&mut self.sockets, at)? {
+            Got::Nothing => Ok(()),
             Got::End => self.go(at, Why::Closed),
             Got::Bytes(_) => self.ask(rt, desk, journal, at),
         }
     }
 
-    /// Does what the head of a request asks for, if it is whole.
+    /// Does what the head of a request asks for, if it is whole. Nothing happens to the desk while nobody may come in.
     fn ask(
         &mut self,
         rt: &HostRuntime,
@@ -65,8 +60,10 @@ impl Server {
         journal: &FileJournal,
         at: u32,
     ) -> Result<(), Fault>
-        ensures { Leads desk.old desk.new }
+        ensures leads { Leads desk.old desk.new }
+        ensures shut { self.old.open ≡ false → desk.new ≡ desk.old }
     {
+        let may_come = self.open;
         let head = self.head_of(at);
         let only_head = head.starts_with(b"HEAD ");
         match asked(&head) {
@@ -74,7 +71,13 @@ impl Server {
                 self.keep_head(at, head);
                 Ok(())
             }
-            Wish::Upgrade => self.upgrade(desk, at, &head),
+            Wish::Upgrade => {
+                if may_come {
+                    return self.upgrade(desk, at, &head);
+                }
+                let answer = refusal(rt, Refusal::Unavailable, false)?;
+                self.answer(rt, at, answer, false)
+            }
             Wish::Page(ask) => {
                 let answer = self.page(rt, desk, journal, &head, &ask)?;
                 self.answer(rt, at, answer, only_head)

@@ -1,5 +1,9 @@
 //! `Server`: the sockets by their numbers, which are the desk's and the poll's, and what a round does with them.
+ghost use Rattle.std.specs.Prelude.{◌≡◌, OnOk, false, true};
+ghost use Rattle.iv_desk.specs.Front.{Front};
+ghost use Rattle.iv_desk.specs.Desks.{IsDesk};
 ghost use Rattle.iv_running.specs.Running.{Leads};
+ghost use Rattle.iv_server.specs.Shutting.{closed_at, closed_below};
 
 use crate::by_token::ByToken;
 use crate::socket::{Socket, Stage};
@@ -8,7 +12,7 @@ use iv_audit::Share;
 use iv_desk::Desk;
 use iv_host::{Counts, FileJournal, Log, TokenFile, Why, raise};
 use iv_running::Fault;
-use iv_running::calls::settle;
+use iv_running::calls::{close, settle};
 use mio::event::Event;
 use mio::net::{TcpListener, TcpStream};
 use mio::{Events, Interest, Poll, Token};
@@ -58,6 +62,8 @@ pub struct Server {
     pub(crate) inside: usize,
     /// How many clients are there by each token.
     pub(crate) by_token: ByToken,
+    /// Clients may come in.
+    pub(crate) open: bool,
     /// Somebody may wait to be accepted.
     pub(crate) accepting: bool,
     /// The next round is to come at once.
@@ -173,8 +179,10 @@ impl Places {
 }
 
 impl Server {
-    /// One with these places, in which nobody is.
-    pub fn new(alloc: Global, places: Places, admission: Admission) -> Server {
+    /// One with these places, in which nobody is. Whether clients may come in.
+    pub fn new(alloc: Global, places: Places, admission: Admission, is_open: bool) -> Server
+        ensures { result.open ≡ is_open }
+    {
         let Places {
             most,
             pages,
@@ -192,6 +200,7 @@ impl Server {
             shares: Vec::new(alloc),
             inside: 0,
             by_token: ByToken::new(alloc),
+            open: is_open,
             accepting: false,
             again: false,
             swept: 0,
@@ -451,6 +460,59 @@ impl Server {
         ensures { Leads desk.old desk.new }
     {
         self.admission.look(rt, desk, file)
+    }
+
+    /// Clients may come in.
+    pub fn open(&mut self)
+        ensures { self.new ≡ record self.old { «open» = true } }
+    {
+        self.open = true;
+    }
+
+    /// The connection of a number is closed, if the desk has it.
+    fn close_at(&mut self, desk: &mut Desk, at: u32) -> Result<(), Fault>
+        ensures leads { Leads desk.old desk.new }
+        ensures closed { OnOk result ((d : Front) → IsDesk d desk.old → IsDesk (closed_at at d) desk.new) }
+        ensures same { self.new.open ≡ self.old.open }
+    {
+        close(desk, at, 1013, b"The log is not followed now.")?;
+        if self.kind(at) == Kind::Desk {
+            self.asked.push(at)?;
+        }
+        Ok(())
+    }
+
+    /// No client may come in, and who is there is closed.
+    ///
+    /// # Errors
+    /// `Memory` if a growth of memory was refused.
+    pub fn shut(&mut self, desk: &mut Desk) -> Result<(), Fault>
+        ensures leads { Leads desk.old desk.new }
+        ensures shut { self.new.open ≡ false }
+        ensures all { self.old.open ≡ true → OnOk result ((d : Front) → IsDesk d desk.old → IsDesk (closed_below self.old.most d) desk.new) }
+        ensures none { self.old.open ≡ false → desk.new ≡ desk.old }
+    {
+        if !self.open {
+            return Ok(());
+        }
+        self.open = false;
+        for at in 0..self.most {
+            self.close_at(desk, at)?;
+        }
+        Ok(())
+    }
+
+    /// The entries that were made since the last of somebody were made by nobody who is here.
+    ///
+    /// # Errors
+    /// `Memory` if a growth of memory was refused.
+    pub fn share_none(&mut self, desk: &Desk) -> Result<(), Fault>
+        ensures same { self.new.open ≡ self.old.open }
+    {
+        let end = desk.entered().len();
+        let holder = String::new(self.alloc);
+        self.shares.push(Share { end, holder })?;
+        Ok(())
     }
 
     /// Takes in what the events bring, has the journal keep it, and then sends what may be sent.

@@ -94,7 +94,7 @@ impl Socket {
     }
 
     /// Reads bytes of the head.
-    pub(crate) fn read_head(&mut self) -> Result<Got, Fault> {
+    fn read_head(&mut self) -> Result<Got, Fault> {
         let Stage::Head(head) = &mut self.stage else {
             return Ok(Got::Nothing);
         };
@@ -201,6 +201,18 @@ fn nothing_or_end(kind: ErrorKind) -> Got {
         ErrorKind::Interrupted => Got::Bytes(0),
         _ => Got::End,
     }
+}
+
+/// Reads bytes of the head at a number.
+pub(crate) fn read_head_at(sockets: &mut [Option<Socket>], at: u32) -> Result<Got, Fault> {
+    let Some(Some(socket)) = sockets.get_mut(at as usize) else {
+        return Ok(Got::Nothing);
+    };
+    let got = socket.read_head()?;
+    if got == Got::Nothing {
+        socket.readable = false;
+    }
+    Ok(got)
 }
 
 /// Judges what is presented at a number, before the desk hears these bytes.

@@ -5,7 +5,8 @@ ghost use Rattle.iv_running.specs.Running.{Leads};
 use iv_admission::{Admission, open_tokens};
 use iv_clients::Token;
 use iv_desk::Desk;
-use iv_host::{FileJournal, Settings, TokenFile};
+use iv_following::Following;
+use iv_host::{FileJournal, JournalFile, Settings, TokenFile};
 use iv_running::calls::{forgive, tick};
 use iv_running::{Fault, SYSTEM, come_back, failed, open_journal, out_of_memory};
 use iv_server::{Places, Server, listener_at};
@@ -89,21 +90,54 @@ fn each_minute(desk: &mut Desk, clock: &mut Clock, now: u64)
     forgive(desk);
 }
 
+/// Milliseconds to wait for something to come, at most.
+fn patience(server: &Server, following: &Option<Following>) -> u64 {
+    match following {
+        Some(following) if following.is_hurried() => 0,
+        _ => server.patience(),
+    }
+}
+
 /// Waits until something comes, a second at most.
-fn wait(server: &Server, poll: &mut Poll, events: &mut Events) -> Result<(), Fault> {
-    match poll.poll(events, Some(Duration::from_millis(server.patience()))) {
+fn wait(patience: u64, poll: &mut Poll, events: &mut Events) -> Result<(), Fault> {
+    match poll.poll(events, Some(Duration::from_millis(patience))) {
         Ok(()) => Ok(()),
         Err(_) => Err(Fault::System),
     }
 }
 
-/// Serves until the journal or memory fails.
+/// Hears the keeper of a log, if one is followed. Whether that ends the program.
+fn hear_keeper(
+    desk: &mut Desk,
+    server: &mut Server,
+    following: &mut Option<Following>,
+    poll: &Poll,
+    events: &Events,
+) -> Result<bool, Fault>
+    ensures { Leads desk.old desk.new }
+{
+    match following {
+        None => Ok(false),
+        Some(following) => following.hear(desk, server, poll, events),
+    }
+}
+
+/// Tells the keeper of a log up to where that is on disk, if one is followed.
+fn tell_keeper(desk: &Desk, following: &mut Option<Following>, poll: &Poll) -> Result<(), Fault> {
+    match following {
+        None => Ok(()),
+        Some(following) => following.tell(desk, poll),
+    }
+}
+
+/// Serves until the journal or memory fails, or the only keeper of a log has gone.
 fn serve(
     rt: &HostRuntime,
     desk: &mut Desk,
     server: &mut Server,
     journal: &mut FileJournal,
     tokens: &mut TokenFile,
+    following: &mut Option<Following>,
     poll: &mut Poll,
     listener: &TcpListener,
 ) -> Result<(), Fault>
@@ -120,13 +154,18 @@ fn serve(
     };
     let mut events = Events::with_capacity(rt.alloc(), 1024)?;
     'rounds: for _ in 0..u64::MAX {
-        wait(server, poll, &mut events)?;
+        wait(patience(server, following), poll, &mut events)?;
         let now = since(rt, &clock.start);
         server.is_at(now);
         each_second(rt, desk, server, tokens, &mut clock, now)?;
         each_tick(desk, &mut clock, now)?;
         each_minute(desk, &mut clock, now);
+        let ends = hear_keeper(desk, server, following, poll, &events)?;
         server.round(rt, desk, journal, poll, listener, &events)?;
+        tell_keeper(desk, following, poll)?;
+        if ends {
+            return Ok(());
+        }
     }
     Ok(())
 }
@@ -137,6 +176,30 @@ fn no_address(rt: &HostRuntime, address: SocketAddr) -> u8 {
     SYSTEM
 }
 
+/// A keeper who is there is told what is held.
+fn meet(desk: &Desk, following: &mut Option<Following>) -> Result<(), Fault> {
+    match following {
+        None => Ok(()),
+        Some(following) => following.meet(desk),
+    }
+}
+
+/// Says why the desk is served no more, and tells a keeper what it was not told.
+fn end(
+    rt: &HostRuntime,
+    journal: &FileJournal,
+    following: &mut Option<Following>,
+    poll: &mut Poll,
+    fault: Fault,
+) -> u8 {
+    if let Some(following) = following {
+        if fault == Fault::Log {
+            following.last_words(poll);
+        }
+    }
+    failed(rt, journal, fault)
+}
+
 /// Listens, and serves.
 fn open(
     rt: &HostRuntime,
@@ -145,20 +208,24 @@ fn open(
     settings: &Settings,
     journal: &mut FileJournal,
     tokens: &mut TokenFile,
+    following: &mut Option<Following>,
+    poll: &mut Poll,
 ) -> Result<(), u8>
     ensures { Leads desk.old desk.new }
 {
     let address = SocketAddr::from((settings.host, settings.port));
-    let Ok(mut poll) = Poll::new(rt) else {
-        return Err(no_address(rt, address));
-    };
-    let Some(listener) = listener_at(rt, address, &poll) else {
+    if meet(desk, following).is_err() {
+        return Err(out_of_memory(rt));
+    }
+    let Some(listener) = listener_at(rt, address, poll) else {
         return Err(no_address(rt, address));
     };
     let _ = eprintln!(rt; "gateway: listening on {address}");
-    match serve(rt, desk, server, journal, tokens, &mut poll, &listener) {
+    match serve(
+        rt, desk, server, journal, tokens, following, poll, &listener,
+    ) {
         Ok(()) => Ok(()),
-        Err(fault) => Err(failed(rt, journal, fault)),
+        Err(fault) => Err(end(rt, journal, following, poll, fault)),
     }
 }
 
@@ -167,6 +234,32 @@ fn copied(text: &Option<String>) -> Result<Option<String>, AllocError> {
     match text {
         None => Ok(None),
         Some(text) => Ok(Some(text.clone()?)),
+    }
+}
+
+/// The log that the settings ask for.
+fn new_following(
+    rt: &HostRuntime,
+    settings: &Settings,
+    poll: &Poll,
+) -> Result<Option<Following>, u8> {
+    match &settings.keeper {
+        None => Ok(None),
+        Some(keeper) => Ok(Some(Following::open(rt, settings, keeper, poll)?)),
+    }
+}
+
+/// The journal of the log that is followed, or the same one if none is.
+fn followed(
+    settings: &Settings,
+    following: &mut Option<Following>,
+    poll: &mut Poll,
+    file: JournalFile,
+    bytes: Vec<u8>,
+) -> Result<(JournalFile, Vec<u8>), u8> {
+    match following {
+        None => Ok((file, bytes)),
+        Some(following) => following.begin(poll, settings, file, bytes),
     }
 }
 
@@ -180,9 +273,23 @@ fn serve_anew(
 ) -> Result<(), u8>
     requires { AreValid settings.now }
 {
+    let Ok(mut poll) = Poll::new(rt) else {
+        return Err(no_address(rt, SocketAddr::from((settings.host, settings.port))));
+    };
+    let mut following = new_following(rt, settings, &poll)?;
     let (found, bytes) = open_journal(rt, settings)?;
+    let (found, bytes) = followed(settings, &mut following, &mut poll, found, bytes)?;
     let (mut desk, mut journal) = come_back(rt, settings, tokens, found, bytes)?;
-    open(rt, &mut desk, server, settings, &mut journal, file)
+    open(
+        rt,
+        &mut desk,
+        server,
+        settings,
+        &mut journal,
+        file,
+        &mut following,
+        &mut poll,
+    )
 }
 
 /// The places that the settings ask for.
@@ -204,7 +311,7 @@ fn serve_those(
     match new_places(rt.alloc(), settings) {
         Err(_) => Err(out_of_memory(rt)),
         Ok(places) => {
-            let mut server = Server::new(rt.alloc(), places, admission);
+            let mut server = Server::new(rt.alloc(), places, admission, settings.keeper.is_none());
             serve_anew(rt, settings, file, &mut server, tokens)
         }
     }

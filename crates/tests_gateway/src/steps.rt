@@ -2,7 +2,7 @@
 use crate::playing::played;
 use std::test::Fail;
 
-/// A step is done whole, and each client is told once what differs after it, also what it may read newly and of the shape, and that this is
+/// A step is done whole, and each client is told once what differs after it, also on which relations it may do more and of the shape, and that this is
 /// all. What was taken before changes nothing, and of rows that go in and out nobody is told. A client's own request is not done. Names are
 /// learned. The journal has a step as one record, and leads back.
 const TAKEN: &str = r#"> follow
@@ -68,6 +68,10 @@ taken before
 0 {"as":"admin","made":{"do":"grant","on":"tags","privileges":["insert"],"to":"mia"}}
 0 {"as":"admin","made":{"do":"revoke","on":"tags","privileges":["select"],"to":"mia"}}
 0 {"settled":true}
+1 {"granted":"tags"}
+1 {"settled":true}
+2 {"granted":"tags"}
+2 {"settled":true}
 > step main 13 14 "as":"mia","do":"write","entries":[{"on":"notes","delete":[5]}]}|"once":"AAAAAAAAAAAAAAAAAAAAA-","at":"0123456789abcdef0123456789abcdef.0","by":"mia/","digest":"0101010101010101010101010101010101010101010101010101010101010101","done":{"ok":true}}
 > at
 at 14, on disk to 13

@@ -2,16 +2,17 @@
 ghost use Rattle.std.specs.Prelude.{◌≡◌, ◌∷◌, [], None, Some, codes, true};
 ghost use Rattle.iv_machine.specs.Act.{not_administrator};
 ghost use Rattle.iv_machine.specs.declared.Cause.TheVariants as cause;
-ghost use Rattle.iv_message.specs.Told.{denied, over, settled, undecided};
+ghost use Rattle.iv_message.specs.Told.{denied, granted, over, settled, undecided};
 ghost use Rattle.iv_gate.specs.Arriving.{fault_of, gap, not_accepted, other_log, position, takes};
 ghost use Rattle.iv_gate.specs.Gate.{decides};
-ghost use Rattle.iv_gate.specs.Worked.{asks, both_rows, by_ann, done_and_told, foreign_step, is_done, later, notes, put, puts, reads_notes, reads_of, sums_made, taken, taken_and_given, taken_before, told_more, too_large, total, without_right, writes, wrote};
+ghost use Rattle.iv_gate.specs.Worked.{ahead_ask, asks, both_rows, by_ann, done_and_told, foreign_ask, foreign_step, given_again, is_done, later, notes, put, puts, reads_notes, reads_of, sums_made, taken, taken_and_given, taken_before, told_more, too_large, total, without_right, writes, wrote};
 
 /// By a step that takes a right, brings rows and gives it again, who reads is told the rows, once, and no end; where the right is not given
-/// again, the end, and no row.
+/// again, the end, and no row. If a later step gives it, that is told, though ann had the right to write.
 pub fn steps_are_told_once()
     ensures given { told_more reads_notes (takes reads_notes taken_and_given) ≡ both_rows }
     ensures taken { told_more reads_notes (takes reads_notes taken) ≡ over 1 notes cause.Privilege [] ∷ settled ∷ [] }
+    ensures given_again { told_more (takes reads_notes taken) (takes (takes reads_notes taken) given_again) ≡ granted notes ∷ settled ∷ [] }
 {}
 
 /// A view beyond the limits ends, and refuses nothing.
@@ -31,11 +32,18 @@ pub fn steps_follow_their_log()
     ensures denied { told_more reads_notes (decides reads_notes 0 None (by_ann (put 1)) None) ≡ denied None 100 ∷ [] }
 {}
 
-/// A request with a name is answered once: the same again gets the same answer, another by its name 101, one ahead 104.
+/// A request with a name is answered once: the same again gets the same answer, another by its name 101.
 pub fn names_are_answered_once()
     ensures first { told_more writes wrote ≡ done_and_told }
     ensures again { told_more wrote (puts wrote (asks 0 (codes "d")) 7) ≡ is_done true ∷ [] }
     ensures another { told_more wrote (puts wrote (asks 0 (codes "x")) 8) ≡ undecided None 101 ∷ [] }
     ensures place { told_more wrote (puts wrote (asks 1 (codes "d")) 7) ≡ undecided None 101 ∷ [] }
-    ensures ahead { told_more writes (puts writes (asks 1 (codes "d")) 7) ≡ undecided None 104 ∷ [] }
+{}
+
+/// A name without an answer here, of another epoch's place or of one that is ahead, is decided elsewhere while a log is followed, and else 103, 104.
+pub fn names_are_decided_where_the_log_is()
+    ensures foreign { told_more reads_notes (puts reads_notes foreign_ask 7) ≡ undecided None 100 ∷ [] }
+    ensures ahead { told_more reads_notes (puts reads_notes ahead_ask 7) ≡ undecided None 100 ∷ [] }
+    ensures foreign_here { told_more writes (puts writes foreign_ask 7) ≡ undecided None 103 ∷ [] }
+    ensures ahead_here { told_more writes (puts writes ahead_ask 7) ≡ undecided None 104 ∷ [] }
 {}

@@ -1,9 +1,10 @@
 //! Laws of what is heard, by whom, and how much of it waits. Each is the contract of a function that does nothing.
 ghost use Rattle.std.specs.Prelude.{◌≡◌, ◌≤◌, ◌+◌, ℕ, false, length, Some};
 ghost use Rattle.iv_clients.specs.Clients.{Client, client_at};
+ghost use Rattle.iv_gate.specs.Arriving.{Step};
 ghost use Rattle.iv_gate.specs.Events.{Event, next};
 ghost use Rattle.iv_gate.specs.Gate.{Gate};
-ghost use Rattle.iv_gate.specs.Implied.{EndsForCause, GrantsAreTrue, HearsFollowed, ShapeIsBounded};
+ghost use Rattle.iv_gate.specs.Implied.{EndsForCause, GrantsAreTrue, HearsFollowed, NewRightsAreTold, ShapeIsBounded};
 ghost use Rattle.iv_gate.specs.Laws.{GrantsAreTold, IsBounded, MakesShape, ShapeIsTold};
 ghost use Rattle.iv_gate.specs.Replies.{ByClient, IsClient};
 ghost use Rattle.iv_gate.specs.Runs.{Runs};
@@ -65,10 +66,11 @@ pub fn clients_are_bounded()
 }
 
 /// In whatever runs, over restarts: what an event tells a client to be granted its role has then, and it is what the accepted request
-/// of the event granted its role, in order.
+/// of the event granted its role, in order. What a role may do by a step, and might not before it, is told.
 pub fn grants_are_told()
     ensures has { (cap : ℕ) (g : Gate) (e : Event) → Runs cap g → GrantsAreTrue g e }
     ensures exact { (cap : ℕ) (g : Gate) (e : Event) → Runs cap g → g.dead ≡ false → GrantsAreTold g e }
+    ensures new { (cap : ℕ) (g : Gate) (s : Step) → Runs cap g → NewRightsAreTold g s }
 {
     lines_add_up();
     steps_keep_sound();

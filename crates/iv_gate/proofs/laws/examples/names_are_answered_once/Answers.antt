@@ -17,7 +17,3 @@ returns-clause-another c = refl
 pub returns-clause-place : goal.returns-clause-place
 unfolding is_utf8 chars lib.Utf8.encode
 returns-clause-place c = refl
-
-pub returns-clause-ahead : goal.returns-clause-ahead
-unfolding is_utf8 chars lib.Utf8.encode
-returns-clause-ahead c = refl

@@ -6,3 +6,6 @@ returns-clause-given c = refl
 
 pub returns-clause-taken : goal.returns-clause-taken
 returns-clause-taken c = refl
+
+pub returns-clause-given_again : goal.returns-clause-given_again
+returns-clause-given_again c = refl

@@ -6,7 +6,7 @@ use Rattle.iv_once.specs.Names.{again, ahead, another, carry, foreign, late, ove
 use Rattle.iv_gate.specs.Gate.{place_of, tells}
 use Rattle.iv_arrivals.specs.Speaking.{asked_id, request_of}
 use Rattle.iv_gateway.specs.Views.{IsAlive}
-use Rattle.iv_gateway.proofs.HeardMessages.{IsAlive-by_verdict, verdict_of-IsAlive}
+use Rattle.iv_gateway.proofs.HeardMessages.{IsAlive-by_verdict, IsAlive-left, verdict_of-IsAlive}
 use Rattle.iv_gateway.proofs.gateway.Gateway.ask_named.Goals as goal
 
 pub returns-in_ok-decide-in-Carry : goal.returns-in_ok-decide-in-Carry
@@ -36,14 +36,17 @@ returns-in_ok-leave-in-Late c = λ g b.
 pub returns-in_ok-leave-in-Foreign : goal.returns-in_ok-leave-in-Foreign
 returns-in_ok-leave-in-Foreign c = λ g b.
     IsAlive-by_verdict g c.args.asked.now.client (asked_id c.args.asked.now) (request_of c.args.asked.now (act_of c.args.act)) c.args.ask foreign _
-    (verdict_of-IsAlive g c.args.ask _ _ c.args.self.now c.in-Foreign.is c.in_ok-verdict.ensures b) (c.in_ok-leave-in-Foreign.ensures g b)
+    (verdict_of-IsAlive g c.args.ask _ _ c.args.self.now c.in-Foreign.is c.in_ok-verdict.ensures b)
+    (IsAlive-left g c.args.asked.now.client (asked_id c.args.asked.now) _ _ _ (c.number_here-number.ensures g b) (c.in_ok-leave-in-Foreign.ensures g b))
 
 pub returns-in_ok-leave-in-Ahead : goal.returns-in_ok-leave-in-Ahead
 returns-in_ok-leave-in-Ahead c = λ g b.
     IsAlive-by_verdict g c.args.asked.now.client (asked_id c.args.asked.now) (request_of c.args.asked.now (act_of c.args.act)) c.args.ask ahead _
-    (verdict_of-IsAlive g c.args.ask _ _ c.args.self.now c.in-Ahead.is c.in_ok-verdict.ensures b) (c.in_ok-leave-in-Ahead.ensures g b)
+    (verdict_of-IsAlive g c.args.ask _ _ c.args.self.now c.in-Ahead.is c.in_ok-verdict.ensures b)
+    (IsAlive-left g c.args.asked.now.client (asked_id c.args.asked.now) _ _ _ (c.number_here-number-in-Ahead.ensures g b) (c.in_ok-leave-in-Ahead.ensures g b))
 
 pub returns-in_ok-leave-in-Over : goal.returns-in_ok-leave-in-Over
 returns-in_ok-leave-in-Over c = λ g b.
     IsAlive-by_verdict g c.args.asked.now.client (asked_id c.args.asked.now) (request_of c.args.asked.now (act_of c.args.act)) c.args.ask over _
-    (verdict_of-IsAlive g c.args.ask _ _ c.args.self.now c.in-Over.is c.in_ok-verdict.ensures b) (c.in_ok-leave-in-Over.ensures g b)
+    (verdict_of-IsAlive g c.args.ask _ _ c.args.self.now c.in-Over.is c.in_ok-verdict.ensures b)
+    (IsAlive-left g c.args.asked.now.client (asked_id c.args.asked.now) _ _ _ (c.number_here-number-in-Over.ensures g b) (c.in_ok-leave-in-Over.ensures g b))

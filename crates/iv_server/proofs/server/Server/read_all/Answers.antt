@@ -1,10 +1,10 @@
 use Rattle.std.proofs.Common.{sym, subst}
-use Rattle.iv_running.specs.Running.{IsRunning}
+use Rattle.iv_running.specs.Running.{HasCome}
 use Rattle.iv_server.proofs.server.Server.read_all.Goals.{then-may_read+in_ok-read, else-may_read+in_ok-push}
 use Rattle.iv_server.proofs.server.Server.read_all.Goals as goal
 
 pub loop-at-preserved : goal.loop-at-preserved
 loop-at-preserved c = elim c.if-may_read.branch [
-  | then-may_read+in_ok-read w ↦ λ cap h. subst (IsRunning cap) (sym w.desk-is) (w.in_ok-read.ensures cap (c.loop-at.invariant cap h))
-  | else-may_read+in_ok-push w ↦ λ cap h. subst (IsRunning cap) (sym w.desk-is) (c.loop-at.invariant cap h)
+  | then-may_read+in_ok-read w ↦ λ d h. subst (HasCome d) (sym w.desk-is) (w.in_ok-read.ensures d (c.loop-at.invariant d h))
+  | else-may_read+in_ok-push w ↦ λ d h. subst (HasCome d) (sym w.desk-is) (c.loop-at.invariant d h)
 ]

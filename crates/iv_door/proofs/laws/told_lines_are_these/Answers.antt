@@ -1,0 +1,7 @@
+use Rattle.std.proofs.Common.{refl}
+use Rattle.std.specs.Fmt.{digits}
+use Rattle.iv_door.proofs.laws.told_lines_are_these.Goals as goal
+
+pub returns : goal.returns
+unfolding digits
+returns c = refl

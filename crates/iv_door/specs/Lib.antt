@@ -1,0 +1,5 @@
+pub mod Said
+pub mod Answers
+pub mod Talk
+pub mod Views
+pub mod Worked

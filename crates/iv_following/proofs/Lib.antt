@@ -1,0 +1,3 @@
+pub mod Heeded
+pub mod StepLines
+pub mod ToldLines

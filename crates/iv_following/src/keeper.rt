@@ -1,0 +1,172 @@
+//! `Keeper`: what a keeper says, and what is done with that; `Means`: what that is done with.
+ghost use Rattle.std.specs.Prelude.{◌≡◌, [], IfOk, OnOk, false, map, option_map, true};
+ghost use Rattle.iv_door.specs.Talk.{at_start, ended};
+ghost use Rattle.iv_door.specs.Views.{act_of};
+ghost use Rattle.iv_running.specs.Running.{Leads};
+ghost use Rattle.iv_following.specs.Following.{HeedsAll, IsHeard, IsHeeded, said_log};
+
+use crate::logs::said_logs;
+use crate::steps::take_step;
+use crate::telling::Told;
+use iv_arrivals::Log;
+use iv_desk::Desk;
+use iv_door::{Act, Talk};
+use iv_running::Fault;
+use iv_running::calls::may_read;
+use iv_server::Server;
+use json::Scratch;
+use std::alloc::{AllocError, Global};
+
+/// Bytes that a keeper is to be told, beyond which nothing more is heard of it.
+const MOST_OUT: usize = 1_048_576;
+
+/// What a keeper is served with.
+#[derive(Drop)]
+pub(crate) struct Means {
+    /// The right to ask the system.
+    pub(crate) rt: HostRuntime,
+    /// How many rows a table may have.
+    pub(crate) rows: u32,
+    /// The file of the journal.
+    pub(crate) journal: String,
+    /// The log that is followed.
+    pub(crate) log: Option<Log>,
+    /// What JSON is read with.
+    pub(crate) scratch: Scratch,
+}
+
+/// The keeper that is there.
+#[derive(Drop)]
+pub(crate) struct Keeper {
+    /// What it says.
+    pub(crate) talk: Talk,
+    /// What it is told.
+    pub(crate) told: Told,
+    /// Lines that have come may be unheard: nothing more is read.
+    pub(crate) late: bool,
+}
+
+/// A step has ended.
+fn end_step(
+    means: &mut Means,
+    desk: &mut Desk,
+    server: &mut Server,
+    told: &mut Told,
+    from: u64,
+    to: u64,
+    texts: &[Vec<u8>],
+) -> Result<(), Fault>
+    ensures leads { Leads desk.old desk.new }
+    ensures heeded { OnOk result (IsHeeded means.old.log (ended from to (map (λ v. v.items) texts.now)) desk.old server.old.open desk.new server.new.open) }
+    ensures owed { OnOk result (told.new.owes ≡ true) }
+    ensures same { means.new.log ≡ means.old.log }
+{
+    let Some(log) = &means.log else {
+        return Err(Fault::Desk);
+    };
+    told.owes = true;
+    match take_step(
+        means.rt.alloc(),
+        desk,
+        log,
+        from,
+        to,
+        texts,
+        &mut means.scratch,
+    ) {
+        Ok(()) => server.share_none(desk),
+        Err(fault) => Err(told.fail(&means.rt, &fault)),
+    }
+}
+
+/// Does what a line asks.
+fn heed(
+    means: &mut Means,
+    desk: &mut Desk,
+    server: &mut Server,
+    told: &mut Told,
+    act: Act,
+) -> Result<(), Fault>
+    ensures leads { Leads desk.old desk.new }
+    ensures heeded { OnOk result (IsHeeded means.old.log (act_of act) desk.old server.old.open desk.new server.new.open) }
+    ensures same { means.new.log ≡ means.old.log }
+{
+    match act {
+        Act::Begun | Act::GoneOn | Act::Brought => Ok(()),
+        Act::Recall => told.recall(&means.rt, means.journal.as_str(), desk.settled_at()),
+        Act::Ended(from, to, texts) => end_step(means, desk, server, told, from, to, &texts),
+        Act::Opened => {
+            server.open();
+            Ok(())
+        }
+        Act::Shut => server.shut(desk),
+    }
+}
+
+impl Keeper {
+    /// One that has said nothing, to a gateway that follows this log.
+    ///
+    /// # Errors
+    /// `AllocError` if a growth of memory was refused.
+    pub(crate) fn new(alloc: Global, log: &Option<Log>) -> Result<Keeper, AllocError>
+        ensures talk { IfOk result (λ k. k.talk ≡ at_start (option_map said_log log.now)) }
+        ensures told { IfOk result (λ k. (k.told.out.items ≡ []) × (k.told.owes ≡ false)) }
+    {
+        let log = said_logs(alloc, log)?;
+        Ok(Keeper {
+            talk: Talk::new(alloc, log),
+            told: Told::new(alloc),
+            late: false,
+        })
+    }
+
+    /// Hears a line, if one has come. Whether it has.
+    fn hear_line(
+        &mut self,
+        means: &mut Means,
+        desk: &mut Desk,
+        server: &mut Server,
+    ) -> Result<bool, Fault>
+        ensures leads { Leads desk.old desk.new }
+        ensures heard { IfOk result (λ is. IsHeard means.old.log is self.old.talk self.new.talk desk.old server.old.open desk.new server.new.open) }
+        ensures same { means.new.log ≡ means.old.log }
+    {
+        match self.talk.hear() {
+            Ok(None) => Ok(false),
+            Ok(Some(act)) => match heed(means, desk, server, &mut self.told, act) {
+                Ok(()) => Ok(true),
+                Err(fault) => Err(fault),
+            },
+            Err(fault) => Err(self.told.fail(&means.rt, &fault)),
+        }
+    }
+
+    /// Hears the lines that have come, until much waits for the journal, or for the keeper. Whether the next round is to come at once.
+    ///
+    /// # Errors
+    /// `Log` if what is said cannot be, which it is told; `Memory` if a growth of memory was refused.
+    pub(crate) fn hear_lines(
+        &mut self,
+        means: &mut Means,
+        desk: &mut Desk,
+        server: &mut Server,
+    ) -> Result<bool, Fault>
+        ensures leads { Leads desk.old desk.new }
+        ensures heeds { OnOk result (HeedsAll means.old.log self.old.talk desk.old server.old.open self.new.talk desk.new server.new.open) }
+    {
+        self.late = true;
+        'lines: for _ in 0..u32::MAX {
+            if self.told.out.len() > MOST_OUT {
+                return Ok(false);
+            }
+            if !may_read(desk) {
+                return Ok(true);
+            }
+            if !self.hear_line(means, desk, server)? {
+                self.late = false;
+                return Ok(false);
+            }
+        }
+        Ok(false)
+    }
+}

@@ -1,0 +1,11 @@
+use Rattle.iv_gate.specs.Events.{arrived}
+use Rattle.iv_desk.specs.Front.{arrives, by_event}
+use Rattle.iv_running.proofs.RunsByCalls.{Leads-failed, Leads-happened}
+use Rattle.iv_running.proofs.calls.take.Goals as goal
+
+pub returns-in-Ok-clause-leads : goal.returns-in-Ok-clause-leads
+returns-in-Ok-clause-leads c = Leads-happened c.args.desk.now _ (by_event (arrived c.args.step)) (λ d s e. let h = c.in-Ok.ensures.dead d s e in cc)
+    (λ d. arrives c.args.step c.requires) c.in-Ok.ensures.front
+
+pub returns-in-Err-clause-leads : goal.returns-in-Err-clause-leads
+returns-in-Err-clause-leads c = Leads-failed c.args.desk.now _ c.events_leave_their_marks.ensures.rests c.in-Err.ensures.fails
