@@ -14,10 +14,6 @@ pub AllByRecursion-zip : {X : Type 0} (P Q R : X → Type 0) (xs : List X) → (
 AllByRecursion-zip P Q R [] h a b = tt
 AllByRecursion-zip P Q R (x ∷ xs) h a b = (h x a.0 b.0, AllByRecursion-zip P Q R xs h a.1 b.1)
 
-pub all_push : {X : Type 0} (P : X → Type 0) (xs : List X) (x : X) → AllByRecursion P xs → P x → AllByRecursion P (xs ++ x ∷ [])
-all_push P [] x a p = (p, tt)
-all_push P (y ∷ ys) x a p = (a.0, all_push P ys x a.1 p)
-
 pub is_self : (n : ℕ) → (n == n) ≡ true
 is_self n = grind (arith, nat_tests)
 

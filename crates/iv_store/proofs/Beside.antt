@@ -35,13 +35,6 @@ module _ (role rel : ℕ) where
   pub is_own : (at : ℕ) (c : Running) → is_for role rel (come_to role rel at c) ≡ true
   is_own at c = ap (λ b. b && (rel == rel)) (is_self role) ∙ is_self rel
 
-  -- the place is one of the list, and what stands there is for both
-  pub place_below : (ks : List RoleCircuit) (i : ℕ) (d : RoleCircuit) → position (is_for role rel) ks ≡ Some i → i < length ks
-  place_below ks i d h = (position-Some (is_for role rel) ks i d h).0
-
-  pub place_for : (ks : List RoleCircuit) (i : ℕ) (k : RoleCircuit) → position (is_for role rel) ks ≡ Some i → k ≡ get_or ks i k → is_for role rel k ≡ true
-  place_for ks i k h at = ap (is_for role rel) at ∙ (position-Some (is_for role rel) ks i k h).1
-
   module _ {X : Type 0} (none : X) where
     -- it is what stands at the place
     beside_index : (ks : List RoleCircuit) (xs : List X) (i : ℕ) (x : X) (d : RoleCircuit) → length xs ≡ length ks → i < length ks → is_for role rel (get_or ks i d) ≡ true

@@ -48,9 +48,6 @@ get_or-own_default (x ∷ xs) (suc j) d l = get_or-own_default xs j d (omega (ar
 -- ---- circuits that are not touched
 
 module _ (given : Given) (ts : List ℕ) (others : (t : ℕ) → list_any (λ s. t == s) ts ≡ false → given t ≡ []) where
-  swapped : (m n : ℕ) → (m == n) ≡ (n == m)
-  swapped m n = grind (arith, nat_tests)
-
   -- a table that is scanned is none of these
   scanned_not : (t : ℕ) (xs : List ℕ) (ss : List Scanned) → list_any (λ s. s.table == t) ss ≡ true → list_any (λ x. list_any (λ s. s.table == x) ss) xs ≡ false → list_any (λ s. t == s) xs ≡ false
   scanned_not t [] ss here none = refl
