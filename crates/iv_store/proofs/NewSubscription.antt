@@ -299,10 +299,10 @@ HasReaderFor-HasComeTo e d role rel place c none is at ks come state =
 -- a circuit that lets through what the role may see is one of the role
 pub IsTwin-IsServed : (e : Store) → AllByRecursion (IsRoleCircuit e) e.circuits → (role rel : ℕ) (o : Option ReaderId) → IfSome o (λ r. IsServed e.circuits e.known.rights role rel r.0) → IfSome o (λ r. IsTwin e role rel r.0)
 IsTwin-IsServed e are role rel None h = tt
-IsTwin-IsServed e are role rel (Some place) h = record {
+IsTwin-IsServed e are role rel (Some reader) h = record {
   low = h.low;
   is = λ k at.
-      let i = AllByRecursion-get_or (IsRoleCircuit e) e.circuits place k are h.low at in
+      let i = AllByRecursion-get_or (IsRoleCircuit e) e.circuits reader.0 k are h.low at in
       subst (λ r. IsCircuitFor e role (plan_at e.catalog r) k.circuit) (h.shows k at) (IsCircuitFor-Serves e e.known.rights k.role role (plan_at e.catalog k.rel) k.circuit i.is (h.serves k at));
 }
 
