@@ -8,5 +8,8 @@ pub mod Partly
 pub mod PlaceFlags
 pub mod ShownRows
 pub mod Left
+pub mod ReadFlags
+pub mod Positions
+pub mod ReaderIndexes
 pub mod ReaderMoves
 pub mod FlagLists

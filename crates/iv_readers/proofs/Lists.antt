@@ -1,5 +1,5 @@
 -- Lists, their places and numbers.
-use Rattle.std.proofs.Common.{◌≡◌, ℕ, ◌<◌, true, false, List, [], ◌∷◌, ◌++◌, length, refl, ap, arith, zero, suc, get_or}
+use Rattle.std.proofs.Common.{◌≡◌, ℕ, ◌<◌, true, false, List, [], ◌∷◌, ◌++◌, length, refl, sym, ap, subst, arith, zero, suc, get_or}
 use Rattle.std.specs.Prelude.{◌==◌, slice_get}
 use Rattle.std.specs.List.{AllByRecursion}
 use Rattle.iv_rows.specs.Options.{if_some}
@@ -13,10 +13,6 @@ pub AllByRecursion-zip : {X : Type 0} (P Q R : X → Type 0) (xs : List X) → (
     → AllByRecursion R xs
 AllByRecursion-zip P Q R [] h a b = tt
 AllByRecursion-zip P Q R (x ∷ xs) h a b = (h x a.0 b.0, AllByRecursion-zip P Q R xs h a.1 b.1)
-
-pub all_push : {X : Type 0} (P : X → Type 0) (xs : List X) (x : X) → AllByRecursion P xs → P x → AllByRecursion P (xs ++ x ∷ [])
-all_push P [] x a p = (p, tt)
-all_push P (y ∷ ys) x a p = (a.0, all_push P ys x a.1 p)
 
 pub is_self : (n : ℕ) → (n == n) ≡ true
 is_self n = grind (arith, nat_tests)
@@ -41,3 +37,8 @@ pub if_some-slice_get : {X Y : Type 0} (f : X → Y) (none : Y) (xs : List X) (i
 if_some-slice_get f none [] i a low = absurd (omega arith)
 if_some-slice_get f none (x ∷ xs) zero a low = refl
 if_some-slice_get f none (x ∷ xs) (suc i) a low = if_some-slice_get f none xs i a (omega arith)
+
+pub AllByRecursion-get_or : {X : Type 0} (P : X → Type 0) (xs : List X) (i : ℕ) (x : X) → AllByRecursion P xs → i < length xs → x ≡ get_or xs i x → P x
+AllByRecursion-get_or P [] i x h l at = absurd (omega arith)
+AllByRecursion-get_or P (y ∷ ys) zero x h l at = subst P (sym at) h.0
+AllByRecursion-get_or P (y ∷ ys) (suc i) x h l at = AllByRecursion-get_or P ys i x h.1 (omega arith) at

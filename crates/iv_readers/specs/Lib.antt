@@ -1,6 +1,7 @@
 pub mod Readers
 pub mod Openings
 pub mod Held
+pub mod Index
 pub mod Codes
 pub mod Each
 pub mod Rows

@@ -25,11 +25,6 @@ opened_to n k = record k { opened = (n, k.circuit.rounds) ∷ k.opened }
 abbrev pub moved_to : (at : ℕ) → Running → RoleCircuit → RoleCircuit
 moved_to at c k = record k { at = at; circuit = c; since = c.rounds; opened = [] }
 
--- those of one place are one circuit
-pub record AreShared (ks : List RoleCircuit) : Type 0 where
-  pub held : ℕ → Running
-  pub are : AllByRecursion (λ k. k.circuit ≡ held k.at) ks
-
 -- the role did not come to it, nor was any opened, at more rounds than the circuit has
 pub record WereOpened (k : RoleCircuit) : Type 0 where
   pub came : k.since ≤ k.circuit.rounds

@@ -28,18 +28,18 @@ pub data Turn : Type 0 where
 abbrev pub is_whole : (place : ℕ) → Outcome → Bool
 is_whole i code.Same = true
 is_whole i (code.Built c rows) = true
-is_whole i (code.Joined like rows) = like == i
+is_whole i (code.Joined twin rows) = twin.0 == i
 is_whole i code.Lost = false
 is_whole i code.Beyond = false
 
 abbrev pub whole_at : List Outcome → (place : ℕ) → Bool
 whole_at os i = if_some (slice_get os i) false (is_whole i)
 
--- the reader at the place comes to the circuit of the reader `like`
-abbrev pub leads_to : (place like : ℕ) → Outcome → Bool
+-- the reader at the place comes to the circuit of the other
+abbrev pub leads_to : (place other : ℕ) → Outcome → Bool
 leads_to i j code.Same = false
 leads_to i j (code.Built c rows) = i == j
-leads_to i j (code.Joined like rows) = like == j
+leads_to i j (code.Joined twin rows) = twin.0 == j
 leads_to i j code.Lost = false
 leads_to i j code.Beyond = false
 
@@ -47,7 +47,7 @@ leads_to i j code.Beyond = false
 abbrev pub built_or : Running → Outcome → Running
 built_or c code.Same = c
 built_or c (code.Built d rows) = d
-built_or c (code.Joined like rows) = c
+built_or c (code.Joined twin rows) = c
 built_or c code.Lost = c
 built_or c code.Beyond = c
 
@@ -63,7 +63,7 @@ circuit_after ks os i = if_some (slice_get os i) (circuit_before ks i) (built_or
 abbrev pub fate : List RoleCircuit → List Outcome → Outcome → Turn
 fate ks os code.Same = Same
 fate ks os (code.Built c rows) = Anew c rows
-fate ks os (code.Joined like rows) = Anew (circuit_after ks os like) rows
+fate ks os (code.Joined twin rows) = Anew (circuit_after ks os twin.0) rows
 fate ks os code.Lost = Lost
 fate ks os code.Beyond = Beyond
 
@@ -74,7 +74,7 @@ fates ks os = map (fate ks os) os
 abbrev pub rows_by : Outcome → Weighed
 rows_by code.Same = []
 rows_by (code.Built c rows) = shared_rows rows
-rows_by (code.Joined like rows) = shared_rows rows
+rows_by (code.Joined twin rows) = shared_rows rows
 rows_by code.Lost = []
 rows_by code.Beyond = []
 
@@ -82,7 +82,7 @@ rows_by code.Beyond = []
 abbrev pub IsJoinedAt : List Outcome → (place : ℕ) → Outcome → Type 0
 IsJoinedAt os i code.Same = Unit {0}
 IsJoinedAt os i (code.Built c rows) = Unit {0}
-IsJoinedAt os i (code.Joined like rows) = (like ≤ i) × (whole_at os like ≡ true)
+IsJoinedAt os i (code.Joined twin rows) = (twin.0 ≤ i) × (whole_at os twin.0 ≡ true)
 IsJoinedAt os i code.Lost = Unit {0}
 IsJoinedAt os i code.Beyond = Unit {0}
 
@@ -90,7 +90,7 @@ IsJoinedAt os i code.Beyond = Unit {0}
 abbrev pub IsAnewBy : Weighed → Running → Outcome → Type 0
 IsAnewBy before c code.Same = ⊥
 IsAnewBy before c (code.Built new rows) = (new ≡ c) × IsBagDifference before (total_of c.node) (shared_rows rows)
-IsAnewBy before c (code.Joined like rows) = ⊥
+IsAnewBy before c (code.Joined twin rows) = ⊥
 IsAnewBy before c code.Lost = ⊥
 IsAnewBy before c code.Beyond = ⊥
 
@@ -98,7 +98,7 @@ IsAnewBy before c code.Beyond = ⊥
 abbrev pub HasTurnedBy : List RoleCircuit → (place : ℕ) → Outcome → List RoleCircuit → Type 0
 HasTurnedBy old i code.Same new = new ≡ old
 HasTurnedBy old i (code.Built c rows) new = HasMovedTo old i c new
-HasTurnedBy old i (code.Joined like rows) new = (k : RoleCircuit) → k ≡ get_or old like k → HasMovedTo old i k.circuit new
+HasTurnedBy old i (code.Joined twin rows) new = (k : RoleCircuit) → k ≡ get_or old twin.0 k → HasMovedTo old i k.circuit new
 HasTurnedBy old i code.Lost new = new ≡ old
 HasTurnedBy old i code.Beyond new = new ≡ old
 
@@ -106,7 +106,7 @@ HasTurnedBy old i code.Beyond new = new ≡ old
 abbrev pub is_other_turn : Outcome → Bool
 is_other_turn code.Same = false
 is_other_turn (code.Built c rows) = true
-is_other_turn (code.Joined like rows) = true
+is_other_turn (code.Joined twin rows) = true
 is_other_turn code.Lost = true
 is_other_turn code.Beyond = true
 

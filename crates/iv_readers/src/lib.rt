@@ -6,16 +6,20 @@
 #![tactic(auto)]
 
 mod changes;
-mod circuits;
 mod flags;
+mod ids;
+mod index;
+mod readers;
 mod rows;
 mod shown;
 mod touching;
 mod turns;
 
 pub use changes::{Prepared, add_delta, prepared_of};
-pub use circuits::Circuits;
 pub use flags::differing;
+pub use ids::{CircuitId, ReaderId};
+pub use index::ReaderIndex;
+pub use readers::Readers;
 pub use rows::{in_order, more_rows};
-pub use touching::{places_of, rels_of};
+pub use touching::scanning;
 pub use turns::{Outcome, anew};

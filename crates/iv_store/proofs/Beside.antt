@@ -1,9 +1,8 @@
 -- What stands beside the first circuit that is for a role and a relation.
-use Rattle.std.proofs.Common.{◌≡◌, ℕ, zero, suc, ◌<◌, ◌≤◌, Bool, true, false, cond, not, ◌+◌, ◌&&◌, List, [], ◌∷◌, ◌++◌, length, length-append, Option, None, Some, get_or, refl, sym, ap, subst, ◌∙◌, arith}
+use Rattle.std.proofs.Common.{◌≡◌, ℕ, zero, suc, ◌<◌, Bool, true, false, cond, ◌&&◌, List, [], ◌∷◌, length, Option, None, Some, get_or, refl, sym, ap, subst, ◌∙◌, arith}
 use Rattle.std.proofs.lemmas.Bool.Decides.{nat_tests}
 use Rattle.std.proofs.lemmas.List.Quantifiers.{position-Some}
-use Rattle.std.specs.Prelude.{◌==◌, is_some, nat_lt, position, slice_get}
-use Rattle.std.specs.List.{position_or_len}
+use Rattle.std.specs.Prelude.{◌==◌, is_some, position, slice_get}
 use Rattle.iv_circuit.specs.Circuits.{Running}
 use Rattle.iv_readers.specs.Each.{Each}
 use Rattle.iv_store.specs.Found.{beside}
@@ -28,44 +27,6 @@ slice_get-of_get_or [] i x l at = absurd (omega arith)
 slice_get-of_get_or (y ∷ xs) zero x l at = ap (λ z. Some z) (sym at)
 slice_get-of_get_or (y ∷ xs) (suc i) x l at = slice_get-of_get_or xs i x (omega arith) at
 
--- ---- what is pushed where none passes has the place behind the others
-
-module _ (t : RoleCircuit → Bool) (k : RoleCircuit) (passes : t k ≡ true) where
-  one_on : (m n : ℕ) → m ≡ n → 1 + m ≡ suc n
-  one_on m n h = omega (arith, h)
-
-  one_more : (m n : ℕ) → m < n → 1 + m < suc n
-  one_more m n h = omega (arith, h)
-
-  pushed_len : (ks : List RoleCircuit) → (position_or_len t ks < length ks → ⊥) → position_or_len t (ks ++ k ∷ []) ≡ length ks
-  pushed_len [] h = ap (λ b. cond (not b) 1 0) passes
-  pushed_len (x ∷ ks) h = by (t x) h (pushed_len ks)
-    where
-      by : (b : Bool) → (cond (not b) (1 + position_or_len t ks) 0 < suc (length ks) → ⊥) → ((position_or_len t ks < length ks → ⊥) → position_or_len t (ks ++ k ∷ []) ≡ length ks)
-          → cond (not b) (1 + position_or_len t (ks ++ k ∷ [])) 0 ≡ suc (length ks)
-      by true l go = absurd (l (omega arith))
-      by false l go = one_on (position_or_len t (ks ++ k ∷ [])) (length ks) (go (λ q. l (one_more (position_or_len t ks) (length ks) q)))
-
-  none_lt : (b : Bool) (n : ℕ) → cond b (Some n) None ≡ None → b ≡ false
-  none_lt true n h = cc
-  none_lt false n h = refl
-
-  not_low : (m n : ℕ) → nat_lt m n ≡ false → n ≤ m
-  not_low m n h = grind (arith, nat_tests)
-
-  not_both : (m n : ℕ) → n ≤ m → m < n → ⊥
-  not_both m n h l = omega (arith, h, l)
-
-  low : (m n : ℕ) → n ≡ m + 1 → nat_lt m n ≡ true
-  low m n h = grind (arith, nat_tests)
-
-  pub place_pushed : (ks : List RoleCircuit) → position t ks ≡ None → position t (ks ++ k ∷ []) ≡ Some (length ks)
-  place_pushed ks h =
-      let out = not_low (position_or_len t ks) (length ks) (none_lt (nat_lt (position_or_len t ks) (length ks)) (position_or_len t ks) h) in
-      let is = pushed_len ks (not_both (position_or_len t ks) (length ks) out) in
-      (λ i. cond (nat_lt (is i) (length (ks ++ k ∷ []))) (Some (is i)) None)
-      ∙ ap (λ b. cond b (Some (length ks)) None) (low (length ks) (length (ks ++ k ∷ [])) (length-append ks (k ∷ [])))
-
 module _ (role rel : ℕ) where
   -- what has the role and the relation is for them
   is_self : (n : ℕ) → (n == n) ≡ true
@@ -73,13 +34,6 @@ module _ (role rel : ℕ) where
 
   pub is_own : (at : ℕ) (c : Running) → is_for role rel (come_to role rel at c) ≡ true
   is_own at c = ap (λ b. b && (rel == rel)) (is_self role) ∙ is_self rel
-
-  -- the place is one of the list, and what stands there is for both
-  pub place_below : (ks : List RoleCircuit) (i : ℕ) (d : RoleCircuit) → position (is_for role rel) ks ≡ Some i → i < length ks
-  place_below ks i d h = (position-Some (is_for role rel) ks i d h).0
-
-  pub place_for : (ks : List RoleCircuit) (i : ℕ) (k : RoleCircuit) → position (is_for role rel) ks ≡ Some i → k ≡ get_or ks i k → is_for role rel k ≡ true
-  place_for ks i k h at = ap (is_for role rel) at ∙ (position-Some (is_for role rel) ks i k h).1
 
   module _ {X : Type 0} (none : X) where
     -- it is what stands at the place

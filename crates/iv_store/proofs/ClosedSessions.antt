@@ -113,9 +113,6 @@ module _ (e : Store) (h : IsSoundStore e) (ss : List Session) (p : Subscription 
 
 -- ---- a session
 
-same_nat : (m n : ℕ) → (m == n) ≡ true → m ≡ n
-same_nat m n h = grind (arith, nat_tests)
-
 stays : (b : Bool) → not b ≡ true → b ≡ false
 stays true h = cc
 stays false h = refl

@@ -19,6 +19,7 @@ pub mod Beside
 pub mod Unread
 pub mod ReplacedCircuits
 pub mod Totals
+pub mod ReadersFound
 pub mod WriteLines
 mod DroppedCircuits
 pub mod RelationCircuits

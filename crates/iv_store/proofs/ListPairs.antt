@@ -1,19 +1,11 @@
--- Lists walked one by one: what holds at a place, and a second list that grows beside the first.
-use Rattle.std.proofs.Common.{◌≡◌, ℕ, zero, suc, ◌+◌, ◌<◌, ◌≤◌, Bool, true, List, [], ◌∷◌, ◌++◌, length, map, replicate, take, get_or, refl, sym, ap, subst, ◌∙◌, arith}
+-- Lists walked one by one: a second list that grows beside the first.
+use Rattle.std.proofs.Common.{◌≡◌, ℕ, zero, suc, ◌+◌, ◌<◌, ◌≤◌, Bool, true, List, [], ◌∷◌, ◌++◌, length, map, replicate, take, get_or, refl, sym, ap, subst, ◌∙◌}
 use Rattle.std.proofs.lemmas.Simd.{splat_is_map}
 use Rattle.std.proofs.lemmas.List.{map-append, take_all, take_more}
-use Rattle.std.specs.List.{AllByRecursion}
 use Rattle.iv_readers.specs.Each.{Each}
-
-pub AllByRecursion-get_or : {X : Type 0} (P : X → Type 0) (xs : List X) (i : ℕ) (x : X) → AllByRecursion P xs → i < length xs → x ≡ get_or xs i x → P x
-AllByRecursion-get_or P [] i x h l at = absurd (omega arith)
-AllByRecursion-get_or P (y ∷ ys) zero x h l at = subst P (sym at) h.0
-AllByRecursion-get_or P (y ∷ ys) (suc i) x h l at = AllByRecursion-get_or P ys i x h.1 (omega arith) at
-
-pub get_or-map_place : {X Y : Type 0} (f : X → Y) (xs : List X) (i : ℕ) (x : X) → i < length xs → x ≡ get_or xs i x → f x ≡ get_or (map f xs) i (f x)
-get_or-map_place f [] i x l at = absurd (omega arith)
-get_or-map_place f (y ∷ ys) zero x l at = ap f at
-get_or-map_place f (y ∷ ys) (suc i) x l at = get_or-map_place f ys i x (omega arith) at
+use Rattle.iv_readers.specs.Touching.{numbers_of}
+use Rattle.iv_readers.specs.declared.ids.CircuitId.{CircuitId}
+use Rattle.iv_readers.proofs.Held.{get_or-map_place, length-mapped}
 
 -- a list that grows by what a function makes of each
 pub map-take_next : {X Y : Type 0} (f : X → Y) (xs : List X) (i : ℕ) (x : X) (y : Y) (ys new : List Y) → i < length xs → x ≡ get_or xs i x → ys ≡ map f (take i xs) → y ≡ f x → new ≡ ys ++ y ∷ [] → new ≡ map f (take (i + 1) xs)
@@ -39,10 +31,6 @@ module _ {X Y : Type 0} (P : X → Y → Type 0) where
   pub each_whole : (xs : List X) (k : ℕ) (ys : List Y) → length xs ≤ k → Each P (take k xs) ys → Each P xs ys
   each_whole xs k ys l h = subst (λ (us : List X). Each P us ys) (take_all k xs l) h
 
-  -- two lists without an element
-  pub each_none : (xs : List X) (ys : List Y) → xs ≡ [] → ys ≡ [] → Each P xs ys
-  each_none xs ys a b = subst (λ (us : List X). Each P us ys) (sym a) (subst (λ (vs : List Y). Each P [] vs) (sym b) tt)
-
 -- ---- a flag for each
 
 take_none : (n : ℕ) → take {A = Bool} n [] ≡ []
@@ -57,3 +45,7 @@ map-replicate_true xs n m old new none long is =
 pub Each-map : {X Y : Type 0} (P : X → Y → Type 0) (f : X → Y) (xs : List X) → ((x : X) → P x (f x)) → Each P xs (map f xs)
 Each-map P f [] go = tt
 Each-map P f (x ∷ xs) go = (go x, Each-map P f xs go)
+
+-- a circuit at a place among others, by its number
+pub number_at : (cs : List CircuitId) (i : ℕ) (c : CircuitId) → i < length cs → c ≡ get_or cs i c → (i < length (numbers_of cs)) × (c.0 ≡ get_or (numbers_of cs) i c.0)
+number_at cs i c low at = (subst (λ n. i < n) (sym (length-mapped (λ (x : CircuitId). x.0) cs)) low, get_or-map_place (λ (x : CircuitId). x.0) cs i c low at)

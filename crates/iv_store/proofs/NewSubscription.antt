@@ -19,6 +19,7 @@ use Rattle.iv_machine.specs.Changing.{after, insert_subscription}
 use Rattle.iv_machine.specs.Machine.{changes, line_for, lines_told as machine_line, ending, settled, difference}
 use Rattle.iv_machine.specs.Reached.{AreNumbersUnique}
 use Rattle.iv_machine.proofs.UniqueNumbers.{AreNumbersUnique-after_frame, has_number-next}
+use Rattle.iv_readers.specs.declared.ids.ReaderId.{ReaderId}
 use Rattle.iv_store.specs.Answering.{IsAccepted, IsRefused, IsStep, seen, sent}
 use Rattle.iv_readers.specs.Rows.{AreInOrder}
 use Rattle.iv_store.specs.Built.{IsBeyond}
@@ -30,7 +31,7 @@ use Rattle.iv_store.specs.Store.{Store, database_of, IsCircuitFor, IsOpen, IsRol
 use Rattle.iv_readers.specs.Readers.{RoleCircuit, WereOpened, is_for, opened_to, IsServed}
 use Rattle.iv_database.specs.Database.{session_acts_as}
 use Rattle.iv_database.specs.Target.{IsActingOn}
-use Rattle.iv_store.specs.Openable.{AreFirstLines, HasCircuitAt, IsLike, IsNewFor, IsOpenable, MayOpen, with_subscription}
+use Rattle.iv_store.specs.Openable.{AreFirstLines, HasReaderFor, IsTwin, IsNewFor, IsOpenable, MayOpen, with_subscription}
 use Rattle.iv_store.specs.Rounds.{beside_number, rounds, rounds_of}
 use Rattle.iv_store.specs.Engine.{IsBehind}
 use Rattle.iv_database.specs.Stands.{Stands}
@@ -40,15 +41,15 @@ use Rattle.iv_command.specs.declared.command.Refusal.TheVariants.{Limit}
 use Rattle.iv_command.specs.declared.command.Reply.{Reply}
 use Rattle.iv_command.specs.declared.stop.Stop.{Stop}
 use Rattle.iv_command.specs.declared.stop.Stop.TheVariants.{Refused, Memory}
-use Rattle.iv_store.proofs.Beside.{is_own, place_pushed, slice_get-of_get_or}
+use Rattle.iv_readers.proofs.Positions.{position-push}
+use Rattle.iv_store.proofs.Beside.{is_own, slice_get-of_get_or}
 use Rattle.iv_store.proofs.RelationCircuits.{IsCircuitFor-other_readers, IsCircuitFor-Serves}
 use Rattle.iv_store.proofs.SubscriptionRounds.{AllByRecursion-IsBeside, AllByRecursion-AreGiven, beside_number-next, now_counted, rounds_more}
 use Rattle.iv_readers.proofs.RowLists.{Moves-from_none}
-use Rattle.iv_store.proofs.ListPairs.{AllByRecursion-get_or}
 use Rattle.iv_store.proofs.OpenCircuit.{opened_have, opened_same, others_rounds, own_rounds}
 use Rattle.iv_store.proofs.ReplacedCircuits.{IsSameReader, place_same, AllByRecursion-IsSameReader}
 use Rattle.iv_store.proofs.SubscriptionViews.{difference-itself, shown_is}
-use Rattle.iv_readers.proofs.Lists.{AllByRecursion-map, AllByRecursion-zip}
+use Rattle.iv_readers.proofs.Lists.{AllByRecursion-get_or, AllByRecursion-map, AllByRecursion-zip}
 use Rattle.iv_store.proofs.RequestSteps.{IsShown, AllByRecursion-IsShown, flat_map-each_nothing, ending-Stands, filter-Stands, IsRefused-frame_refusal}
 use Rattle.iv_store.proofs.Totals.{circuits_within, total_counts}
 use Rattle.iv_store.proofs.Unread.{place_found, is_some-position_append, and-session_acts_as}
@@ -281,9 +282,9 @@ subscribed_no_refusal k r h = cc
 -- ---- its circuit, and its first lines
 
 -- a role comes to a circuit of what the relation shows to it
-pub HasCircuitAt-HasComeTo : (e new : Store) (role rel place : ℕ) (c : Running) → position (is_for role rel) e.circuits ≡ None → IsCircuitFor e role (plan_at e.catalog rel) c → place ≡ length e.circuits
-    → (ks : List RoleCircuit) → HasComeTo e.circuits role rel c ks → new ≡ record e { circuits = ks } → HasCircuitAt e role rel place new
-HasCircuitAt-HasComeTo e d role rel place c none is at ks come state =
+pub HasReaderFor-HasComeTo : (e new : Store) (role rel place : ℕ) (c : Running) → position (is_for role rel) e.circuits ≡ None → IsCircuitFor e role (plan_at e.catalog rel) c → place ≡ length e.circuits
+    → (ks : List RoleCircuit) → HasComeTo e.circuits role rel c ks → new ≡ record e { circuits = ks } → HasReaderFor e role rel place new
+HasReaderFor-HasComeTo e d role rel place c none is at ks come state =
     let k = come_to role rel come.at c in
     let left : d ≡ record e { circuits = e.circuits ++ k ∷ [] } = state ∙ ap (λ cs. record e { circuits = cs }) come.added in
     record {
@@ -291,18 +292,17 @@ HasCircuitAt-HasComeTo e d role rel place c none is at ks come state =
       is = (record { acts = refl; shows = refl; is = is; came = refl; opened = refl }, tt);
       shared = λ h. let no : false ≡ true = ap (λ (o : Option ℕ). is_some o) (sym none) ∙ h in cc;
       first = ap (λ (v : Store). position (is_for role rel) v.circuits) left
-          ∙ place_pushed (is_for role rel) k (is_own role rel come.at c) e.circuits none
-          ∙ ap (λ j. Some j) (sym at);
+          ∙ position-push (is_for role rel) e.circuits k ∙ (λ j. if_some (none j) (cond (is_own role rel come.at c j) (Some (sym at j)) None) (λ i. Some i));
       state = left;
     }
 
 -- a circuit that lets through what the role may see is one of the role
-pub IsLike-IsServed : (e : Store) → AllByRecursion (IsRoleCircuit e) e.circuits → (role rel : ℕ) (o : Option ℕ) → IfSome o (IsServed e.circuits e.known.rights role rel) → IfSome o (IsLike e role rel)
-IsLike-IsServed e are role rel None h = tt
-IsLike-IsServed e are role rel (Some place) h = record {
+pub IsTwin-IsServed : (e : Store) → AllByRecursion (IsRoleCircuit e) e.circuits → (role rel : ℕ) (o : Option ReaderId) → IfSome o (λ r. IsServed e.circuits e.known.rights role rel r.0) → IfSome o (λ r. IsTwin e role rel r.0)
+IsTwin-IsServed e are role rel None h = tt
+IsTwin-IsServed e are role rel (Some reader) h = record {
   low = h.low;
   is = λ k at.
-      let i = AllByRecursion-get_or (IsRoleCircuit e) e.circuits place k are h.low at in
+      let i = AllByRecursion-get_or (IsRoleCircuit e) e.circuits reader.0 k are h.low at in
       subst (λ r. IsCircuitFor e role (plan_at e.catalog r) k.circuit) (h.shows k at) (IsCircuitFor-Serves e e.known.rights k.role role (plan_at e.catalog k.rel) k.circuit i.is (h.serves k at));
 }
 
@@ -334,7 +334,7 @@ module _ (e : Store) (n k : ℕ) (name : Name) (h : IsSoundStore e) (x : IsOpena
     kept = same;
   }
 
-  module _ (place : ℕ) (mid : Store) (got : HasCircuitAt e role k place mid) where
+  module _ (place : ℕ) (mid : Store) (got : HasReaderFor e role k place mid) where
     abbrev added : List RoleCircuit
     added = got.added
 

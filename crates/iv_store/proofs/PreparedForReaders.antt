@@ -1,10 +1,10 @@
 -- What was prepared for the circuits at some places, as what was prepared for each reader.
-use Rattle.std.proofs.Common.{◌≡◌, ◌≢◌, ℕ, zero, suc, ◌+◌, ◌<◌, ◌≤◌, Bool, true, false, ltb, ltb-true, ltb-false, cond, ◌||◌, ◌&&◌, List, [], ◌∷◌, ◌++◌, drop, length, map, get_or, Option, None, Some, IfSome, refl, sym, ap, subst, ◌∙◌, arith, ⊎_elim}
-use Rattle.std.proofs.lemmas.Bool.{cases_lt}
+use Rattle.std.proofs.Common.{◌≡◌, ◌≢◌, ℕ, zero, suc, ◌+◌, ◌<◌, ◌≤◌, Bool, true, false, ltb, ltb-true, ltb-false, cond, ◌||◌, ◌&&◌, List, [], ◌∷◌, ◌++◌, drop, length, map, get_or, take, Option, None, Some, IfSome, refl, sym, ap, subst, ◌∙◌, append-nil, arith}
 use Rattle.std.proofs.lemmas.Bool.Decides.{nat_tests}
-use Rattle.std.proofs.lemmas.List.{at_drop_more}
+use Rattle.std.proofs.lemmas.List.{drop_all, map-append, take_more}
+use Rattle.std.proofs.lemmas.List.Elements.{filter-append}
 use Rattle.std.proofs.lemmas.List.Quantifiers.{position-Some}
-use Rattle.std.specs.Prelude.{◌==◌, flat_map, is_some, not, option_map, position, unwrap_or}
+use Rattle.std.specs.Prelude.{◌==◌, filter, flat_map, is_some, not, option_map, position, unwrap_or}
 use Rattle.std.specs.List.{AllByRecursion, list_all, list_any}
 use Rattle.std.specs.List.Sorted.{IsNonDecreasingBy, IsPartitionPoint}
 use Rattle.std.specs.Global.{Global, Vec}
@@ -27,13 +27,14 @@ use Rattle.iv_readers.specs.Changes.{HasTaken, IsMadeOf, TookChange, has_no_rows
 use Rattle.iv_store.specs.Moved.{line_by}
 use Rattle.iv_readers.specs.Rows.{shared_rows}
 use Rattle.iv_store.specs.Taken.{AreChangesGiven, ArePreparedFor}
-use Rattle.iv_store.specs.Touching.{AreFoundAmong, AreMade, AreMadeAt, IsFoundAmong, IsMadeAt, at_for, line_at, place_among, readers_of}
-use Rattle.iv_readers.specs.Touching.{ArePlaces, AreRisingFrom, IsPlace, rels_of, touches}
+use Rattle.iv_store.specs.Touching.{AreFoundAmong, AreMade, AreMadeAt, IsFoundAmong, IsMadeAt, at_for, line_at, place_among, as_reader, readers_of}
+use Rattle.iv_readers.specs.Touching.{ArePlaces, AreRisingFrom, IsPlace, numbers_of, touches}
 use Rattle.iv_readers.specs.declared.changes.Prepared.{Prepared}
+use Rattle.iv_readers.specs.declared.ids.CircuitId.{CircuitId}
 use Rattle.iv_store.specs.declared.touching.Reader.{Reader}
 use Rattle.iv_store.specs.declared.touching.Touched.{Touched}
 use Rattle.iv_database.proofs.FrameTests.{and-true_both}
-use Rattle.iv_store.proofs.Beside.{same-is_for}
+use Rattle.iv_store.proofs.ReadersFound.{or_false}
 use Rattle.iv_readers.proofs.Held.{same_number}
 use Rattle.iv_readers.proofs.Lists.{AllByRecursion-map, AllByRecursion-zip, is_self, eq-above, eq-below}
 use Rattle.iv_store.proofs.Unread.{place_found}
@@ -47,9 +48,6 @@ get_or-own_default (x ∷ xs) (suc j) d l = get_or-own_default xs j d (omega (ar
 -- ---- circuits that are not touched
 
 module _ (given : Given) (ts : List ℕ) (others : (t : ℕ) → list_any (λ s. t == s) ts ≡ false → given t ≡ []) where
-  swapped : (m n : ℕ) → (m == n) ≡ (n == m)
-  swapped m n = grind (arith, nat_tests)
-
   -- a table that is scanned is none of these
   scanned_not : (t : ℕ) (xs : List ℕ) (ss : List Scanned) → list_any (λ s. s.table == t) ss ≡ true → list_any (λ x. list_any (λ s. s.table == x) ss) xs ≡ false → list_any (λ s. t == s) xs ≡ false
   scanned_not t [] ss here none = refl
@@ -83,18 +81,18 @@ module _ (given : Given) (ts : List ℕ) (others : (t : ℕ) → list_any (λ s.
   -- what was made for its place was made for the circuit, and for another place nothing is to be made
   module _ (c : Running) (at : ℕ) where
     abbrev IsMadeFor : ℕ → Prepared → Type 0
-    IsMadeFor i p = (p.place ≡ i) × (at ≡ i → IsMadeOf given c p)
+    IsMadeFor i p = (p.at.0 ≡ i) × (at ≡ i → IsMadeOf given c p)
 
     made_for : (is : List ℕ) (ps : List Prepared) → Each IsMadeFor is ps → list_any (λ i. i == at) is ≡ touches ts c → IsMadeOf given c (prepared_for at ps)
     made_for [] [] h any = record { readied = untouched c (sym any); rows = refl }
     made_for [] (p ∷ ps) h any = absurd h
     made_for (i ∷ is) [] h any = absurd h
-    made_for (i ∷ is) (p ∷ ps) h any = by (p.place == at) refl (made_for is ps h.1)
+    made_for (i ∷ is) (p ∷ ps) h any = by (p.at.0 == at) refl (made_for is ps h.1)
       where
-        same : (p.place == at) ≡ (i == at)
+        same : (p.at.0 == at) ≡ (i == at)
         same = ap (λ m. m == at) h.0.0
 
-        by : (b : Bool) → (p.place == at) ≡ b → (list_any (λ j. j == at) is ≡ touches ts c → IsMadeOf given c (prepared_for at ps)) → IsMadeOf given c (cond b p (prepared_for at ps))
+        by : (b : Bool) → (p.at.0 == at) ≡ b → (list_any (λ j. j == at) is ≡ touches ts c → IsMadeOf given c (prepared_for at ps)) → IsMadeOf given c (cond b p (prepared_for at ps))
         by true e go = h.0.1 (sym (same_number i at (sym same ∙ e)))
         by false e go = go (ap (λ b. b || list_any (λ j. j == at) is) (sym (sym same ∙ e)) ∙ any)
 
@@ -129,13 +127,13 @@ all_free (k ∷ ks) = (tt, all_free ks)
 
 -- what was made at each place, for each reader
 by_reader : (e : Store) (given : Given) (is : List ℕ) (ps : List Prepared) → Each (IsMadeAt e given) is ps
-    → AllByRecursion (λ k. Each (λ i p. (p.place ≡ i) × (k.at ≡ i → IsMadeOf given k.circuit p)) is ps) e.circuits
+    → AllByRecursion (λ k. Each (λ i p. (p.at.0 ≡ i) × (k.at ≡ i → IsMadeOf given k.circuit p)) is ps) e.circuits
 by_reader e given [] [] h = all_free e.circuits
 by_reader e given [] (p ∷ ps) h = absurd h
 by_reader e given (i ∷ is) [] h = absurd h
 by_reader e given (i ∷ is) (p ∷ ps) h =
-    AllByRecursion-zip (λ k. k.at ≡ i → IsMadeOf given k.circuit p) (λ k. Each (λ j q. (q.place ≡ j) × (k.at ≡ j → IsMadeOf given k.circuit q)) is ps)
-    (λ k. Each (λ j q. (q.place ≡ j) × (k.at ≡ j → IsMadeOf given k.circuit q)) (i ∷ is) (p ∷ ps)) e.circuits
+    AllByRecursion-zip (λ k. k.at ≡ i → IsMadeOf given k.circuit p) (λ k. Each (λ j q. (q.at.0 ≡ j) × (k.at ≡ j → IsMadeOf given k.circuit q)) is ps)
+    (λ k. Each (λ j q. (q.at.0 ≡ j) × (k.at ≡ j → IsMadeOf given k.circuit q)) (i ∷ is) (p ∷ ps)) e.circuits
     (λ k m r. ((h.0.place, m), r)) h.0.made (by_reader e given is ps h.1)
 
 pub places_in-Each : (e : Store) (given : Given) (is : List ℕ) (ps : List Prepared) → Each (IsMadeAt e given) is ps → places_in ps ≡ is
@@ -157,7 +155,7 @@ AreMade-Each e given tables others places at ps made =
       rise = subst (AreRisingFrom 0) (sym same) at.rise;
       read = subst (AllByRecursion (IsPlace e.circuits)) (sym same) at.read;
       made = each_spread (λ k p. IsMadeOf given k.circuit p) ps e.circuits
-          (AllByRecursion-zip (λ k. Each (λ i p. (p.place ≡ i) × (k.at ≡ i → IsMadeOf given k.circuit p)) places ps) (λ k. list_any (λ i. i == k.at) places ≡ touches tables k.circuit)
+          (AllByRecursion-zip (λ k. Each (λ i p. (p.at.0 ≡ i) × (k.at ≡ i → IsMadeOf given k.circuit p)) places ps) (λ k. list_any (λ i. i == k.at) places ≡ touches tables k.circuit)
           (λ k. IsMadeOf given k.circuit (prepared_for k.at ps)) e.circuits
           (λ k m any. made_for given tables others k.circuit k.at places ps m any) (by_reader e given places ps made) at.each);
     }
@@ -177,82 +175,107 @@ ArePreparedFor-none e changes places ps none no_places zsets at =
 
 -- ---- at a place
 
-pub IsMadeAt-IsMadeOf : (e : Store) (given : Given) (i : ℕ) (p : Prepared) (c : Running) → p.place ≡ i → IsMadeOf given c p → AllByRecursion (λ k. k.at ≡ i → c ≡ k.circuit) e.circuits → IsMadeAt e given i p
+pub IsMadeAt-IsMadeOf : (e : Store) (given : Given) (i : ℕ) (p : Prepared) (c : Running) → p.at.0 ≡ i → IsMadeOf given c p → AllByRecursion (λ k. k.at ≡ i → c ≡ k.circuit) e.circuits → IsMadeAt e given i p
 IsMadeAt-IsMadeOf e given i p c place made same = record {
   place = place;
   made = AllByRecursion-map (λ k. k.at ≡ i → c ≡ k.circuit) (λ k. k.at ≡ i → IsMadeOf given k.circuit p) e.circuits (λ k is here. subst (λ x. IsMadeOf given x p) (is here) made) same;
 }
 
--- none of a place below all
-rows_none : (i m : ℕ) (ps : List Prepared) → i < m → AreRisingFrom m (places_in ps) → rows_at i ps ≡ []
-rows_none i m [] low r = refl
-rows_none i m (p ∷ ps) low r =
-    let above = r.0 in
-    ap (λ c. cond c (shared_rows p.rows) (rows_at i ps)) (eq-above p.place i (omega (arith, low, above))) ∙ rows_none i (suc p.place) ps (omega (arith, low, above)) r.1
+-- ---- a place among those that rise
+
+module _ {X : Type 0} (key : X → ℕ) where
+  at_least : (m : ℕ) (xs : List X) → AreRisingFrom m (map key xs) → (j : ℕ) (d : X) → j < length xs → m ≤ key (get_or xs j d)
+  at_least m [] r j d l = absurd (omega (arith, l))
+  at_least m (x ∷ xs) r zero d l = r.0
+  at_least m (x ∷ xs) r (suc j) d l =
+      let above = at_least (suc (key x)) xs r.1 j d (omega (arith, l)) in
+      let low = r.0 in
+      omega (arith, above, low)
+
+  pub IsNonDecreasingBy-AreRisingFrom : (m : ℕ) (xs : List X) → AreRisingFrom m (map key xs) → IsNonDecreasingBy key xs
+  IsNonDecreasingBy-AreRisingFrom m [] r i j d le lt = absurd (omega (arith, lt))
+  IsNonDecreasingBy-AreRisingFrom m (x ∷ xs) r zero zero d le lt = omega arith
+  IsNonDecreasingBy-AreRisingFrom m (x ∷ xs) r zero (suc j) d le lt = let above = at_least (suc (key x)) xs r.1 j d (omega (arith, lt)) in omega (arith, above)
+  IsNonDecreasingBy-AreRisingFrom m (x ∷ xs) r (suc i) zero d le lt = absurd (omega (arith, le))
+  IsNonDecreasingBy-AreRisingFrom m (x ∷ xs) r (suc i) (suc j) d le lt =
+      IsNonDecreasingBy-AreRisingFrom (suc (key x)) xs r.1 i j d (omega (arith, le)) (omega (arith, lt))
+
+  module _ (place : ℕ) where
+    abbrev is_in : List X → Bool
+    is_in xs = list_any (λ n. n == place) (map key xs)
+
+    in_none : (m : ℕ) (xs : List X) → place < m → AreRisingFrom m (map key xs) → is_in xs ≡ false
+    in_none m [] low r = refl
+    in_none m (x ∷ xs) low r =
+        let above = r.0 in
+        let here = eq-above (key x) place (omega (arith, low, above)) in
+        let rest = in_none (suc (key x)) xs (omega (arith, low, above)) r.1 in
+        λ j. here j || rest j
+
+    in_past : (m : ℕ) (xs : List X) (i : ℕ) (x : X) → AreRisingFrom m (map key xs) → i < length xs → x ≡ get_or xs i x → place ≤ key x → is_in (drop i xs) ≡ (key x == place)
+    in_past m [] i x r low at above = absurd (omega (arith, low))
+    in_past m (y ∷ xs) zero x r low at above =
+        let rest = in_none (suc (key y)) xs (let same = ap key at in omega (arith, same, above)) r.1 in
+        (λ j. (key (sym at j) == place) || rest j) ∙ or_false (key x == place)
+    in_past m (y ∷ xs) (suc i) x r low at above = in_past (suc (key y)) xs i x r.1 (omega (arith, low)) at above
+
+    in_skip : (xs : List X) (i : ℕ) → ((k : ℕ) (d : X) → 0 ≤ k → k < i → ltb (key (get_or xs k d)) place ≡ true) → is_in xs ≡ is_in (drop i xs)
+    in_skip [] zero less = refl
+    in_skip [] (suc i) less = refl
+    in_skip (x ∷ xs) zero less = refl
+    in_skip (x ∷ xs) (suc i) less =
+        ap (λ b. b || is_in xs) (eq-below place (key x) (ltb-true (key x) place (less 0 x (omega arith) (omega arith))))
+        ∙ in_skip xs i (λ k d low high. less (suc k) d (omega arith) (omega (arith, high)))
+
+    -- by the point from which on none is below it
+    module _ (xs : List X) (rise : AreRisingFrom 0 (map key xs)) (i : ℕ) (point : IsPartitionPoint (λ (x : X). ltb (key x) place ≡ true) (λ x. ltb (key x) place ≡ false) xs i) where
+      pub in_at_point : (x : X) → i < length xs → x ≡ get_or xs i x → is_in xs ≡ (key x == place)
+      in_at_point x low at =
+          let here : ltb (key x) place ≡ false = ap (λ (y : X). ltb (key y) place) at ∙ point.1 i x (omega arith) low in
+          in_skip xs i point.0 ∙ in_past 0 xs i x rise low at (ltb-false (key x) place here)
+
+      pub in_over_point : length xs ≤ i → is_in xs ≡ false
+      in_over_point out = in_skip xs i point.0 ∙ ap is_in (drop_all i xs out)
 
 -- ---- the rows at a place, one after another
 
-pub rows_found : (place : ℕ) (ps : List Prepared) (i : ℕ) (p : Prepared) → i < length ps → p ≡ get_or ps i p → p.place ≡ place → rows_at place (drop i ps) ≡ shared_rows p.rows
+pub rows_found : (place : ℕ) (ps : List Prepared) (i : ℕ) (p : Prepared) → i < length ps → p ≡ get_or ps i p → p.at.0 ≡ place → rows_at place (drop i ps) ≡ shared_rows p.rows
 rows_found place [] i p low at is = absurd (omega (arith, low))
 rows_found place (q ∷ ps) zero p low at is =
-    let own : (q.place == place) ≡ true = ap (λ (x : Prepared). x.place == place) (sym at) ∙ ap (λ m. m == place) is ∙ is_self place in
+    let own : (q.at.0 == place) ≡ true = ap (λ (x : Prepared). x.at.0 == place) (sym at) ∙ ap (λ m. m == place) is ∙ is_self place in
     ap (λ b. cond b (shared_rows q.rows) (rows_at place ps)) own ∙ ap (λ (x : Prepared). shared_rows x.rows) (sym at)
 rows_found place (q ∷ ps) (suc i) p low at is = rows_found place ps i p (omega (arith, low)) at is
 
-pub rows_over : (place : ℕ) (ps : List Prepared) (i : ℕ) → length ps ≤ i → rows_at place (drop i ps) ≡ []
-rows_over place [] zero h = refl
-rows_over place [] (suc i) h = refl
-rows_over place (q ∷ ps) zero h = absurd (omega (arith, h))
-rows_over place (q ∷ ps) (suc i) h = rows_over place ps i (omega (arith, h))
-
--- ---- the rows at a place, by halves
-
-at_least : (m : ℕ) (ps : List Prepared) → AreRisingFrom m (places_in ps) → (j : ℕ) (d : Prepared) → j < length ps → m ≤ (get_or ps j d).place
-at_least m [] r j d l = absurd (omega (arith, l))
-at_least m (q ∷ ps) r zero d l = r.0
-at_least m (q ∷ ps) r (suc j) d l =
-    let above = at_least (suc q.place) ps r.1 j d (omega (arith, l)) in
-    let low = r.0 in
-    omega (arith, above, low)
-
-pub IsNonDecreasingBy-AreRisingFrom : (m : ℕ) (ps : List Prepared) → AreRisingFrom m (places_in ps) → IsNonDecreasingBy (λ (p : Prepared). p.place) ps
-IsNonDecreasingBy-AreRisingFrom m [] r i j d le lt = absurd (omega (arith, lt))
-IsNonDecreasingBy-AreRisingFrom m (q ∷ ps) r zero zero d le lt = omega arith
-IsNonDecreasingBy-AreRisingFrom m (q ∷ ps) r zero (suc j) d le lt = let above = at_least (suc q.place) ps r.1 j d (omega (arith, lt)) in omega (arith, above)
-IsNonDecreasingBy-AreRisingFrom m (q ∷ ps) r (suc i) zero d le lt = absurd (omega (arith, le))
-IsNonDecreasingBy-AreRisingFrom m (q ∷ ps) r (suc i) (suc j) d le lt =
-    IsNonDecreasingBy-AreRisingFrom (suc q.place) ps r.1 i j d (omega (arith, le)) (omega (arith, lt))
-
-rows_past : (place m : ℕ) (ps : List Prepared) (i : ℕ) (p : Prepared) → AreRisingFrom m (places_in ps) → i < length ps → p ≡ get_or ps i p → place < p.place → rows_at place (drop i ps) ≡ []
-rows_past place m [] i p r low at above = absurd (omega (arith, low))
-rows_past place m (q ∷ ps) zero p r low at above = rows_none place q.place (q ∷ ps) (subst (λ (x : Prepared). place < x.place) at above) (omega arith, r.1)
-rows_past place m (q ∷ ps) (suc i) p r low at above = rows_past place (suc q.place) ps i p r.1 (omega (arith, low)) at above
-
-rows_skip : (place : ℕ) (ps : List Prepared) (i : ℕ) → ((k : ℕ) (d : Prepared) → 0 ≤ k → k < i → ltb (get_or ps k d).place place ≡ true) → rows_at place ps ≡ rows_at place (drop i ps)
+rows_skip : (place : ℕ) (ps : List Prepared) (i : ℕ) → ((k : ℕ) (d : Prepared) → 0 ≤ k → k < i → ltb (get_or ps k d).at.0 place ≡ true) → rows_at place ps ≡ rows_at place (drop i ps)
 rows_skip place [] zero less = refl
 rows_skip place [] (suc i) less = refl
 rows_skip place (q ∷ ps) zero less = refl
 rows_skip place (q ∷ ps) (suc i) less =
-    ap (λ b. cond b (shared_rows q.rows) (rows_at place ps)) (eq-below place q.place (ltb-true q.place place (less 0 q (omega arith) (omega arith))))
+    ap (λ b. cond b (shared_rows q.rows) (rows_at place ps)) (eq-below place q.at.0 (ltb-true q.at.0 place (less 0 q (omega arith) (omega arith))))
     ∙ rows_skip place ps i (λ k d low high. less (suc k) d (omega arith) (omega (arith, high)))
 
--- the point from which on no place is below the one
+rows_absent : (place : ℕ) (ps : List Prepared) → list_any (λ n. n == place) (places_in ps) ≡ false → rows_at place ps ≡ []
+rows_absent place [] h = refl
+rows_absent place (p ∷ ps) h = by (p.at.0 == place) h (rows_absent place ps)
+  where
+    by : (c : Bool) → (c || list_any (λ n. n == place) (places_in ps)) ≡ false → (list_any (λ n. n == place) (places_in ps) ≡ false → rows_at place ps ≡ []) → cond c (shared_rows p.rows) (rows_at place ps) ≡ []
+    by true x go = cc
+    by false x go = go x
+
+-- by the point from which on no place is below it
 module _ (place : ℕ) (ps : List Prepared) (rise : AreRisingFrom 0 (places_in ps)) (i : ℕ)
-    (point : IsPartitionPoint (λ (p : Prepared). ltb p.place place ≡ true) (λ p. ltb p.place place ≡ false) ps i) where
-  pub rows_at_point : (p : Prepared) → i < length ps → p ≡ get_or ps i p → p.place ≡ place → rows_at place ps ≡ shared_rows p.rows
+    (point : IsPartitionPoint (λ (p : Prepared). ltb p.at.0 place ≡ true) (λ p. ltb p.at.0 place ≡ false) ps i) where
+  pub rows_at_point : (p : Prepared) → i < length ps → p ≡ get_or ps i p → p.at.0 ≡ place → rows_at place ps ≡ shared_rows p.rows
   rows_at_point p low at is = rows_skip place ps i point.0 ∙ rows_found place ps i p low at is
 
   pub rows_over_point : length ps ≤ i → rows_at place ps ≡ []
-  rows_over_point out = rows_skip place ps i point.0 ∙ rows_over place ps i out
+  rows_over_point out = rows_absent place ps (in_over_point (λ (p : Prepared). p.at.0) place ps rise i point out)
 
-  pub rows_not_at_point : (p : Prepared) → i < length ps → p ≡ get_or ps i p → p.place ≢ place → rows_at place ps ≡ []
-  rows_not_at_point p low at not_it =
-      let here : ltb p.place place ≡ false = ap (λ (x : Prepared). ltb x.place place) at ∙ point.1 i p (omega arith) low in
-      let above : place ≤ p.place = ltb-false p.place place here in
-      rows_skip place ps i point.0 ∙ rows_past place 0 ps i p rise low at (more p.place above not_it)
+  pub rows_not_at_point : (p : Prepared) → i < length ps → p ≡ get_or ps i p → p.at.0 ≢ place → rows_at place ps ≡ []
+  rows_not_at_point p low at not_it = rows_absent place ps (in_at_point (λ (p : Prepared). p.at.0) place ps rise i point p low at ∙ other p.at.0 place not_it)
     where
-      more : (n : ℕ) → place ≤ n → n ≢ place → place < n
-      more n above other = ⊎_elim (λ (l : place < n). l) (λ (g : n ≤ place). absurd (other (omega (arith, above, g)))) (cases_lt place n)
+      other : (m n : ℕ) → m ≢ n → (m == n) ≡ false
+      other m n apart = grind (arith, nat_tests)
 
 -- ---- the circuit that a role reads of a relation
 
@@ -288,7 +311,7 @@ module _ (role rel : ℕ) where
 -- the rows for a place are those of what was prepared for it
 rows_for : (i : ℕ) (ps : List Prepared) → shared_rows (prepared_for i ps).rows ≡ rows_at i ps
 rows_for i [] = refl
-rows_for i (p ∷ ps) = by (p.place == i) (rows_for i ps)
+rows_for i (p ∷ ps) = by (p.at.0 == i) (rows_for i ps)
   where
     by : (b : Bool) → shared_rows (prepared_for i ps).rows ≡ rows_at i ps → shared_rows (cond b p (prepared_for i ps)).rows ≡ cond b (shared_rows p.rows) (rows_at i ps)
     by true h = refl
@@ -340,15 +363,6 @@ places_stay ts is ks ps ms t a = record {
   read = AllByRecursion-map (IsPlace ks) (IsPlace ms) is (λ i h. place_stays i ks ps ms t ∙ h) a.read;
 }
 
-rels_stay : (ts : List ℕ) (ks : List RoleCircuit) (ps : List Prepared) (ms : List RoleCircuit) → HaveBecome TookChange (length ps) ks ps ms → rels_of ts ms ≡ rels_of ts ks
-rels_stay ts ks [] ms t = ap (rels_of ts) t
-rels_stay ts [] (p ∷ ps) ms t = absurd t
-rels_stay ts (k ∷ ks) (p ∷ ps) [] t = absurd t
-rels_stay ts (k ∷ ks) (p ∷ ps) (m ∷ ms) t =
-    let one = touches_stay ts k p m t.0 in
-    let rest = rels_stay ts ks ps ms t.1 in
-    λ i. cond (one i) (t.0.rel i ∷ rest i) (rest i)
-
 at_stays : (role rel : ℕ) (ks : List RoleCircuit) (ps : List Prepared) (ms : List RoleCircuit) → HaveBecome TookChange (length ps) ks ps ms → at_for role rel ms ≡ at_for role rel ks
 at_stays role rel ks [] ms t = ap (at_for role rel) t
 at_stays role rel [] (p ∷ ps) ms t = absurd t
@@ -358,12 +372,12 @@ at_stays role rel (k ∷ ks) (p ∷ ps) (m ∷ ms) t =
     λ i. cond ((t.0.role i == role) && (t.0.rel i == rel)) (Some (t.0.at i)) (rest i)
 
 module _ (ss : List Session) (ks : List RoleCircuit) (ps : List Prepared) (ms : List RoleCircuit) (t : HaveBecome TookChange (length ps) ks ps ms) where
-  readers_stay : (rs : List ℕ) (os : List Subscription) → readers_of rs ss ms os ≡ readers_of rs ss ks os
-  readers_stay rs [] = refl
-  readers_stay rs (o ∷ os) =
-      let rest = readers_stay rs os in
+  readers_stay : (os : List Subscription) → map (as_reader ss ms) os ≡ map (as_reader ss ks) os
+  readers_stay [] = refl
+  readers_stay (o ∷ os) =
+      let rest = readers_stay os in
       let place = place (session_of ss o.session) in
-      λ i. cond (list_any (λ r. r == o.rel) rs) (record { subscription = o; place = unwrap_or (place i) 0 } ∷ rest i) (rest i)
+      λ i. record { subscription = o; at = record { 0 = unwrap_or (place i) 0 } } ∷ rest i
     where
       place : (x : Option Session) → if_some x None (λ s. at_for s.role o.rel ms) ≡ if_some x None (λ s. at_for s.role o.rel ks)
       place None = refl
@@ -371,15 +385,15 @@ module _ (ss : List Session) (ks : List RoleCircuit) (ps : List Prepared) (ms : 
 
   pub among_stays : (os : List Subscription) (x : Touched) → IsFoundAmong ss os ks x → IsFoundAmong ss os ms x
   among_stays os x a = record {
-    places = places_stay x.tables.items x.places.items ks ps ms t a.places;
-    readers = a.readers ∙ ap (λ rs. readers_of rs ss ks os) (sym (rels_stay x.tables.items ks ps ms t)) ∙ sym (readers_stay (rels_of x.tables.items ms) os);
+    circuits = places_stay x.tables.items (numbers_of x.circuits.items) ks ps ms t a.circuits;
+    readers = a.readers ∙ ap (filter (λ r. list_any (λ i. i == r.at.0) (numbers_of x.circuits.items))) (sym (readers_stay os));
   }
 
   pub found_stay : (os : List Subscription) (xs : List (Rc Touched Global)) → AreFoundAmong ss os ks xs → AreFoundAmong ss os ms xs
   found_stay os [] a = tt
   found_stay os (x ∷ xs) a = (among_stays os x.value a.0, found_stay os xs a.1)
 
--- ---- the lines of those who read a touched relation are the lines of all
+-- ---- the lines of those who read a touched circuit are the lines of all
 
 no_rows : (o : Option (Rc Weighed Global)) → not (is_some o) ≡ true → shared_rows o ≡ []
 no_rows None h = refl
@@ -389,7 +403,7 @@ no_rows_at : (place : ℕ) (ps : List Prepared) → list_all has_no_rows ps ≡ 
 no_rows_at place [] h = refl
 no_rows_at place (p ∷ ps) h =
     let b = and-true_both (has_no_rows p) (list_all has_no_rows ps) h in
-    by (p.place == place) (no_rows p.rows b.0) (no_rows_at place ps b.1)
+    by (p.at.0 == place) (no_rows p.rows b.0) (no_rows_at place ps b.1)
   where
     by : (c : Bool) → shared_rows p.rows ≡ [] → rows_at place ps ≡ [] → cond c (shared_rows p.rows) (rows_at place ps) ≡ []
     by true x y = x
@@ -398,58 +412,29 @@ no_rows_at place (p ∷ ps) h =
 -- no reader has a line then
 pub flat_map-has_no_rows : (ps : List Prepared) → list_all has_no_rows ps ≡ true → (rs : List Reader) → flat_map (line_at ps) rs ≡ []
 flat_map-has_no_rows ps h [] = refl
-flat_map-has_no_rows ps h (r ∷ rs) = λ i. machine_line None r.subscription (no_rows_at r.place ps h i) ++ flat_map-has_no_rows ps h rs i
-
-rows_absent : (place : ℕ) (ps : List Prepared) → list_any (λ n. n == place) (places_in ps) ≡ false → rows_at place ps ≡ []
-rows_absent place [] h = refl
-rows_absent place (p ∷ ps) h = by (p.place == place) h (rows_absent place ps)
-  where
-    by : (c : Bool) → (c || list_any (λ n. n == place) (places_in ps)) ≡ false → (list_any (λ n. n == place) (places_in ps) ≡ false → rows_at place ps ≡ []) → cond c (shared_rows p.rows) (rows_at place ps) ≡ []
-    by true x go = cc
-    by false x go = go x
-
--- where a role reads a relation none of whose circuits scans one of the tables, it reads at none of their places
-module _ (ts is : List ℕ) (role rel : ℕ) where
-  clash : true ≡ false → ⊥
-  clash q = cc
-
-  behind : (a b : Bool) → (a || b) ≡ false → b ≡ false
-  behind true b q = cc
-  behind false b q = q
-
-  not_among : (ks : List RoleCircuit) (i : ℕ) → AllByRecursion (λ k. list_any (λ j. j == k.at) is ≡ touches ts k.circuit) ks → at_for role rel ks ≡ Some i
-      → list_any (λ r. r == rel) (rels_of ts ks) ≡ false → list_any (λ j. j == i) is ≡ false
-  not_among [] i a h none = cc
-  not_among (k ∷ ks) i a h none = by (is_for role rel k) (touches ts k.circuit) refl a.0 h none (not_among ks i a.1)
-    where
-      rels : List ℕ
-      rels = rels_of ts ks
-
-      own : is_for role rel k ≡ true → (k.rel == rel) ≡ true
-      own t = ap (λ r. r == rel) (same-is_for role rel k t).1 ∙ is_self rel
-
-      by : (b c : Bool) → is_for role rel k ≡ b → list_any (λ j. j == k.at) is ≡ c → cond b (Some k.at) (at_for role rel ks) ≡ Some i → list_any (λ r. r == rel) (cond c (k.rel ∷ rels) rels) ≡ false
-          → (at_for role rel ks ≡ Some i → list_any (λ r. r == rel) rels ≡ false → list_any (λ j. j == i) is ≡ false) → list_any (λ j. j == i) is ≡ false
-      by true true e t h none go = absurd (clash (sym (ap (λ b. b || list_any (λ r. r == rel) rels) (own e)) ∙ none))
-      by true false e t h none go = ap (λ m. list_any (λ j. j == m) is) (sym (of_some k.at i h)) ∙ t
-      by false true e t h none go = go h (behind (k.rel == rel) (list_any (λ r. r == rel) rels) none)
-      by false false e t h none go = go h none
+flat_map-has_no_rows ps h (r ∷ rs) = λ i. machine_line None r.subscription (no_rows_at r.at.0 ps h i) ++ flat_map-has_no_rows ps h rs i
 
 -- ---- one reader after another
 
-module _ (rs : List ℕ) (ss : List Session) (ks : List RoleCircuit) (os : List Subscription) (i : ℕ) (o : Subscription) (low : i < length os) (at : o ≡ get_or os i o) where
-  abbrev further : List Reader
-  further = readers_of rs ss ks (drop (i + 1) os)
+pub as_reader-Some : (ss : List Session) (ks : List RoleCircuit) (o : Subscription) (at : CircuitId) → place_among ss ks o ≡ Some at.0 → as_reader ss ks o ≡ record { subscription = o; at = at }
+as_reader-Some ss ks o at is = ap (λ x. record { subscription = o; at = record { 0 = unwrap_or x 0 } }) is
 
-  next_reader : readers_of rs ss ks (drop i os) ≡ cond (list_any (λ r. r == o.rel) rs) (record { subscription = o; place = unwrap_or (place_among ss ks o) 0 } ∷ further) further
-  next_reader = at_drop_more (readers_of rs ss ks) os i o low ∙ ap (λ x. readers_of rs ss ks (x ∷ drop (i + 1) os)) (sym at)
+module _ (is : List ℕ) (ss : List Session) (ks : List RoleCircuit) (os : List Subscription) (i : ℕ) (o : Subscription) (low : i < length os) (at : o ≡ get_or os i o) (r : Reader) (own : as_reader ss ks o ≡ r) where
+  abbrev so_far : List Reader
+  so_far = readers_of is ss ks (take i os)
 
-  pub no_reader : list_any (λ r. r == o.rel) rs ≡ false → readers_of rs ss ks (drop i os) ≡ further
-  no_reader h = next_reader ∙ ap (λ b. cond b (record { subscription = o; place = unwrap_or (place_among ss ks o) 0 } ∷ further) further) h
+  more_readers : (b : Bool) → list_any (λ n. n == r.at.0) is ≡ b → readers_of is ss ks (take (i + 1) os) ≡ so_far ++ cond b (r ∷ []) []
+  more_readers b h =
+      ap (readers_of is ss ks) (take_more os i o low ∙ ap (λ x. take i os ++ x ∷ []) (sym at))
+      ∙ ap (filter (λ x. list_any (λ n. n == x.at.0) is)) (map-append (as_reader ss ks) (take i os) (o ∷ []))
+      ∙ filter-append (λ x. list_any (λ n. n == x.at.0) is) (map (as_reader ss ks) (take i os)) (as_reader ss ks o ∷ [])
+      ∙ ap (λ x. so_far ++ cond (list_any (λ n. n == x.at.0) is) (x ∷ []) []) own ∙ ap (λ c. so_far ++ cond c (r ∷ []) []) h
 
-  pub one_reader : (place : ℕ) → list_any (λ r. r == o.rel) rs ≡ true → place_among ss ks o ≡ Some place → readers_of rs ss ks (drop i os) ≡ record { subscription = o; place = place } ∷ further
-  one_reader place h is = next_reader ∙ ap (λ b. cond b (record { subscription = o; place = unwrap_or (place_among ss ks o) 0 } ∷ further) further) h
-      ∙ ap (λ (x : Option ℕ). record { subscription = o; place = unwrap_or x 0 } ∷ further) is
+  pub one_reader : (old : List Reader) → list_any (λ n. n == r.at.0) is ≡ true → old ≡ so_far → old ++ r ∷ [] ≡ readers_of is ss ks (take (i + 1) os)
+  one_reader old h was = ap (λ rs. rs ++ r ∷ []) was ∙ sym (more_readers true h)
+
+  pub no_reader : (old : List Reader) → list_any (λ n. n == r.at.0) is ≡ false → old ≡ so_far → old ≡ readers_of is ss ks (take (i + 1) os)
+  no_reader old h was = was ∙ sym (more_readers false h ∙ append-nil so_far)
 
 -- of an open session the place is that of the circuit that its role reads
 pub place_among-is_open : (e : Store) (o : Subscription) → is_open (frame_of e) o.session ≡ true → place_among e.sessions e.circuits o ≡ at_for (actor (frame_of e) o.session) o.rel e.circuits
@@ -460,38 +445,33 @@ place_among-is_open e o shows = by (session_of e.sessions o.session) shows
     by None h = cc
     by (Some s) h = refl
 
-module _ (e : Store) (ts : List ℕ) (ps : List Prepared) (at : ArePlaces ts e.circuits (places_in ps)) where
+module _ (e : Store) (ps : List Prepared) (is : List ℕ) (places : places_in ps ≡ is) where
   abbrev whole : List Prepared
   whole = spread e.circuits ps
 
-  abbrev concerned : List ℕ
-  concerned = rels_of ts e.circuits
-
   pub reader_lines : (os : List Subscription) → AllByRecursion (IsOpen e) os → AllByRecursion (λ s. is_some (place_of e s) ≡ true) os
-      → flat_map (line_at ps) (readers_of concerned e.sessions e.circuits os) ≡ flat_map (line_by e whole) os
+      → flat_map (line_at ps) (readers_of is e.sessions e.circuits os) ≡ flat_map (line_by e whole) os
   reader_lines [] shows there = refl
-  reader_lines (o ∷ os) shows there = by (list_any (λ r. r == o.rel) concerned) refl (reader_lines os shows.1 there.1)
+  reader_lines (o ∷ os) shows there = by (list_any (λ n. n == r.at.0) is) refl (reader_lines os shows.1 there.1)
     where
       role : ℕ
       role = actor (frame_of e) o.session
 
+      r : Reader
+      r = as_reader e.sessions e.circuits o
+
+      rest : List Reader
+      rest = readers_of is e.sessions e.circuits os
+
       some_place : (i : ℕ) × (at_for role o.rel e.circuits ≡ Some i)
       some_place = at_there role o.rel e.circuits (place_found (is_for role o.rel) e.circuits there.0)
 
-      i : ℕ
-      i = some_place.0
+      one : machine_line None o (rows_at r.at.0 ps) ≡ line_by e whole o
+      one = ap (λ x. machine_line None o (rows_at (unwrap_or x 0) ps)) (place_among-is_open e o shows.0.session ∙ some_place.1) ∙ placed_line e ps o some_place.0 some_place.1
 
-      found : at_for role o.rel e.circuits ≡ Some i
-      found = some_place.1
-
-      by : (b : Bool) → list_any (λ r. r == o.rel) concerned ≡ b → flat_map (line_at ps) (readers_of concerned e.sessions e.circuits os) ≡ flat_map (line_by e whole) os
-          → flat_map (line_at ps) (cond b (record { subscription = o; place = unwrap_or (place_among e.sessions e.circuits o) 0 } ∷ readers_of concerned e.sessions e.circuits os) (readers_of concerned e.sessions e.circuits os))
-          ≡ line_by e whole o ++ flat_map (line_by e whole) os
-      by true q rest =
-          let one : machine_line None o (rows_at (unwrap_or (place_among e.sessions e.circuits o) 0) ps) ≡ line_by e whole o =
-          ap (λ x. machine_line None o (rows_at (unwrap_or x 0) ps)) (place_among-is_open e o shows.0.session ∙ found) ∙ placed_line e ps o i found in
-          λ j. one j ++ rest j
-      by false q rest =
-          let none : rows_at i ps ≡ [] = rows_absent i ps (not_among ts (places_in ps) role o.rel e.circuits i at.each found q) in
-          let one : line_by e whole o ≡ [] = sym (placed_line e ps o i found) ∙ ap (machine_line None o) none in
-          rest ∙ (λ j. sym one j ++ flat_map (line_by e whole) os)
+      by : (b : Bool) → list_any (λ n. n == r.at.0) is ≡ b → flat_map (line_at ps) rest ≡ flat_map (line_by e whole) os
+          → flat_map (line_at ps) (cond b (r ∷ rest) rest) ≡ line_by e whole o ++ flat_map (line_by e whole) os
+      by true q go = λ j. one j ++ go j
+      by false q go =
+          let none : line_by e whole o ≡ [] = sym one ∙ ap (machine_line None o) (rows_absent r.at.0 ps (ap (list_any (λ n. n == r.at.0)) places ∙ q)) in
+          go ∙ (λ j. sym none j ++ flat_map (line_by e whole) os)

@@ -1,71 +1,28 @@
 -- What subscriptions show, and which of them end.
-use Rattle.std.proofs.Common.{◌≡◌, ℕ, ◌≤◌, Bool, true, false, cond, not, ◌||◌, List, [], ◌∷◌, ◌++◌, length, map, pos, Option, None, Some, refl, ap, ◌∙◌, arith}
+use Rattle.std.proofs.Common.{◌≡◌, ℕ, Bool, true, false, cond, not, ◌||◌, List, [], ◌∷◌, ◌++◌, map, pos, Option, None, Some, refl, ap, ◌∙◌, arith}
 use Rattle.std.proofs.lemmas.Bool.Decides.{nat_tests}
 use Rattle.std.proofs.lemmas.Int.{ints}
-use Rattle.std.specs.Prelude.{◌==◌, ◌-ℤ◌, is_some, filter, nat_le, slice_get}
+use Rattle.std.specs.Prelude.{◌==◌, ◌-ℤ◌, is_some, filter}
 use Rattle.std.specs.Ordering.{int_eq}
 use Rattle.std.specs.List.{AllByRecursion, list_any}
 use Rattle.iv_rows.specs.Cell.{Cell}
-use Rattle.iv_zset.specs.Limits.{copies, within}
-use Rattle.iv_zset.proofs.Limits.{within-IsZSet}
+use Rattle.iv_zset.specs.Limits.{copies}
 use Rattle.iv_algebra.specs.Plans.{Lists}
-use Rattle.iv_algebra.specs.Evaluation.{eval, plan_within}
-use Rattle.iv_algebra.specs.Contents.{rows_of}
 use Rattle.iv_rows.specs.Options.{if_some}
-use Rattle.iv_access.specs.Rights.{Rights}
-use Rattle.iv_access.specs.Laws.{ReachesAlike}
-use Rattle.iv_access.specs.Privileges.{role_name}
-use Rattle.iv_access.specs.Policies.{allowed, may_see}
-use Rattle.iv_machine.specs.State.{Frame, Subscription, actor, plan_at, subscription_of, view_for, view_shown, is_within, is_within_for, missing_for, shown}
+use Rattle.iv_machine.specs.State.{Subscription, actor, subscription_of, view_shown, is_within, missing_for, shown}
 use Rattle.iv_machine.specs.Machine.{difference, is_change, weighted, rising_rows, first_cause, ending}
 use Rattle.iv_machine.specs.Reached.{AreUnique}
 use Rattle.iv_machine.specs.declared.Cause.{Cause}
 use Rattle.iv_machine.specs.declared.Cause.TheVariants as cause
 use Rattle.iv_database.proofs.Taken as taking
-use Rattle.iv_store.specs.Store.{database_of, Store, IsStored, frame_of, at, may_read, shown_rows, table_rows}
+use Rattle.iv_store.specs.Store.{database_of, Store, IsStored, frame_of, at, may_read, shown_rows}
 use Rattle.iv_database.specs.Stands.{Stands}
-use Rattle.iv_store.proofs.VisibleRows.{filter_within, filter-ReachesAlike}
-use Rattle.iv_database.proofs.Tables.{IsATable, plan_at-IsATable}
 
-nat_at_most : (m n : ℕ) → m ≤ n → nat_le m n ≡ true
-nat_at_most m n h = grind (arith, nat_tests)
-
--- ---- a view is the rows of its table that its reader sees
+-- ---- what a subscription shows
 
 module _ (e : Store) (T : Lists) where
-  pub view_is : (role rel : ℕ) → IsATable e.catalog rel → view_for (at e T) role rel ≡ filter (may_see e.known.rights role rel) (T rel)
-  view_is role rel t = ap (λ p. eval p (allowed e.known.rights role T)) (plan_at-IsATable e.catalog rel t)
-
-  pub within_for : (role rel : ℕ) → IsATable e.catalog rel → is_within_for (at e T) role rel ≡ within e.cap (filter (may_see e.known.rights role rel) (T rel))
-  within_for role rel t = ap (λ p. plan_within e.cap p (allowed e.known.rights role T)) (plan_at-IsATable e.catalog rel t)
-
   pub shown_is : (s : Subscription) → subscription_of e.subscriptions s.number ≡ Some s → shown (at e T) s.number ≡ shown_rows e T s
   shown_is s found = ap (λ o. if_some o [] (view_shown (at e T))) found
-
-  pub rows_are : (s : Subscription) → IsATable e.catalog s.rel → shown_rows e T s ≡ table_rows e T s
-  rows_are s t = view_is (actor (frame_of e) s.session) s.rel t
-
-  -- and is within the limits where the table is
-  pub view_within : (role rel : ℕ) → IsATable e.catalog rel → within e.cap (T rel) ≡ true → is_within_for (at e T) role rel ≡ true
-  view_within role rel t w = within_for role rel t ∙ filter_within (may_see e.known.rights role rel) e.cap (T rel) w
-
-  module _ (sound : IsStored e) (stands : Stands T e.tables) where
-    pub table_fits : (t : ℕ) → within e.cap (T t) ≡ true
-    table_fits t = within-IsZSet e.cap (rows_of e.tables t) (T t) (sound.database.zsets t) (stands t) ∙ nat_at_most (length (rows_of e.tables t)) e.cap (sound.database.small t)
-
-    pub view_fits : (role rel : ℕ) → IsATable e.catalog rel → is_within_for (at e T) role rel ≡ true
-    view_fits role rel t = view_within role rel t (table_fits rel)
-
--- what a role sees depends on its name, on the roles that it reaches and on the guards alone
-pub view_same : (f : Frame) (q : Rights) (role rel : ℕ) (T : Lists) → ReachesAlike f.rights q.members role → role_name q role ≡ role_name f.rights role → ((t : ℕ) → slice_get q.guards t ≡ slice_get f.rights.guards t)
-    → view_for (record { frame = record f { rights = q }; rows = T }) role rel ≡ view_for (record { frame = f; rows = T }) role rel
-view_same f q role rel T reach name guards = λ i. eval (plan_at f.catalog rel) (λ t. filter-ReachesAlike q f.rights role t reach name (guards t) (T t) i)
-
--- and so do the limits of it
-pub limits_same : (f : Frame) (q : Rights) (role rel : ℕ) (T : Lists) → ReachesAlike f.rights q.members role → role_name q role ≡ role_name f.rights role → ((t : ℕ) → slice_get q.guards t ≡ slice_get f.rights.guards t)
-    → is_within_for (record { frame = record f { rights = q }; rows = T }) role rel ≡ is_within_for (record { frame = f; rows = T }) role rel
-limits_same f q role rel T reach name guards =
-    λ i. plan_within f.cap (plan_at f.catalog rel) (λ t. filter-ReachesAlike q f.rights role t reach name (guards t) (T t) i)
 
 -- ---- lists behind the tables
 
@@ -102,9 +59,6 @@ pub difference-itself : (rows : List (List Cell)) → difference rows rows ≡ [
 difference-itself rows = none_differ rows (rising_rows (rows ++ rows))
 
 -- ---- subscriptions by their numbers
-
-same_nat : (m n : ℕ) → (m == n) ≡ true → m ≡ n
-same_nat m n h = grind (arith, nat_tests)
 
 own : (n : ℕ) → (n == n) ≡ true
 own n = grind (arith, nat_tests)

@@ -4,7 +4,6 @@ use Rattle.std.proofs.lemmas.List.Quantifiers.{position-Some}
 use Rattle.std.specs.Prelude.{is_some, position, slice_get}
 use Rattle.std.specs.List.{AllByRecursion}
 use Rattle.iv_zset.specs.Limits.{Counts}
-use Rattle.iv_zset.specs.Weights.{Weighed}
 use Rattle.iv_algebra.specs.Plans.{Lists}
 use Rattle.iv_rows.specs.Options.{if_some}
 use Rattle.iv_circuit.specs.Nodes.{total_of}
@@ -74,8 +73,3 @@ module _ (e : Store) (circuits : AllByRecursion (IsRoleCircuit e) e.circuits) wh
 
   pub total_counts : (T : Lists) → Stands T e.tables → (s : Subscription) (i : ℕ) → place_of e s ≡ Some i → Counts (total_at e i) (shown_rows e T s)
   total_counts T stands s i h = role_counts T stands (actor (frame_of e) s.session) s.rel e.circuits i circuits h
-
-  -- and so does that of the circuit that stands there
-  pub circuit_counts : (T : Lists) → Stands T e.tables → (s : Subscription) (i : ℕ) (k : RoleCircuit) → place_of e s ≡ Some i → k ≡ get_or e.circuits i k → Counts (total_of k.circuit.node) (shown_rows e T s)
-  circuit_counts T stands s i k h is =
-      subst (λ (z : Weighed). Counts z (shown_rows e T s)) (total_at-get_or e i k (lt-place_of e s i h) is) (total_counts T stands s i h)

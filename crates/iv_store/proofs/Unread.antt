@@ -1,11 +1,12 @@
 -- Circuits that open subscriptions read.
-use Rattle.std.proofs.Common.{◌≡◌, ℕ, suc, ◌+◌, ◌<◌, Bool, true, false, cond, not, ◌&&◌, ◌||◌, List, [], ◌∷◌, ◌++◌, length, Option, None, Some, refl, sym, ap, subst, ◌∙◌, arith, lt-ltb, ltb-true}
+use Rattle.std.proofs.Common.{◌≡◌, ℕ, ◌+◌, Bool, true, false, cond, ◌&&◌, ◌||◌, List, [], ◌∷◌, ◌++◌, length, Option, None, Some, refl, sym, ap, subst, ◌∙◌, arith}
 use Rattle.std.proofs.lemmas.Bool.Decides.{nat_tests}
-use Rattle.std.specs.Prelude.{◌==◌, filter, is_some, nat_lt, option_map, position, unwrap_or}
-use Rattle.std.specs.List.{AllByRecursion, list_any, position_or_len}
+use Rattle.std.specs.Prelude.{◌==◌, filter, is_some, option_map, position, unwrap_or}
+use Rattle.std.specs.List.{AllByRecursion, list_any}
 use Rattle.iv_rows.specs.Options.{if_some}
 use Rattle.iv_machine.specs.State.{Frame, Session, Subscription, actor, is_open, session_of}
 use Rattle.iv_readers.specs.Readers.{RoleCircuit, is_for}
+use Rattle.iv_readers.proofs.Positions.{is_some-position}
 use Rattle.iv_store.specs.Store.{is_read}
 use Rattle.iv_database.specs.Database.{session_acts_as}
 
@@ -78,38 +79,11 @@ module _ (p t : RoleCircuit → Bool) (goes : (k : RoleCircuit) → t k ≡ true
       by false false e d u later = later u
 
 -- a place is found where one passes, and nowhere else
-one_more : (m n : ℕ) → m < n → 1 + m < suc n
-one_more m n l = omega (arith, l)
+pub place_found : (t : RoleCircuit → Bool) (ks : List RoleCircuit) → is_some (position t ks) ≡ true → list_any t ks ≡ true
+place_found t ks h = sym (is_some-position t ks) ∙ h
 
-one_less : (m n : ℕ) → 1 + m < suc n → m < n
-one_less m n l = omega (arith, l)
-
-module _ (t : RoleCircuit → Bool) where
-  any_place : (ks : List RoleCircuit) → list_any t ks ≡ true → position_or_len t ks < length ks
-  any_place [] h = cc
-  any_place (k ∷ ks) h = by (t k) h (any_place ks)
-    where
-      by : (b : Bool) → (b || list_any t ks) ≡ true → (list_any t ks ≡ true → position_or_len t ks < length ks) → cond (not b) (1 + position_or_len t ks) 0 < suc (length ks)
-      by true u later = omega arith
-      by false u later = one_more (position_or_len t ks) (length ks) (later u)
-
-  place_any : (ks : List RoleCircuit) → position_or_len t ks < length ks → list_any t ks ≡ true
-  place_any [] h = absurd (omega (arith, h))
-  place_any (k ∷ ks) h = by (t k) h (place_any ks)
-    where
-      by : (b : Bool) → cond (not b) (1 + position_or_len t ks) 0 < suc (length ks) → (position_or_len t ks < length ks → list_any t ks ≡ true) → (b || list_any t ks) ≡ true
-      by true u later = refl
-      by false u later = later (one_less (position_or_len t ks) (length ks) u)
-
-  some_lt : (b : Bool) (n : ℕ) → is_some (cond b (Some n) None) ≡ true → b ≡ true
-  some_lt true n h = refl
-  some_lt false n h = h
-
-  pub place_found : (ks : List RoleCircuit) → is_some (position t ks) ≡ true → list_any t ks ≡ true
-  place_found ks h = place_any ks (ltb-true (position_or_len t ks) (length ks) (some_lt (nat_lt (position_or_len t ks) (length ks)) (position_or_len t ks) h))
-
-  found_place : (ks : List RoleCircuit) → list_any t ks ≡ true → is_some (position t ks) ≡ true
-  found_place ks h = ap (λ (b : Bool). is_some (cond b (Some (position_or_len t ks)) None)) (lt-ltb (position_or_len t ks) (length ks) (any_place ks h))
+found_place : (t : RoleCircuit → Bool) (ks : List RoleCircuit) → list_any t ks ≡ true → is_some (position t ks) ≡ true
+found_place t ks h = is_some-position t ks ∙ h
 
 -- so an open subscription finds its circuit after the drop
 pub is_some-position_filter : (f : Frame) (role rel : ℕ) (ks : List RoleCircuit) → ((k : RoleCircuit) → is_for role rel k ≡ true → is_read f k ≡ true)

@@ -1,17 +1,19 @@
--- Which circuit a subscription reads, and what is beside that.
-use Rattle.std.specs.Prelude.{◌≡◌, ℕ, cond, List, [], ◌∷◌, Some, position, slice_get}
+-- Which reader a subscription has, and what is beside its circuit.
+use Rattle.std.specs.Prelude.{◌≡◌, ℕ, true, cond, List, [], ◌∷◌, is_some, slice_get}
 use Rattle.iv_zset.specs.Weights.{Weighed}
 use Rattle.iv_rows.specs.Options.{if_some}
 use Rattle.iv_circuit.specs.Nodes.{total_of}
-use Rattle.iv_machine.specs.State.{Subscription, actor}
-use Rattle.iv_store.specs.Store.{Store, frame_of}
+use Rattle.iv_machine.specs.State.{Subscription, actor, is_open}
+use Rattle.iv_store.specs.Store.{Store, frame_of, place_of}
 use Rattle.iv_readers.specs.Readers.{RoleCircuit, is_for}
-use Rattle.iv_store.specs.declared.circuits.Found.{Found}
+use Rattle.iv_readers.specs.Index.{found_in}
+use Rattle.iv_readers.specs.declared.index.ReaderIndex.{ReaderIndex}
 
--- the place for the role of the session and the relation
-pub record IsFound (e : Store) (f : Found) : Type 0 where
-  pub role : f.role.0 ≡ actor (frame_of e) f.session
-  pub place : position (is_for f.role.0 f.rel.0) e.circuits ≡ Some f.place
+-- the session of the subscription is open, and its reader is there, and found by the index
+pub record IsFoundBy (e : Store) (index : ReaderIndex) (s : Subscription) : Type 0 where
+  pub session : is_open (frame_of e) s.session ≡ true
+  pub found : found_in index (actor (frame_of e) s.session) s.rel ≡ place_of e s
+  pub there : is_some (place_of e s) ≡ true
 
 -- the rows that the circuit at the place shows
 abbrev pub total_at : Store → ℕ → Weighed

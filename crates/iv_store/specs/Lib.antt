@@ -6,6 +6,7 @@ pub mod Codes
 pub mod Next
 pub mod Answering
 pub mod Found
+pub mod Reading
 pub mod Built
 pub mod Moved
 pub mod Touching

@@ -47,7 +47,7 @@ with_subscription s place e = record e {
 }
 
 -- a reader of the relation whose circuit is one of the role, too
-pub record IsLike (e : Store) (role rel place : ℕ) : Type 0 where
+pub record IsTwin (e : Store) (role rel place : ℕ) : Type 0 where
   pub low : place < length e.circuits
   pub is : (k : RoleCircuit) → k ≡ get_or e.circuits place k → IsCircuitFor e role (plan_at e.catalog rel) k.circuit
 
@@ -60,7 +60,7 @@ pub record IsNewFor (e : Store) (role rel : ℕ) (k : RoleCircuit) : Type 0 wher
   pub opened : k.opened ≡ []
 
 -- the place of the first that is for the role and the relation: a new one after the others only if there was none
-pub record HasCircuitAt (e : Store) (role rel place : ℕ) (new : Store) : Type 0 where
+pub record HasReaderFor (e : Store) (role rel place : ℕ) (new : Store) : Type 0 where
   pub added : List RoleCircuit
   pub is : AllByRecursion (IsNewFor e role rel) added
   pub shared : is_some (position (is_for role rel) e.circuits) ≡ true → added ≡ []
@@ -68,6 +68,6 @@ pub record HasCircuitAt (e : Store) (role rel place : ℕ) (new : Store) : Type 
   pub state : new ≡ record e { circuits = e.circuits ++ added }
 
 -- none if that would break the limits
-abbrev pub IsCircuitAt : Store → (role rel : ℕ) → Option ℕ → Store → Type 0
-IsCircuitAt e role rel None new = (new ≡ e) × IsBeyond e role (plan_at e.catalog rel)
-IsCircuitAt e role rel (Some place) new = HasCircuitAt e role rel place new
+abbrev pub IsReaderFor : Store → (role rel : ℕ) → Option ℕ → Store → Type 0
+IsReaderFor e role rel None new = (new ≡ e) × IsBeyond e role (plan_at e.catalog rel)
+IsReaderFor e role rel (Some place) new = HasReaderFor e role rel place new

@@ -121,9 +121,13 @@ pub record IsRoleCircuit (e : Store) (k : RoleCircuit) : Type 0 where
 abbrev pub place_of : Store → Subscription → Option ℕ
 place_of e s = position (is_for (actor (frame_of e) s.session) s.rel) e.circuits
 
--- some open subscription is of the role and to the relation
+-- the subscription is of the role and to the relation
+abbrev pub is_read_through : Frame → (role rel : ℕ) → Subscription → Bool
+is_read_through f role rel s = (s.rel == rel) && session_acts_as f s.session role
+
+-- some open subscription is
 abbrev pub is_read_by : Frame → (role rel : ℕ) → Bool
-is_read_by f role rel = list_any (λ s. (s.rel == rel) && session_acts_as f s.session role) f.subscriptions
+is_read_by f role rel = list_any (is_read_through f role rel) f.subscriptions
 
 -- some open subscription reads it
 abbrev pub is_read : Frame → RoleCircuit → Bool

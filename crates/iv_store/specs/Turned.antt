@@ -113,7 +113,7 @@ abbrev pub IsBetween : Store → List Outcome → (place like : ℕ) → Weighed
 IsBetween e os i j rows = IsBagDifference (total_at e i) (total_of (circuit_after e.circuits os j).node) rows
 
 -- the circuit of the reader, after these outcomes, is one of the role, too
-pub record IsLikeAfter (e : Store) (os : List Outcome) (role rel place : ℕ) : Type 0 where
+pub record IsTwinAfter (e : Store) (os : List Outcome) (role rel place : ℕ) : Type 0 where
   pub low : place < length os
   pub whole : whole_at os place ≡ true
   pub is : IsCircuitFor e role (plan_at e.catalog rel) (circuit_after e.circuits os place)
@@ -122,7 +122,7 @@ pub record IsLikeAfter (e : Store) (os : List Outcome) (role rel place : ℕ) : 
 abbrev pub IsRebuilt : Store → (role rel : ℕ) → Weighed → Outcome → Type 0
 IsRebuilt e role rel before code.Same = ⊥
 IsRebuilt e role rel before (code.Built c rows) = IsCircuitFor e role (plan_at e.catalog rel) c × IsBagDifference before (total_of c.node) (shared_rows rows)
-IsRebuilt e role rel before (code.Joined like rows) = ⊥
+IsRebuilt e role rel before (code.Joined twin rows) = ⊥
 IsRebuilt e role rel before code.Lost = ⊥
 IsRebuilt e role rel before code.Beyond = IsBeyond e role (plan_at e.catalog rel)
 

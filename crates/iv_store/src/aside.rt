@@ -9,7 +9,7 @@ use crate::store::Store;
 use crate::subscriptions::Subscription;
 use iv_command::Line;
 use iv_database::Sessions;
-use iv_readers::Circuits;
+use iv_readers::Readers;
 use std::alloc::AllocError;
 use std::mem;
 
@@ -20,8 +20,8 @@ pub struct Aside {
     pub sessions: Sessions,
     /// Their subscriptions, by session and number.
     pub subscriptions: Vec<Subscription>,
-    /// The circuits that subscriptions read.
-    pub circuits: Circuits,
+    /// The readers, with the circuits that they read.
+    pub circuits: Readers,
     /// The number that was given last to a subscription.
     pub last: u64,
 }
@@ -36,7 +36,7 @@ impl Store {
         self.found.clear();
         let sessions = self.database.take_sessions();
         let subscriptions = mem::replace(&mut self.subscriptions, Vec::new(self.alloc));
-        let circuits = mem::replace(&mut self.circuits, Circuits::new(self.alloc));
+        let circuits = mem::replace(&mut self.circuits, Readers::new(self.alloc));
         let last = mem::replace(&mut self.last, 0);
         Aside {
             sessions,

@@ -10,6 +10,7 @@ mod circuits;
 mod concerned;
 mod following;
 mod lines;
+mod reading;
 mod store;
 mod subscriptions;
 mod touching;

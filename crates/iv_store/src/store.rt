@@ -12,7 +12,7 @@ ghost use Rattle.iv_store.specs.Engine.{IsBehind};
 use crate::subscriptions::Subscription;
 use crate::touching::Touched;
 use iv_database::Database;
-use iv_readers::Circuits;
+use iv_readers::Readers;
 use iv_zset::Seed;
 use std::alloc::{AllocError, Global};
 use std::marker::Model;
@@ -27,7 +27,7 @@ pub struct Store {
     /// The open subscriptions, in the order of their lines.
     pub subscriptions: Vec<Subscription>,
     /// The circuits that subscriptions read.
-    pub circuits: Circuits,
+    pub circuits: Readers,
     /// For tables that were written, which circuits scan them, and who reads these.
     pub found: Vec<Rc<Touched>>,
     /// The last number that a subscription was given.
@@ -60,7 +60,7 @@ impl Store {
         Ok(Store {
             database: Database::new(alloc, seed, cap)?,
             subscriptions: Vec::new(alloc),
-            circuits: Circuits::new(alloc),
+            circuits: Readers::new(alloc),
             last: 0,
             found: Vec::new(alloc),
             alloc,

@@ -19,7 +19,7 @@ use crate::lines::push_rows;
 use crate::store::Store;
 use iv_access::{Privilege, RoleId};
 use iv_command::{Answer, LAST_NUMBER, Line, Refusal, Reply, Stop};
-use iv_readers::Circuits;
+use iv_readers::{ReaderId, Readers};
 use iv_rows::RelId;
 use std::alloc::AllocError;
 use std::marker::Model;
@@ -93,7 +93,7 @@ pub(crate) fn count_of(subscriptions: &[Subscription], session: u32) -> usize
 
 impl Store {
     /// The role that reads a subscription: the one that acts in its session.
-    pub(crate) fn reader(&self, subscription: &Subscription) -> RoleId
+    pub(crate) fn role_of(&self, subscription: &Subscription) -> RoleId
         requires { is_open (frame_of self.now) subscription.now.session ≡ true }
         ensures { result.0 ≡ actor (frame_of self.now) subscription.now.session }
     {
@@ -134,17 +134,21 @@ impl Store {
         Ok(number)
     }
 
-    /// Adds a subscription that reads the circuit to the open ones, and says what it shows.
-    fn open(&mut self, subscription: Subscription, place: usize) -> Result<Vec<Line>, AllocError>
-        requires { place < length self.old.circuits }
-        ensures lines { IfOk result (λ lines. AreFirstLines subscription (total_at self.old place) (map line_of lines.items)) }
-        ensures state { OnOk result (self.new ≡ with_subscription subscription place self.old) }
+    /// Adds a subscription of the reader to the open ones, and says what it shows.
+    fn open(
+        &mut self,
+        subscription: Subscription,
+        reader: ReaderId,
+    ) -> Result<Vec<Line>, AllocError>
+        requires { reader.0 < length self.old.circuits }
+        ensures lines { IfOk result (λ lines. AreFirstLines subscription (total_at self.old reader.0) (map line_of lines.items)) }
+        ensures state { OnOk result (self.new ≡ with_subscription subscription reader.0 self.old) }
     {
         self.found.clear();
-        let rows = self.circuits.rows(self.alloc, place)?;
+        let rows = self.circuits.rows(self.alloc, reader)?;
         let mut lines = Vec::new(self.alloc);
         push_rows(&mut lines, &subscription, &rows)?;
-        self.circuits.open(place, subscription.number);
+        self.circuits.open(reader, subscription.number);
         self.last = subscription.number;
         insert(&mut self.subscriptions, subscription)?;
         Ok(lines)
@@ -162,11 +166,11 @@ impl Store {
             number,
             rel,
         };
-        let role = self.reader(&subscription);
-        let Some(place) = self.circuit_for(role, rel)? else {
+        let role = self.role_of(&subscription);
+        let Some(reader) = self.reader_for(role, rel)? else {
             return Err(Stop::Refused(Refusal::Limit));
         };
-        let changes = self.open(subscription, place)?;
+        let changes = self.open(subscription, reader)?;
         let reply = Reply::Subscribed(number);
         Ok(Answer { reply, changes })
     }
@@ -197,7 +201,7 @@ impl Store {
             return Err(Stop::Refused(Refusal::NoSession));
         }
         self.close_session(session);
-        self.drop_unread();
+        self.drop_unread()?;
         Ok(Answer {
             reply: Reply::Ok,
             changes: Vec::new(self.alloc),
@@ -225,7 +229,7 @@ impl Store {
             return Err(Stop::Refused(Refusal::UnknownSubscription));
         }
         self.close(number);
-        self.drop_unread();
+        self.drop_unread()?;
         Ok(Answer {
             reply: Reply::Ok,
             changes: Vec::new(self.alloc),
@@ -239,7 +243,7 @@ impl Store {
     {
         self.database.end_sessions();
         self.subscriptions.clear();
-        self.circuits = Circuits::new(self.alloc);
+        self.circuits = Readers::new(self.alloc);
         self.found.clear();
     }
 }

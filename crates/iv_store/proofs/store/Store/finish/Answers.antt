@@ -11,4 +11,4 @@ returns c =
     let e = c.args.self.now in
     let n = c.args.session in
     finished_step e c.drop_unread.new.self n c.new.result c.requires c.new.ensures.items (is_some-same_role c.actor.result (session_of e.sessions n) (c.actor.ensures ∙ ap (λ (v : Store). option_map (λ s. s.role) (session_of v.sessions n)) c.self.view_is) c.if-is_none.ensures)
-    (c.drop_unread.ensures ∙ ap without_unread c.close_session.ensures)
+    (c.in_ok-drop_unread.ensures ∙ ap without_unread c.close_session.ensures)

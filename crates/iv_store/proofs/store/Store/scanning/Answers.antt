@@ -3,13 +3,14 @@ use Rattle.std.specs.Prelude.{◌==◌}
 use Rattle.std.specs.List.{list_any}
 use Rattle.iv_circuit.specs.Circuits.{Running}
 use Rattle.iv_circuit.specs.Nodes.{scans_of}
+use Rattle.iv_readers.proofs.Lists.{AllByRecursion-get_or}
 use Rattle.iv_store.specs.Counting.{scans_at}
 use Rattle.iv_store.specs.Store.{Store}
 use Rattle.iv_readers.specs.Readers.{RoleCircuit}
 use Rattle.iv_store.specs.Turned.{WasRead}
 use Rattle.iv_store.proofs.CircuitFlags.{list_any-WasRead}
 use Rattle.iv_readers.proofs.Held.{get_or-own_reader}
-use Rattle.iv_store.proofs.ListPairs.{AllByRecursion-get_or, map-take_next, map-take_whole}
+use Rattle.iv_store.proofs.ListPairs.{map-take_next, map-take_whole}
 use Rattle.iv_store.proofs.store.Store.scanning.Goals as goal
 
 pub loop-place-preserved : goal.loop-place-preserved

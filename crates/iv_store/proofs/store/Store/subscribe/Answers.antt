@@ -1,13 +1,14 @@
-use Rattle.std.proofs.Common.{◌≡◌, ◌+◌, Err, Option, ap, refl, subst, sym, ℕ}
-use Rattle.std.specs.Prelude.{string_bytes}
+use Rattle.std.proofs.Common.{◌≡◌, ◌+◌, Err, Option, ap, refl, subst, sym}
+use Rattle.std.specs.Prelude.{option_map, string_bytes}
 use Rattle.iv_access.specs.Rights.{Name}
 use Rattle.iv_machine.specs.Act.{subscribe}
 use Rattle.iv_machine.specs.State.{Subscription}
 use Rattle.iv_database.proofs.PolicyTests.{IsErrAnd-gives}
 use Rattle.iv_command.specs.declared.stop.Stop.{Stop}
+use Rattle.iv_readers.specs.declared.ids.ReaderId.{ReaderId}
 use Rattle.iv_store.specs.Answering.{IsStep}
 use Rattle.iv_store.specs.Store.{Store}
-use Rattle.iv_store.specs.Openable.{IsCircuitAt, IsOpenable, MayOpen}
+use Rattle.iv_store.specs.Openable.{IsReaderFor, IsOpenable, MayOpen}
 use Rattle.iv_command.specs.declared.command.Reply.TheVariants.{Subscribed}
 use Rattle.iv_store.proofs.NewSubscription.{asked, beyond_step, IsStep-MayOpen, opened_step}
 use Rattle.iv_store.proofs.store.Store.subscribe.Goals as goal
@@ -27,11 +28,11 @@ returns-in_default c =
     let n = c.args.session in
     let k = c.in_ok-rel.rel.0 in
     let name = string_bytes c.args.rel in
-    let role = c.reader-role.result.0 in
-    let mid = c.circuit_for.new.self in
+    let role = c.role_of-role.result.0 in
+    let mid = c.reader_for.new.self in
     let x = subst (λ (rel : Name). IsOpenable e n rel k) c.as_str.ensures.value c.in_ok-rel.ensures in
-    let at = subst (λ (o : Option ℕ). IsCircuitAt e role k o mid) c.in_default.is c.in_ok-place.ensures in
-    beyond_step e n k name c.requires x role c.reader-role.ensures mid at.0 at.1
+    let at = subst (λ (o : Option ReaderId). IsReaderFor e role k (option_map (λ r. r.0) o) mid) c.in_default.is c.in_ok-reader.ensures in
+    beyond_step e n k name c.requires x role c.role_of-role.ensures mid at.0 at.1
 
 pub returns : goal.returns
 returns c =
@@ -39,12 +40,12 @@ returns c =
     let n = c.args.session in
     let k = c.in_ok-rel.rel.0 in
     let name = string_bytes c.args.rel in
-    let role = c.reader-role.result.0 in
-    let mid = c.circuit_for.new.self in
+    let role = c.role_of-role.result.0 in
+    let mid = c.reader_for.new.self in
     let last = c.self.inside.last in
     let x = subst (λ (rel : Name). IsOpenable e n rel k) c.as_str.ensures.value c.in_ok-rel.ensures in
-    let got = subst (λ (o : Option ℕ). IsCircuitAt e role k o mid) c.in-Some.is c.in_ok-place.ensures in
+    let got = subst (λ (o : Option ReaderId). IsReaderFor e role k (option_map (λ r. r.0) o) mid) c.in-Some.is c.in_ok-reader.ensures in
     let s : Subscription = record { session = n; number = last + 1; rel = k } in
     let same : s ≡ asked e n k = ap (λ (v : Store). asked v n k) c.self.view_is in
-    opened_step e n k name c.requires x role c.reader-role.ensures c.in-Some.place mid got s same c.in_ok-changes.changes
+    opened_step e n k name c.requires x role c.role_of-role.ensures c.in-Some.reader.0 mid got s same c.in_ok-changes.changes
     c.in_ok-changes.ensures.lines c.open.new.self c.in_ok-changes.ensures.state (Subscribed (last + 1)) refl

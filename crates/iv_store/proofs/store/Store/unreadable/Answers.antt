@@ -5,8 +5,8 @@ use Rattle.iv_readers.proofs.Held.{get_or-own_reader}
 use Rattle.iv_store.proofs.ListPairs.{map-take_next, map-take_whole}
 use Rattle.iv_store.proofs.store.Store.unreadable.Goals as goal
 
-pub is_unreadable-requires-clause-place : goal.is_unreadable-requires-clause-place
-is_unreadable-requires-clause-place c = subst (λ n. c.loop-place.place < n) (c.len-place-end.ensures ∙ ap (λ (v : Store). length v.circuits) c.self.view_is) c.loop-place-test.true
+pub is_unreadable-requires-clause-reader : goal.is_unreadable-requires-clause-reader
+is_unreadable-requires-clause-reader c = subst (λ n. c.loop-place.place < n) (c.len-place-end.ensures ∙ ap (λ (v : Store). length v.circuits) c.self.view_is) c.loop-place-test.true
 
 pub loop-place-preserved : goal.loop-place-preserved
 loop-place-preserved c =
