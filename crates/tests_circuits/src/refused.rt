@@ -98,7 +98,11 @@ fn committed(alloc: Global, circuit: &mut Circuit, pending: Pending) -> Outcome
 fn finished(alloc: Global, circuit: &mut Circuit, pending: Pending) -> Outcome
     requires { IsDue circuit.old.node pending }
 {
-    match compared(alloc, pending.root(), &CHANGE) {
+    let shown = match pending.root() {
+        Some(root) => compared(alloc, root, &CHANGE),
+        None => Outcome::Wrong,
+    };
+    match shown {
         Outcome::Held => committed(alloc, circuit, pending),
         other => {
             drop(pending);
