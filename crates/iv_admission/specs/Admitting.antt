@@ -1,12 +1,10 @@
 -- Which tokens a desk is to know, second by second, and which web tokens are known on.
-use Rattle.std.specs.Prelude.{◌≡◌, ◌⊎◌, ◌<◌, ℕ, ◌&&◌, ◌||◌, Bool, true, false, not, if◌then◌else◌, List, [], All, codes, filter, length, nat_lt, Option, Some, None, option_and_then, Result, Ok, Err}
-use Rattle.std.specs.Global.{Vec}
-use Rattle.httparse.specs.Grammar.{ReadsRequest, RequestHead}
+use Rattle.std.specs.Prelude.{◌≡◌, ◌⊎◌, ℕ, ◌%◌, ◌==◌, ◌&&◌, ◌||◌, Bool, true, false, not, if◌then◌else◌, List, [], ◌∷◌, ◌++◌, codes, filter, nat_lt, Option, Some, None, option_and_then, Result, Ok, Err}
 use Rattle.iv_clients.specs.Tokens.{Token}
 use Rattle.iv_gate.specs.Events.{known}
 use Rattle.iv_tokens.specs.declared.web.Judged.{Judged}
 use Rattle.iv_tokens.specs.declared.web.Judged.TheVariants as answer
-use Rattle.iv_tokens.specs.Entries.{Entry, entries_in}
+use Rattle.iv_tokens.specs.Entries.{Entry}
 use Rattle.iv_tokens.specs.Web.{Known, Web, answer_to, grants_role, handed_on, known_at, told}
 use Rattle.iv_host.specs.Admins.{admins_among, opens_by, presented}
 use Rattle.iv_desk.specs.Front.{Front, by_event, dismissed}
@@ -37,9 +35,9 @@ pub record IsBegun (es : List Entry) (a : Admission) (ts : List Token) : Type 0 
   pub handed : handed_on a.known ≡ Some ts
   pub admins : a.admins.tokens.items ≡ admins_among ts
 
--- the tokens are those of some file, which has some
-abbrev pub AreOfFile : List Entry → Type 0
-AreOfFile es = (file : List ℕ) × (entries_in file ≡ Some es) × (0 < length es)
+-- the tokens of administrators are those among the tokens that were handed on last
+abbrev pub HasAdmins : Admission → Type 0
+HasAdmins a = (ts : List Token) → handed_on a.known ≡ Some ts → a.admins.tokens.items ≡ admins_among ts
 
 -- ---- web tokens that are forgotten
 
@@ -51,9 +49,22 @@ is_in_use a w = nat_lt a.second w.until && nat_lt 0 (are_by a.by_token.counts w.
 abbrev pub in_use : Admission → List Web
 in_use a = filter (is_in_use a) a.known.web
 
--- nothing but web tokens, and whether what is known was handed on
+-- those that are known on at a further second: each tenth one those in use
+abbrev pub web_on : Admission → (second : ℕ) → List Web
+web_on a second = if second % 10 == 0 then in_use (record a { second = second }) else a.known.web
+
+-- the secret, and who is there
+abbrev pub IsSameBase : (old new : Admission) → Type 0
+IsSameBase old new = (new.known.secret ≡ old.known.secret) × (new.by_token ≡ old.by_token)
+
+-- these, the entries and the second
 abbrev pub IsSameBut : (old new : Admission) → Type 0
-IsSameBut old new = (new.known.entries ≡ old.known.entries) × (new.known.secret ≡ old.known.secret) × (new.second ≡ old.second) × (new.by_token ≡ old.by_token)
+IsSameBut old new = (new.known.entries ≡ old.known.entries) × (new.known.secret ≡ old.known.secret)
+    × (new.second ≡ old.second) × (new.by_token ≡ old.by_token)
+
+-- nothing that was handed on is changed: it is to be handed on anew, or it is the same
+abbrev pub IsLater : (old new : Known) → Type 0
+IsLater old new = (new.handed ≡ None) ⊎ (new ≡ old)
 
 -- ---- a text that is presented
 
@@ -68,9 +79,21 @@ is_beyond (answer.Refused why) = false
 abbrev pub answer_beside : List Web → Admission → (text : List ℕ) → Result Web Judged
 answer_beside web a text = answer_to a.known.entries a.known.secret web a.second text
 
--- if too many are known, it is judged beside those that are in use, unless it was looked at these in this second
+-- the web tokens beside which it is judged: if too many are known, those in use, unless it was looked for these in this second
+abbrev pub beside : Admission → (text : List ℕ) → List Web
+beside a text = if is_beyond (told (answer_beside a.known.web a text)) && not a.looked then in_use a else a.known.web
+
 abbrev pub answer_for : Admission → (text : List ℕ) → Result Web Judged
-answer_for a text = if is_beyond (told (answer_beside a.known.web a text)) && not a.looked then answer_beside (in_use a) a text else answer_beside a.known.web a text
+answer_for a text = answer_beside (beside a text) a text
+
+-- a web token that is granted is known behind these
+abbrev pub with_granted : Result Web Judged → List Web → List Web
+with_granted (Ok w) ws = ws ++ w ∷ []
+with_granted (Err why) ws = ws
+
+-- the web tokens that are known from then on
+abbrev pub web_after : Admission → (text : List ℕ) → List Web
+web_after a text = with_granted (answer_for a text) (beside a text)
 
 -- ---- administrators
 

@@ -1,14 +1,13 @@
 //! `Admission`: the tokens that the desk is to know, as far as a second says, and web tokens that are presented.
-ghost use Rattle.std.specs.Prelude.{◌≡◌, ◌⊎◌, ◌<◌, ◌≤◌, ◌+◌, ◌-◌, ℕ, IfOk, List, None, Ok, OnOk, Some, codes, if◌then◌else◌, length, map, slice_get};
+ghost use Rattle.std.specs.Prelude.{◌≡◌, ◌⊎◌, ◌<◌, ◌≤◌, ◌+◌, ◌-◌, ◌%◌, ◌==◌, ◌&&◌, ℕ, IfOk, List, None, Ok, OnOk, Some, codes, if◌then◌else◌, length, map, not, slice_get, true};
 ghost use Rattle.std.specs.List.{remove};
 ghost use Rattle.httparse.specs.Grammar.{ReadsRequest, RequestHead};
 ghost use Rattle.httparse.specs.Spans.{name_and_value};
 ghost use Rattle.iv_pages.specs.Asking.{field_in, most_fields, window};
 ghost use Rattle.iv_peer.specs.Socket.{fresh};
-ghost use Rattle.iv_tokens.specs.Web.{handed_on, known_at, told};
-ghost use Rattle.iv_tokens.specs.Web.{Web as Seen};
+ghost use Rattle.iv_tokens.specs.Web.{Web as Seen, handed_on, known_at, told};
 ghost use Rattle.iv_running.specs.Running.{Leads};
-ghost use Rattle.iv_admission.specs.Admitting.{IsBegun, IsHanded, IsSameBut, IsToldOf, answer_beside, answer_for, in_use, is_beyond, is_in_use, opens_admin, tokens_of};
+ghost use Rattle.iv_admission.specs.Admitting.{HasAdmins, IsBegun, IsHanded, IsLater, IsSameBase, IsSameBut, IsToldOf, answer_beside, answer_for, in_use, is_beyond, is_in_use, opens_admin, tokens_of, web_after, web_on, with_granted};
 ghost use Rattle.iv_admission.specs.ByToken.{are_by, are_of, with_count};
 ghost use Rattle.std.specs.Global.{Vec};
 
@@ -122,6 +121,8 @@ impl Admission {
         ensures handed { OnOk result (IsHanded self.old.known (tokens_of self.old) desk.old desk.new) }
         ensures kept { OnOk result (handed_on self.new.known ≡ Some (tokens_of self.old)) }
         ensures same { IsSameBut self.old self.new × (self.new.known.web ≡ self.old.known.web) }
+        ensures looked { self.new.looked ≡ self.old.looked }
+        ensures admins { HasAdmins self.old → OnOk result (HasAdmins self.new) }
     {
         match self.known.at(self.alloc, self.second)? {
             None => Ok(()),
@@ -132,19 +133,46 @@ impl Admission {
         }
     }
 
-    /// It is a further second. Has the desk know the tokens that are known then, if these are others than those that it knows. Who came by
-    /// another is closed.
-    fn open_at(&mut self, desk: &mut Desk, second: u64) -> Result<(), Fault>
-        ensures leads { Leads desk.old desk.new }
-        ensures handed { OnOk result (IsHanded self.old.known (tokens_of self.new) desk.old desk.new) }
-        ensures kept { OnOk result (handed_on self.new.known ≡ Some (tokens_of self.new)) }
+    /// It is a further second. Each tenth one web tokens are forgotten that are not in use.
+    fn turn_to(&mut self, second: u64)
+        ensures second { self.new.second ≡ second }
+        ensures web { self.new.known.web ≡ web_on self.old second }
+        ensures keeps { IsSameBase self.old self.new × (self.new.known.entries ≡ self.old.known.entries) × (self.new.admins ≡ self.old.admins) }
+        ensures looked { self.new.looked ≡ (second % 10 == 0) }
+        ensures later { IsLater self.old.known self.new.known }
     {
         self.second = second;
         self.looked = false;
         if second % LOOKS == 0 {
             self.forget_unused();
         }
+    }
+
+    /// It is a further second. Has the desk know the tokens that are known then, if these are others than those that it knows. Who came by
+    /// another is closed.
+    fn open_at(&mut self, desk: &mut Desk, second: u64) -> Result<(), Fault>
+        ensures leads { Leads desk.old desk.new }
+        ensures handed { OnOk result (IsHanded self.old.known (tokens_of self.new) desk.old desk.new) }
+        ensures kept { OnOk result (handed_on self.new.known ≡ Some (tokens_of self.new)) }
+        ensures admins { HasAdmins self.old → OnOk result (HasAdmins self.new) }
+        ensures keeps { IsSameBase self.old self.new × (self.new.known.entries ≡ self.old.known.entries) }
+        ensures web { OnOk result (self.new.known.web ≡ web_on self.old second) }
+        ensures looked { OnOk result (self.new.looked ≡ (second % 10 == 0)) }
+        ensures second { OnOk result (self.new.second ≡ second) }
+    {
+        self.turn_to(second);
         self.open(desk)
+    }
+
+    /// The file of tokens is read again, if it has changed.
+    fn read(&mut self, rt: &HostRuntime, file: &mut TokenFile)
+        ensures later { IsLater self.old.known self.new.known }
+        ensures web { self.new.known.web ≡ self.old.known.web }
+        ensures keeps { IsSameBase self.old self.new × (self.new.admins ≡ self.old.admins) }
+    {
+        if let Some(entries) = read_tokens(rt, file) {
+            self.known.read(entries);
+        }
     }
 
     /// It is a further second. The file of tokens is read again, if it has changed. Has the desk know the tokens that are known now, if these are
@@ -161,10 +189,12 @@ impl Admission {
         ensures leads { Leads desk.old desk.new }
         ensures handed { OnOk result (IsHanded self.old.known (tokens_of self.new) desk.old desk.new) }
         ensures kept { OnOk result (handed_on self.new.known ≡ Some (tokens_of self.new)) }
+        ensures admins { HasAdmins self.old → OnOk result (HasAdmins self.new) }
+        ensures keeps { IsSameBase self.old self.new }
+        ensures web { OnOk result (self.new.known.web ≡ web_on self.old self.new.second) }
+        ensures looked { OnOk result (self.new.looked ≡ (self.new.second % 10 == 0)) }
     {
-        if let Some(entries) = read_tokens(rt, file) {
-            self.known.read(entries);
-        }
+        self.read(rt, file);
         self.open_at(desk, second_now(rt))
     }
 
@@ -190,8 +220,9 @@ impl Admission {
         requires { at < length self.old.known.web }
         ensures web { (w : Seen) → slice_get self.old.known.web at ≡ Some w
             → self.new.known.web ≡ if is_in_use self.old w then self.old.known.web else remove self.old.known.web at }
-        ensures same { IsSameBut self.old self.new }
-        ensures handed { (self.new.known.handed ≡ None) ⊎ (self.new.known ≡ self.old.known) }
+        ensures same { IsSameBut self.old self.new × (self.new.admins ≡ self.old.admins) }
+        ensures looked { self.new.looked ≡ self.old.looked }
+        ensures later { IsLater self.old.known self.new.known }
     {
         if !self.is_kept(at) {
             self.known.forget(at);
@@ -201,8 +232,9 @@ impl Admission {
     /// Forgets web tokens that are not in use.
     fn forget_unused(&mut self)
         ensures web { self.new.known.web ≡ in_use self.old }
-        ensures same { IsSameBut self.old self.new }
-        ensures handed { (self.new.known.handed ≡ None) ⊎ (self.new.known ≡ self.old.known) }
+        ensures looked { self.new.looked ≡ true }
+        ensures same { IsSameBut self.old self.new × (self.new.admins ≡ self.old.admins) }
+        ensures later { IsLater self.old.known self.new.known }
     {
         self.looked = true;
         let count = self.known.web().len();
@@ -211,11 +243,20 @@ impl Admission {
         }
     }
 
+    /// Whether a text is judged once more, of which this became: too many are known, and web tokens may be there that are not in use.
+    fn may_judge_again(&self, judged: &Judged) -> bool
+        ensures { result ≡ is_beyond judged.now && not self.now.looked }
+    {
+        is_beyond(judged) && !self.looked
+    }
+
     /// Judges a text once more, beside web tokens that are in use alone.
     fn judge_again(&mut self, text: &[u8]) -> Result<Judged, Fault>
         ensures judged { IfOk result (λ j. j ≡ told (answer_beside (in_use self.old) self.old text.now)) }
-        ensures same { OnOk result (IsSameBut self.old self.new) }
+        ensures web { OnOk result (self.new.known.web ≡ with_granted (answer_beside (in_use self.old) self.old text.now) (in_use self.old)) }
+        ensures same { OnOk result (IsSameBut self.old self.new × (self.new.admins ≡ self.old.admins)) }
         ensures granted { result ≡ Ok Judged.Granted → self.new.known.handed ≡ None }
+        ensures later { OnOk result (IsLater self.old.known self.new.known) }
     {
         self.forget_unused();
         Ok(self.known.judge(self.alloc, self.second, text)?)
@@ -224,11 +265,13 @@ impl Admission {
     /// Judges a text; if too many are known, once more without those that no client has.
     fn judge(&mut self, text: &[u8]) -> Result<Judged, Fault>
         ensures judged { IfOk result (λ j. j ≡ told (answer_for self.old text.now)) }
-        ensures same { OnOk result (IsSameBut self.old self.new) }
+        ensures web { OnOk result (self.new.known.web ≡ web_after self.old text.now) }
+        ensures same { OnOk result (IsSameBut self.old self.new × (self.new.admins ≡ self.old.admins)) }
         ensures granted { result ≡ Ok Judged.Granted → self.new.known.handed ≡ None }
+        ensures later { OnOk result (IsLater self.old.known self.new.known) }
     {
         let judged = self.known.judge(self.alloc, self.second, text)?;
-        if is_beyond(&judged) && !self.looked {
+        if self.may_judge_again(&judged) {
             return self.judge_again(text);
         }
         Ok(judged)
@@ -241,6 +284,9 @@ impl Admission {
     pub fn present(&mut self, desk: &mut Desk, text: &[u8]) -> Result<Judged, Fault>
         ensures leads { Leads desk.old desk.new }
         ensures judged { IfOk result (λ j. j ≡ told (answer_for self.old text.now)) }
+        ensures web { OnOk result (self.new.known.web ≡ web_after self.old text.now) }
+        ensures same { OnOk result (IsSameBut self.old self.new) }
+        ensures admins { HasAdmins self.old → OnOk result (HasAdmins self.new) }
         ensures granted { result ≡ Ok Judged.Granted → IsToldOf (tokens_of self.new) desk.old desk.new }
         ensures others { IfOk result (λ j. (j ≡ Judged.Granted → ⊥) → desk.new ≡ desk.old) }
     {
@@ -261,6 +307,7 @@ impl Admission {
     pub fn come(&mut self, digest: &[u8]) -> Result<usize, AllocError>
         ensures count { IfOk result (λ n. (q : Vec ℕ) → are_of self.new.by_token.counts q ≡ with_count digest.now n self.old.by_token.counts q) }
         ensures more { IfOk result (λ n. n ≡ are_by self.old.by_token.counts digest.now + 1) }
+        ensures same { self.new ≡ record self.old { by_token = self.new.by_token } }
     {
         self.by_token.come(digest)
     }
@@ -270,8 +317,9 @@ impl Admission {
     /// # Errors
     /// As of `come`.
     pub fn go(&mut self, digest: &[u8]) -> Result<(), AllocError>
-        ensures { OnOk result ((q : Vec ℕ) → are_of self.new.by_token.counts q
+        ensures count { OnOk result ((q : Vec ℕ) → are_of self.new.by_token.counts q
             ≡ with_count digest.now (are_of self.old.by_token.counts q - 1) self.old.by_token.counts q) }
+        ensures same { self.new ≡ record self.old { by_token = self.new.by_token } }
     {
         self.by_token.go(digest)
     }
