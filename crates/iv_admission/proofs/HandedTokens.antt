@@ -1,5 +1,5 @@
 -- What is handed on and judged, as what is known goes on from one step to the next.
-use Rattle.std.proofs.Common.{◌≡◌, ◌⊎◌, inl, inr, ℕ, Bool, true, false, cond, List, Option, Some, None, option_map, Result, Ok, Err, refl, ap, ◌∙◌, sym, subst}
+use Rattle.std.proofs.Common.{◌≡◌, inl, inr, ℕ, Bool, true, false, cond, List, Some, None, option_map, Result, Ok, Err, refl, ap, ◌∙◌, sym, subst}
 use Rattle.std.specs.Prelude.{◌++◌, ◌%◌, ◌==◌, ◌&&◌, if◌then◌else◌, filter, not, nat_lt, IfOk, OnOk}
 use Rattle.sha2.specs.Sha256.{sha256}
 use Rattle.iv_clients.specs.Tokens.{Token}
@@ -96,9 +96,11 @@ never_granted es secret ws now text why h g = by (is_among (sha256 text) es ws) 
     full : (c : Granted) (b : Bool) → cond b (Err answer.Full) (Ok (web_of now (sha256 text) c)) ≡ Err why → ⊥
     full c true e = full_granted (err_of _ why e ∙ g)
     full c false e = ok_err _ why e
+
     of : (r : Result Granted Fault) → answer_of ws now (sha256 text) r ≡ Err why → ⊥
     of (Err f) e = refused_granted f (err_of _ why e ∙ g)
     of (Ok c) e = full c (is_full c.subject ws) e
+
     by : (b : Bool) → cond b (Err answer.Known) (answer_of ws now (sha256 text) (judged secret now text)) ≡ Err why → ⊥
     by true e = known_granted (err_of _ why e ∙ g)
     by false e = of (judged secret now text) e
@@ -124,9 +126,10 @@ with_known k a = record a { known = k }
 pub again_same : (a : Admission) (text : List ℕ) (k : Known) (j : Judged) → j ≡ told (answer_by a.known a.second text) → k ≡ kept (answer_by a.known a.second text) a.known
     → (is_beyond j && not a.looked) ≡ true → (with_known k a ≡ a) × (beside a text ≡ in_use a)
 again_same a text k j is e t =
-    let full : told (answer_by a.known a.second text) ≡ answer.Full = sym is ∙ full_of j (both (is_beyond j) (not a.looked) t).0 in
-    (ap (λ (z : Known). with_known z a) (e ∙ kept_beyond (answer_by a.known a.second text) a.known full),
-    ap (λ (b : Bool). cond b (in_use a) a.known.web) (ap (λ (z : Judged). is_beyond z && not a.looked) (sym is) ∙ t))
+    let full : told (answer_by a.known a.second text) ≡ answer.Full = sym is ∙ full_of j (both (is_beyond j) (not a.looked) t).0 in (
+      ap (λ (z : Known). with_known z a) (e ∙ kept_beyond (answer_by a.known a.second text) a.known full),
+      ap (λ (b : Bool). cond b (in_use a) a.known.web) (ap (λ (z : Judged). is_beyond z && not a.looked) (sym is) ∙ t),
+    )
 
 pub again_judged : (a m : Admission) (text : List ℕ) (r : Result Judged Ends) → m ≡ a → beside a text ≡ in_use a
     → IfOk r (λ j. j ≡ told (answer_beside (in_use m) m text)) → IfOk r (λ j. j ≡ told (answer_for a text))

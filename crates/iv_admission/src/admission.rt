@@ -1,5 +1,5 @@
 //! `Admission`: the tokens that the desk is to know, as far as a second says, and web tokens that are presented.
-ghost use Rattle.std.specs.Prelude.{◌≡◌, ◌⊎◌, ◌<◌, ◌≤◌, ◌+◌, ◌-◌, ◌%◌, ◌==◌, ◌&&◌, ℕ, IfOk, List, None, Ok, OnOk, Some, codes, if◌then◌else◌, length, map, not, slice_get, true};
+ghost use Rattle.std.specs.Prelude.{◌≡◌, ◌<◌, ◌≤◌, ◌+◌, ◌-◌, ◌%◌, ◌==◌, ◌&&◌, ℕ, IfOk, List, None, Ok, OnOk, Some, codes, if◌then◌else◌, length, map, not, slice_get, true};
 ghost use Rattle.std.specs.List.{remove};
 ghost use Rattle.httparse.specs.Grammar.{ReadsRequest, RequestHead};
 ghost use Rattle.httparse.specs.Spans.{name_and_value};

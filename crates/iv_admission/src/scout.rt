@@ -1,9 +1,8 @@
 //! `Scout`: hears what a client presents before the desk does, so that the desk knows a web token that is granted when it hears it.
 //!
-//! It reads the same bytes by the same functions as the desk's end of the connection. Were it to hear something else, a web token would open
-//! nothing: what the desk knows is granted all the same.
-ghost use Rattle.std.specs.Prelude.{◌≡◌, ◌+◌, IfOk, length};
-ghost use Rattle.iv_peer.specs.Socket.{forget, fresh, took};
+//! It hears the same bytes by the same definition as the desk's end of the connection.
+ghost use Rattle.std.specs.Prelude.{◌≡◌, IfOk};
+ghost use Rattle.iv_peer.specs.Socket.{fresh};
 ghost use Rattle.iv_peer.specs.Hearing.{IsServer};
 ghost use Rattle.iv_admission.specs.Scouting.{IsFound, IsFoundIn};
 

@@ -200,7 +200,8 @@ impl Server {
 
     /// The entries that were made since this was last called were made at a number, by who holds its token.
     fn share(&mut self, desk: &Desk, at: u32) -> Result<(), Fault>
-        ensures { OnOk result ((d : Front) → IsDesk d desk.now → d.gate.dead ≡ false → IsShared (waiting_lines d) (user_at d at) self.old.shares.items self.new.shares.items) }
+        ensures { OnOk result ((d : Front) → IsDesk d desk.now → d.gate.dead ≡ false
+            → IsShared (waiting_lines d) (user_at d at) self.old.shares.items self.new.shares.items) }
     {
         let end = desk.entered().len();
         if end == last_end(&self.shares) {

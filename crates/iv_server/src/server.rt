@@ -1,5 +1,5 @@
 //! `Server`: the sockets by their numbers, which are the desk's and the poll's, and what a round does with them.
-ghost use Rattle.std.specs.Prelude.{◌≡◌, OnOk, [], false, true};
+ghost use Rattle.std.specs.Prelude.{◌≡◌, IfErr, OnOk, [], false, true};
 ghost use Rattle.iv_desk.specs.Front.{Front};
 ghost use Rattle.iv_desk.specs.Desks.{IsDesk};
 ghost use Rattle.iv_running.specs.Running.{Leads};
@@ -510,12 +510,15 @@ impl Server {
     pub fn share_none(&mut self, desk: &Desk) -> Result<(), Fault>
         ensures share { OnOk result ((d : Front) → IsDesk d desk.now → d.gate.dead ≡ false
             → HasShare (waiting_lines d) [] self.old.shares.items self.new.shares.items) }
+        ensures memory { IfErr result (λ f. f ≡ Fault.Memory) }
         ensures same { self.new.open ≡ self.old.open }
     {
         let end = desk.entered().len();
         let holder = String::new(self.alloc);
-        self.shares.push(Share { end, holder })?;
-        Ok(())
+        match self.shares.push(Share { end, holder }) {
+            Ok(()) => Ok(()),
+            Err(_) => Err(Fault::Memory),
+        }
     }
 
     /// Takes in what the events bring, has the journal keep it, and then sends what may be sent.

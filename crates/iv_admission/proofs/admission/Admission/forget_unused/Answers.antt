@@ -1,4 +1,4 @@
-use Rattle.std.proofs.Common.{◌≡◌, ◌<◌, ◌+◌, ◌-◌, ℕ, suc, List, length, refl, ap, ◌∙◌, sym, subst, inr, arith}
+use Rattle.std.proofs.Common.{◌≡◌, ◌<◌, ◌+◌, ◌-◌, suc, List, length, refl, ap, ◌∙◌, sym, subst, inr, arith}
 use Rattle.iv_tokens.specs.Web.{Web}
 use Rattle.iv_admission.specs.Admitting.{is_in_use}
 use Rattle.iv_admission.proofs.HandedTokens.{in_use_same, later_still}
@@ -43,8 +43,12 @@ loop-back-preserved c =
       count = before.count;
       web = kept_more (is_in_use old) (is_in_use c.loop-back.self) old.known.web c.loop-back.self.known.web c.forget_at.new.self.known.web k _ _ h e f
           before.web (in_use_same old c.loop-back.self before.same.2 before.same.3) c.forget_at.ensures.web;
-      same = (c.forget_at.ensures.same.0.0 ∙ before.same.0, c.forget_at.ensures.same.0.1 ∙ before.same.1, c.forget_at.ensures.same.0.2 ∙ before.same.2,
-          c.forget_at.ensures.same.0.3 ∙ before.same.3);
+      same = (
+        c.forget_at.ensures.same.0.0 ∙ before.same.0,
+        c.forget_at.ensures.same.0.1 ∙ before.same.1,
+        c.forget_at.ensures.same.0.2 ∙ before.same.2,
+        c.forget_at.ensures.same.0.3 ∙ before.same.3,
+      );
       admins = c.forget_at.ensures.same.1 ∙ before.admins;
       looked = c.forget_at.ensures.looked ∙ before.looked;
       later = later_still old.known c.loop-back.self.known c.forget_at.new.self.known before.later c.forget_at.ensures.later;

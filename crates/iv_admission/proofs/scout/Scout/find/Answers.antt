@@ -1,4 +1,4 @@
-use Rattle.std.proofs.Common.{◌≡◌, Some, refl, ap, ◌∙◌, sym, subst}
+use Rattle.std.proofs.Common.{refl, ap, ◌∙◌, sym, subst}
 use Rattle.iv_peer.specs.Socket.{Socket}
 use Rattle.iv_peer.specs.Hearing.{Hears, IsHeard, IsServer, IsWaiting}
 use Rattle.iv_admission.specs.Scouting.{PassesBy, nothing, no_text}
@@ -30,9 +30,11 @@ returns-in-Over-clause-found c = λ v.
     (subst (PassesBy c.args.self.now.peer) (sym heard.1) passes, ap (λ (z : Socket). z.over) heard.1 ∙ heard.0)
 
 pub loop-preserved : goal.loop-preserved
-loop-preserved c = (λ v.
-    let passes = c.loop.invariant.0 v in
-    let serves = IsServer-PassesBy c.args.self.now.peer c.loop.self.peer v passes in
-    let heard = subst (λ h. IsHeard h c.loop.self.peer c.hear.new.self) c.in-Other.is (c.in_ok-text.ensures serves) in
-    subst (PassesBy c.args.self.now.peer) (sym heard.4) (no_text c.loop.self.peer heard.1 passes (subst (λ o. Hears c.loop.self.peer o heard.1) heard.2 heard.3)),
-    c.loop.invariant.1)
+loop-preserved c = (
+  λ v.
+      let passes = c.loop.invariant.0 v in
+      let serves = IsServer-PassesBy c.args.self.now.peer c.loop.self.peer v passes in
+      let heard = subst (λ h. IsHeard h c.loop.self.peer c.hear.new.self) c.in-Other.is (c.in_ok-text.ensures serves) in
+      subst (PassesBy c.args.self.now.peer) (sym heard.4) (no_text c.loop.self.peer heard.1 passes (subst (λ o. Hears c.loop.self.peer o heard.1) heard.2 heard.3)),
+  c.loop.invariant.1,
+)
