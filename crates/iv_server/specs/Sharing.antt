@@ -1,5 +1,5 @@
 -- Who made the entries that wait for the journal.
-use Rattle.std.specs.Prelude.{◌≡◌, ◌++◌, ◌∷◌, ℕ, ◌-◌, ◌==◌, List, [], drop, if◌then◌else◌, length, slice_get, string_bytes}
+use Rattle.std.specs.Prelude.{◌≡◌, ◌++◌, ◌∷◌, ℕ, ◌-◌, ◌==◌, List, [], MatchBool, drop, length, slice_get, string_bytes}
 use Rattle.iv_rows.specs.Options.{if_some}
 use Rattle.iv_audit.specs.declared.writing.Share.{Share}
 use Rattle.iv_clients.specs.Clients.{client_at}
@@ -27,4 +27,4 @@ last_end shares = if_some (slice_get shares (length shares - 1)) 0 (λ s. s.end)
 
 -- the lines since the last share were made by this holder, if there are any
 abbrev pub IsShared : (end : ℕ) (holder : List ℕ) (old new : List Share) → Type 0
-IsShared end holder old new = if end == last_end old then new ≡ old else HasShare end holder old new
+IsShared end holder old new = MatchBool (end == last_end old) (new ≡ old) (HasShare end holder old new)

@@ -208,7 +208,7 @@ impl Server {
             return Ok(());
         }
         let holder = String::from_str(self.alloc, user_of(desk, at))?;
-        self.shares.push(Share { end, holder })?;
+        self.push_share(end, holder)?;
         Ok(())
     }
 

@@ -1,5 +1,5 @@
 //! `Server`: the sockets by their numbers, which are the desk's and the poll's, and what a round does with them.
-ghost use Rattle.std.specs.Prelude.{◌≡◌, IfErr, OnOk, [], false, true};
+ghost use Rattle.std.specs.Prelude.{◌≡◌, IfErr, OnOk, [], false, string_bytes, true};
 ghost use Rattle.iv_desk.specs.Front.{Front};
 ghost use Rattle.iv_desk.specs.Desks.{IsDesk};
 ghost use Rattle.iv_running.specs.Running.{Leads};
@@ -503,6 +503,15 @@ impl Server {
         Ok(())
     }
 
+    /// The lines up to this end, but those of shares before, are of a holder.
+    pub(crate) fn push_share(&mut self, end: usize, holder: String) -> Result<(), AllocError>
+        ensures share { OnOk result (HasShare end (string_bytes holder) self.old.shares.items self.new.shares.items) }
+        ensures same { self.new.open ≡ self.old.open }
+    {
+        self.shares.push(Share { end, holder })?;
+        Ok(())
+    }
+
     /// The entries that were made since the last of somebody were made by nobody who is here.
     ///
     /// # Errors
@@ -515,7 +524,7 @@ impl Server {
     {
         let end = desk.entered().len();
         let holder = String::new(self.alloc);
-        match self.shares.push(Share { end, holder }) {
+        match self.push_share(end, holder) {
             Ok(()) => Ok(()),
             Err(_) => Err(Fault::Memory),
         }
