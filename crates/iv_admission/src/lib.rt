@@ -2,6 +2,7 @@
 #![tactic(auto)]
 
 mod admission;
+mod by_token;
 mod scout;
 mod tokens;
 

@@ -1,7 +1,11 @@
 //! `Scout`: hears what a client presents before the desk does, so that the desk knows a web token that is granted when it hears it.
 //!
-//! It reads the same bytes by the same functions as the desk's end of the connection. Were it to hear something else, a web token would open
-//! nothing: what the desk knows is granted all the same.
+//! It hears the same bytes by the same definition as the desk's end of the connection.
+ghost use Rattle.std.specs.Prelude.{◌≡◌, IfOk};
+ghost use Rattle.iv_peer.specs.Socket.{fresh};
+ghost use Rattle.iv_peer.specs.Hearing.{IsServer};
+ghost use Rattle.iv_admission.specs.Scouting.{IsFound, IsFoundIn};
+
 use iv_peer::{Heard, Peer};
 use iv_running::Fault;
 use std::alloc::Global;
@@ -31,24 +35,21 @@ pub enum Found {
 
 impl Scout {
     /// Nothing was heard yet.
-    pub(crate) fn new(alloc: Global) -> Scout {
+    pub(crate) fn new(alloc: Global) -> Scout
+        ensures { (result.peer ≡ fresh) × (result.taken ≡ 0) }
+    {
         Scout {
             peer: Peer::new(alloc),
             taken: 0,
         }
     }
 
-    /// Hears further bytes.
-    ///
-    /// # Errors
-    /// `Memory` if a growth of memory was refused.
-    pub fn hear(&mut self, bytes: &[u8]) -> Result<Found, Fault> {
-        self.taken = self.taken.saturating_add(bytes.len());
-        if self.taken > MOST {
-            return Ok(Found::Nothing);
-        }
-        self.peer.take(bytes)?;
-        for _ in 0..MOST {
+    /// Hears on until a text, or until the bytes say no more.
+    fn find(&mut self) -> Result<Found, Fault>
+        ensures found { IsServer self.old.peer → IfOk result (λ f. IsFoundIn f self.old.peer self.new.peer) }
+        ensures taken { self.new.taken ≡ self.old.taken }
+    {
+        for _ in 0..u64::MAX {
             match self.peer.hear()? {
                 Heard::Text(text) => return Ok(Found::Text(text)),
                 Heard::Nothing => return Ok(Found::More),
@@ -56,6 +57,22 @@ impl Scout {
                 Heard::Other => {}
             }
         }
-        Ok(Found::Nothing)
+        Err(Fault::Memory)
+    }
+
+    /// Hears further bytes.
+    ///
+    /// # Errors
+    /// `Memory` if a growth of memory was refused.
+    pub fn hear(&mut self, bytes: &[u8]) -> Result<Found, Fault>
+        ensures { IsServer self.old.peer → IfOk result (λ f. IsFound f self.old.taken bytes.now self.old.peer self.new) }
+    {
+        self.taken = self.taken.saturating_add(bytes.len());
+        if self.taken > MOST {
+            return Ok(Found::Nothing);
+        }
+        self.peer.take(bytes)?;
+        let found = self.find()?;
+        Ok(found)
     }
 }

@@ -1,2 +1,2 @@
 pub mod ClosedSockets
-pub mod TokenCounts
+pub mod MadeShares

@@ -1,2 +1,2 @@
-pub mod ByToken
+pub mod Sharing
 pub mod Shutting

@@ -2,7 +2,6 @@
 #![tactic(auto)]
 
 mod answering;
-mod by_token;
 pub mod laws;
 mod reading;
 mod sending;

@@ -1,6 +1,9 @@
 //! What a round reads: heads of requests, and what clients say, at most so much of each, until much is told.
 ghost use Rattle.std.specs.Prelude.{◌≡◌, ◌++◌, OnOk, false};
+ghost use Rattle.iv_desk.specs.Front.{Front};
+ghost use Rattle.iv_desk.specs.Desks.{IsDesk};
 ghost use Rattle.iv_running.specs.Running.{Leads};
+ghost use Rattle.iv_server.specs.Sharing.{IsShared, last_end, user_at, waiting_lines};
 
 use crate::server::{COMING, Kind, Server};
 use crate::socket::{Got, Stage, listen_at, read_at, read_head_at};
@@ -32,6 +35,26 @@ const MOST_BY_TOKEN: usize = 64;
 
 /// Numbers that are kept for administrators.
 const KEPT: usize = 16;
+
+/// The end of the last share.
+fn last_end(shares: &[Share]) -> usize
+    ensures { result ≡ last_end shares.now }
+{
+    match shares.last() {
+        Some(share) => share.end,
+        None => 0,
+    }
+}
+
+/// Who holds the token by which the client of a number came in: no text if that is not said.
+fn user_of<'a>(desk: &'a Desk, at: u32) -> &'a str
+    ensures { (d : Front) → IsDesk d desk.now → d.gate.dead ≡ false → result.now ≡ user_at d at }
+{
+    match desk.user_of(at) {
+        Some(user) => user,
+        None => "",
+    }
+}
 
 impl Server {
     /// Reads of the head of a request. Nothing happens to the desk while nobody may come in.
@@ -176,17 +199,16 @@ impl Server {
     }
 
     /// The entries that were made since this was last called were made at a number, by who holds its token.
-    fn share(&mut self, desk: &Desk, at: u32) -> Result<(), Fault> {
+    fn share(&mut self, desk: &Desk, at: u32) -> Result<(), Fault>
+        ensures { OnOk result ((d : Front) → IsDesk d desk.now → d.gate.dead ≡ false
+            → IsShared (waiting_lines d) (user_at d at) self.old.shares.items self.new.shares.items) }
+    {
         let end = desk.entered().len();
-        let before = match self.shares.last() {
-            Some(share) => share.end,
-            None => 0,
-        };
-        if end == before {
+        if end == last_end(&self.shares) {
             return Ok(());
         }
-        let holder = String::from_str(self.alloc, desk.user_of(at).unwrap_or(""))?;
-        self.shares.push(Share { end, holder })?;
+        let holder = String::from_str(self.alloc, user_of(desk, at))?;
+        self.push_share(end, holder)?;
         Ok(())
     }
 
@@ -313,7 +335,7 @@ impl Server {
         let Some(digest) = desk.digest_of(at) else {
             return Ok(true);
         };
-        let count = self.by_token.come(digest)?;
+        let count = self.admission.come(digest)?;
         let most = self.sockets.len();
         if role != ADMIN && most > 4 * KEPT && self.inside.saturating_add(KEPT) > most {
             return Ok(false);

@@ -63,7 +63,7 @@ impl Server {
         ensures { Leads desk.old desk.new }
     {
         if let Some(digest) = desk.digest_of(at) {
-            self.by_token.go(digest)?;
+            self.admission.go(digest)?;
         }
         leave(desk, at)
     }

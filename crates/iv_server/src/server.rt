@@ -1,11 +1,12 @@
 //! `Server`: the sockets by their numbers, which are the desk's and the poll's, and what a round does with them.
-ghost use Rattle.std.specs.Prelude.{◌≡◌, OnOk, false, true};
+ghost use Rattle.std.specs.Prelude.{◌≡◌, IfErr, OnOk, [], false, string_bytes, true};
 ghost use Rattle.iv_desk.specs.Front.{Front};
 ghost use Rattle.iv_desk.specs.Desks.{IsDesk};
 ghost use Rattle.iv_running.specs.Running.{Leads};
+ghost use Rattle.iv_admission.specs.Admitting.{IsHanded, tokens_of};
 ghost use Rattle.iv_server.specs.Shutting.{closed_at, closed_below};
+ghost use Rattle.iv_server.specs.Sharing.{HasShare, waiting_lines};
 
-use crate::by_token::ByToken;
 use crate::socket::{Socket, Stage};
 use iv_admission::Admission;
 use iv_audit::Share;
@@ -60,8 +61,6 @@ pub struct Server {
     pub(crate) shares: Vec<Share>,
     /// How many that have come in are there.
     pub(crate) inside: usize,
-    /// How many clients are there by each token.
-    pub(crate) by_token: ByToken,
     /// Clients may come in.
     pub(crate) open: bool,
     /// Somebody may wait to be accepted.
@@ -181,7 +180,9 @@ impl Places {
 impl Server {
     /// One with these places, in which nobody is. Whether clients may come in.
     pub fn new(alloc: Global, places: Places, admission: Admission, is_open: bool) -> Server
-        ensures { result.open ≡ is_open }
+        ensures opens { result.open ≡ is_open }
+        ensures shares { result.shares.items ≡ [] }
+        ensures admission { result.admission ≡ admission }
     {
         let Places {
             most,
@@ -199,7 +200,6 @@ impl Server {
             gone: Vec::new(alloc),
             shares: Vec::new(alloc),
             inside: 0,
-            by_token: ByToken::new(alloc),
             open: is_open,
             accepting: false,
             again: false,
@@ -457,7 +457,8 @@ impl Server {
         desk: &mut Desk,
         file: &mut TokenFile,
     ) -> Result<(), Fault>
-        ensures { Leads desk.old desk.new }
+        ensures leads { Leads desk.old desk.new }
+        ensures handed { OnOk result (IsHanded self.old.admission.known (tokens_of self.new.admission) desk.old desk.new) }
     {
         self.admission.look(rt, desk, file)
     }
@@ -502,17 +503,31 @@ impl Server {
         Ok(())
     }
 
+    /// The lines up to this end, but those of shares before, are of a holder.
+    pub(crate) fn push_share(&mut self, end: usize, holder: String) -> Result<(), AllocError>
+        ensures share { OnOk result (HasShare end (string_bytes holder) self.old.shares.items self.new.shares.items) }
+        ensures same { self.new.open ≡ self.old.open }
+    {
+        self.shares.push(Share { end, holder })?;
+        Ok(())
+    }
+
     /// The entries that were made since the last of somebody were made by nobody who is here.
     ///
     /// # Errors
     /// `Memory` if a growth of memory was refused.
     pub fn share_none(&mut self, desk: &Desk) -> Result<(), Fault>
+        ensures share { OnOk result ((d : Front) → IsDesk d desk.now → d.gate.dead ≡ false
+            → HasShare (waiting_lines d) [] self.old.shares.items self.new.shares.items) }
+        ensures memory { IfErr result (λ f. f ≡ Fault.Memory) }
         ensures same { self.new.open ≡ self.old.open }
     {
         let end = desk.entered().len();
         let holder = String::new(self.alloc);
-        self.shares.push(Share { end, holder })?;
-        Ok(())
+        match self.push_share(end, holder) {
+            Ok(()) => Ok(()),
+            Err(_) => Err(Fault::Memory),
+        }
     }
 
     /// Takes in what the events bring, has the journal keep it, and then sends what may be sent.

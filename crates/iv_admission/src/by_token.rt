@@ -1,7 +1,7 @@
 //! `ByToken`: how many clients are there by each token, so that one who comes costs a look and no walk over all.
-ghost use Rattle.std.specs.Prelude.{◌≡◌, ◌+◌, ◌-◌, ℕ, IfOk, OnOk};
+ghost use Rattle.std.specs.Prelude.{◌≡◌, ◌+◌, ◌-◌, ℕ, IfOk, OnOk, nat_lt};
 ghost use Rattle.std.specs.Global.{Vec};
-ghost use Rattle.iv_server.specs.ByToken.{are_of, with_count};
+ghost use Rattle.iv_admission.specs.ByToken.{are_by, are_of, with_count};
 
 use std::alloc::{AllocError, Global};
 use std::collections::BTreeMap;
@@ -28,12 +28,20 @@ impl ByToken {
 
     /// How many are there by a token.
     fn by(&self, digest: &[u8]) -> usize
-        ensures { (q : Vec ℕ) → q.items ≡ digest.now → result ≡ are_of self.now.counts q }
+        ensures are { result ≡ are_by self.now.counts digest.now }
+        ensures same { (q : Vec ℕ) → q.items ≡ digest.now → result ≡ are_of self.now.counts q }
     {
         match self.counts.get(digest) {
             Some(count) => *count,
             None => 0,
         }
+    }
+
+    /// Whether one is there by a token.
+    pub(crate) fn has(&self, digest: &[u8]) -> bool
+        ensures { result ≡ nat_lt 0 (are_by self.now.counts digest.now) }
+    {
+        self.by(digest) > 0
     }
 
     /// So many are there by a token from now on.
@@ -56,7 +64,7 @@ impl ByToken {
     /// `AllocError` if a growth of memory was refused.
     pub(crate) fn come(&mut self, digest: &[u8]) -> Result<usize, AllocError>
         ensures count { IfOk result (λ n. (q : Vec ℕ) → are_of self.new.counts q ≡ with_count digest.now n self.old.counts q) }
-        ensures more { IfOk result (λ n. (q : Vec ℕ) → q.items ≡ digest.now → n ≡ are_of self.old.counts q + 1) }
+        ensures more { IfOk result (λ n. n ≡ are_by self.old.counts digest.now + 1) }
     {
         let Some(count) = self.by(digest).checked_add(1) else {
             return Err(AllocError);

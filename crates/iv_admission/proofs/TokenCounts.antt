@@ -7,7 +7,7 @@ use Rattle.std.specs.declared.cmp.Ordering.{Ordering}
 use Rattle.std.specs.Cmp.Lexicographic.{slice_cmp}
 use Rattle.std.specs.BTreeMap.{BTreeMap, UpdatesBy, get}
 use Rattle.std.proofs.lemmas.Map.Text.{is_eq-slice_cmp}
-use Rattle.iv_server.specs.ByToken.{are_of, with_count}
+use Rattle.iv_admission.specs.ByToken.{are_of, with_count}
 
 abbrev vec_cmp : Vec ℕ → Vec ℕ → Ordering
 vec_cmp x y = slice_cmp nat_cmp x.items y.items

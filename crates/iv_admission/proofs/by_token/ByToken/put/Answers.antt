@@ -1,7 +1,7 @@
 use Rattle.std.proofs.Common.{rules, ◌≡◌, Some, None, refl, ap, ◌∙◌}
-use Rattle.iv_server.specs.ByToken.{with_count}
-use Rattle.iv_server.proofs.TokenCounts.{with_count-UpdatesBy}
-use Rattle.iv_server.proofs.by_token.ByToken.put.Goals as goal
+use Rattle.iv_admission.specs.ByToken.{with_count}
+use Rattle.iv_admission.proofs.TokenCounts.{with_count-UpdatesBy}
+use Rattle.iv_admission.proofs.by_token.ByToken.put.Goals as goal
 
 pub returns-then-count-eq0 : goal.returns-then-count-eq0
 returns-then-count-eq0 c =

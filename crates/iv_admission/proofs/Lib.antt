@@ -1,0 +1,4 @@
+pub mod HandedTokens
+pub mod KeptBehind
+pub mod ScoutedEnds
+pub mod TokenCounts

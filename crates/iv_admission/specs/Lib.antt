@@ -1,0 +1,3 @@
+pub mod Admitting
+pub mod ByToken
+pub mod Scouting
