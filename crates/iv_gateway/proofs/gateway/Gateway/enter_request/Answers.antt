@@ -5,7 +5,7 @@ use Rattle.iv_gateway.proofs.gateway.Gateway.enter_request.Goals as goal
 pub returns : goal.returns
 returns c = λ g act by r b s a n t.
     let k =
-    AreKept-entered g c.args.asked.now act by r c.args.accepted c.args.name c.args.self.now (names_of c.push_name.new.names) c.push_entry.new.lines.items
+    AreKept-entered g (next_position g) c.args.asked.now act by r c.args.accepted c.args.name c.args.self.now (names_of c.push_name.new.names) c.position_with-position c.push_entry.new.lines.items
     c.args.self.now.shape.items c.args.made.now c.extend_from_slice.new.self.items b s a n c.in_ok-push_name.ensures c.in_ok-push_entry.ensures b.shape t
     c.in_ok-extend_from_slice.ensures.items in
     record {
@@ -16,6 +16,7 @@ returns c = λ g act by r b s a n t.
       clients = b.clients;
       names = k.names;
       log = b.log;
+      leads = b.leads;
       position = k.position;
       settled = k.settled;
       forgiven = k.forgiven;

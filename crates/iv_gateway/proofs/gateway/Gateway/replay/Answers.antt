@@ -41,6 +41,7 @@ returns-clause-replayed c = λ g n b.
         clients = a.clients;
         names = names_of-forgiven (behind g w.gate.state w.entries) _ (names_of c.lines.self.names) a.names c.forgive.ensures;
         log = a.log;
+        leads = a.leads;
         position = a.position;
         settled = a.settled;
         forgiven = omega arith;
