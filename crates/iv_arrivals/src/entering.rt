@@ -14,7 +14,9 @@ use itoa::Buffer;
 use iv_command::Act;
 use iv_message::push_made;
 use iv_once::{Named, Names};
-use iv_records::{OwnedLine, is_shape, push_accepted, push_name as push_name_text, push_named, push_request};
+use iv_records::{
+    OwnedLine, is_shape, push_accepted, push_name as push_name_text, push_named, push_request,
+};
 use std::alloc::{AllocError, Global};
 
 /// Where the names of a holder stand.
@@ -102,11 +104,7 @@ fn push_name_part(
 }
 
 /// Appends a position, which is the last line of its record.
-fn push_position(
-    alloc: Global,
-    lines: &mut Vec<OwnedLine>,
-    position: u64,
-) -> Result<(), AllocError>
+fn push_position(alloc: Global, lines: &mut Vec<OwnedLine>, position: u64) -> Result<(), AllocError>
     ensures { OnOk result (lines.new.items ≡ lines.old.items ++ record { is_last = true; text = position_text position } ∷ []) }
 {
     let mut text = Vec::from_slice(alloc, b"\"step\":")?;

@@ -1,5 +1,5 @@
 -- A keeper's talk: how what it says is heard, line by line, however its bytes come.
-use Rattle.std.specs.Prelude.{◌≡◌, ◌≢◌, ◌<◌, ◌≤◌, ℕ, ◌+◌, ◌==◌, ◌&&◌, Bool, true, false, if◌then◌else◌, List, [], ◌∷◌, ◌++◌, bytes_eq, length, nat_le, nat_lt, Option, None, Some}
+use Rattle.std.specs.Prelude.{◌≡◌, ◌≢◌, ◌<◌, ◌≤◌, ℕ, ◌+◌, ◌==◌, ◌&&◌, not, Bool, true, false, if◌then◌else◌, List, [], ◌∷◌, ◌++◌, bytes_eq, length, nat_le, nat_lt, Option, None, Some}
 use Rattle.std.specs.List.{list_any}
 use Rattle.iv_rows.specs.Options.{if_some}
 use Rattle.iv_records.specs.Journal.{position_text}
@@ -74,7 +74,7 @@ behind t x = if t.follows then x else (fails (wrong_time t.lines), t)
 
 -- it is of steps that the keeper brings, which it does until the gateway leads
 abbrev pub bringing : Talk → Heard × Talk → Heard × Talk
-bringing t x = if t.leads then (fails (wrong_time t.lines), t) else behind t x
+bringing t x = if t.follows && not t.leads then x else (fails (wrong_time t.lines), t)
 
 -- it is of steps that the gateway decides
 abbrev pub leading : Talk → Heard × Talk → Heard × Talk

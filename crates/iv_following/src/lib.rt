@@ -9,6 +9,7 @@ mod coming;
 mod following;
 mod guest;
 mod keeper;
+mod leading;
 mod logs;
 mod shown;
 mod steps;

@@ -23,6 +23,8 @@ pub(crate) struct Told {
     pub(crate) sent: usize,
     /// It is to be told what is on disk.
     pub(crate) owes: bool,
+    /// It is to be told that the gateway leads.
+    pub(crate) leads: bool,
 }
 
 /// Says why nothing more is taken.
@@ -44,6 +46,7 @@ impl Told {
             out: Vec::new(alloc),
             sent: 0,
             owes: false,
+            leads: false,
         }
     }
 

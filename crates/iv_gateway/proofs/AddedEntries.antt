@@ -165,7 +165,7 @@ pub shape_text-added : (es fs : List Entry) (old new text : List ℕ) → old �
 shape_text-added es fs old new text o t n = n ∙ ((λ i. o i ++ t i) ∙ sym (shape_text-append es fs))
 
 -- whatever the position
-shape_text-entries_at : (p : Option ℕ) (q : Request) (by : Option Ask) (r : Reply) → shape_text (entries_of None q by r) ≡ shape_text (entries_of p q by r)
+pub shape_text-entries_at : (p : Option ℕ) (q : Request) (by : Option Ask) (r : Reply) → shape_text (entries_of None q by r) ≡ shape_text (entries_of p q by r)
 shape_text-entries_at p q by r = at (is_shared q.act && (is_accepted r || is_some by))
   where
     at : (t : Bool) → shape_text (cond t (entry_at None (cond (is_accepted r) (q ∷ []) []) (answering by r) ∷ []) [])

@@ -102,14 +102,7 @@ impl Gateway {
     {
         let next = self.next_position();
         let position = self.position_with(accepted || name.is_some(), next);
-        push_entry(
-            self.alloc,
-            &mut self.pending,
-            asked,
-            &name,
-            accepted,
-            next,
-        )?;
+        push_entry(self.alloc, &mut self.pending, asked, &name, accepted, next)?;
         self.shape.extend_from_slice(made)?;
         push_name(&mut self.names, name)?;
         self.position = position;

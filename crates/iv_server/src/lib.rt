@@ -4,6 +4,7 @@
 mod answering;
 mod by_token;
 pub mod laws;
+mod leading;
 mod reading;
 mod sending;
 mod server;
