@@ -56,7 +56,7 @@ fault_of (fault.Gap to from position) = Some (gap to from position)
 fault_of (fault.NoEntry line to) = Some (no_entry line to)
 fault_of (fault.NotAccepted entry to refusal) = Some (not_accepted entry to refusal)
 fault_of (fault.NotNew name to) = Some (not_new name to)
-fault_of (fault.NotDecided kept from to) = Some (not_decided kept from to)
+fault_of (fault.NotDecided number from to) = Some (not_decided number from to)
 fault_of fault.Memory = None
 
 abbrev pub heard_of : Option ActCode → Heard

@@ -172,7 +172,8 @@ impl Keeper {
         }
     }
 
-    /// Hears the lines that have come, until much waits for the journal, or for the keeper. Whether the next round is to come at once.
+    /// Hears the lines that have come, until much waits for the keeper, or for the journal, unless that waits for the keeper. Whether the next
+    /// round is to come at once.
     ///
     /// # Errors
     /// `Log` if what is said cannot be, which it is told; `Memory` if a growth of memory was refused.
@@ -191,7 +192,7 @@ impl Keeper {
             if self.told.out.len() > MOST_OUT {
                 return Ok(false);
             }
-            if !may_read(desk) {
+            if means.lead.is_none() && !may_read(desk) {
                 return Ok(true);
             }
             if !self.hear_line(means, desk, server)? {

@@ -20,7 +20,7 @@ use Rattle.iv_steps.specs.Steps.{first_refused, shared}
 use Rattle.iv_clients.specs.Clients.{Client}
 use Rattle.iv_records.specs.Journal.{Entry, IsEntry, IsNamed, IsRequest, Request, claim_said, has_newline, is_digest, is_shared, line_said, names_in, position_of, said_by}
 use Rattle.iv_records.specs.Laws.{ClaimsAreWell, HoldersAreText}
-use Rattle.iv_records.specs.Names.{Claim, limits}
+use Rattle.iv_records.specs.Names.{Claim, limits, is_count}
 use Rattle.iv_records.proofs.CutParts.{but_last-push}
 use Rattle.iv_gate.specs.Arriving.{Fault, Step, entry_of, fact_of, fault_of, first_known, gap, was_taken, is_log, is_new, not_accepted, not_new, other_log, position}
 use Rattle.iv_gate.specs.Gate.{Gate, answer_text, asked_by, came, went, entries_of, is_accepted, known_at, known_of, may_have, names_of, next_position, is_elsewhere}
