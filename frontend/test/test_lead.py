@@ -23,7 +23,6 @@ def leads(folder: pathlib.Path) -> Keeper:
         keeper.say(GO_ON)
     else:
         keeper.say(BEGIN, ROLE, TABLE, '{"from":0,"step":1}')
-        assert keeper.hear() == '{"on_disk":0}'
     keeper.say(LEAD, '{"open":true}')
     line = keeper.hear()
     while not line.startswith('{"leads":'):
@@ -74,7 +73,7 @@ def test_what_is_decided_is_told_once_it_is_kept(here: pathlib.Path) -> None:  #
     assert is_silent(mia) and is_silent(other)
     keeper.say('{"kept":2}')
     assert keeper.hear() == '{"on_disk":2}'
-    assert reply(mia) == {"id": 1, "ok": True, "at": f"{EPOCH}.1"}
+    assert reply(mia) == {"answer": {"ok": True}, "at": f"{EPOCH}.1", "id": 1}
     assert json.loads(other.line()) == {"sub": 1, "changes": [[1, [7, "salt"]]]}
 
 
@@ -92,10 +91,10 @@ def test_a_refusal_is_a_step(here: pathlib.Path) -> None:  # noqa: F811
     mia = come(keeper)
     mia.say(by_name(f"{EPOCH}.0", {"do": "create_role", "name": "eve"}, None, 1))
     lines = told(keeper)
-    assert len(lines) == 2 and '"refused":{"error":8' in lines[0] and lines[1] == '{"from":1,"step":2}'
+    assert len(lines) == 2 and '"refused":{"error":11' in lines[0] and lines[1] == '{"from":1,"step":2}'
     assert is_silent(mia)
     keeper.say('{"kept":2}')
-    assert reply(mia)["error"] == 8
+    assert reply(mia)["answer"] == {"error": 11}
 
 
 FAULTS: dict[str, tuple[tuple[str, ...], str]] = {
@@ -116,16 +115,18 @@ def test_what_a_keeper_cannot_say_to_who_leads(what: str, here: pathlib.Path) ->
 def test_nobody_keeps_before_it_leads(here: pathlib.Path) -> None:  # noqa: F811
     keeper = Keeper(here)
     keeper.hear()
-    keeper.say(BEGIN, '{"kept":0}')
+    keeper.say(BEGIN)
     assert keeper.hear() == '{"on_disk":0}'
+    keeper.say('{"kept":0}')
     assert keeper.fault() == ("line 2 comes at the wrong time", 4)
 
 
 def test_within_a_step_nobody_leads(here: pathlib.Path) -> None:  # noqa: F811
     keeper = Keeper(here)
     keeper.hear()
-    keeper.say(BEGIN, ROLE, LEAD)
+    keeper.say(BEGIN)
     assert keeper.hear() == '{"on_disk":0}'
+    keeper.say(ROLE, LEAD)
     assert keeper.fault() == ("line 3 comes at the wrong time", 4)
 
 
@@ -145,9 +146,9 @@ def test_what_was_not_kept_is_nowhere(here: pathlib.Path) -> None:  # noqa: F811
     mia.say(by_name(f"{EPOCH}.0", WRITE, name, 1))
     assert told(again)[2] == '{"from":1,"step":2}'
     again.say('{"kept":2}')
-    assert reply(mia) == {"id": 1, "ok": True, "at": f"{EPOCH}.1"}
+    assert reply(mia) == {"answer": {"ok": True}, "at": f"{EPOCH}.1", "id": 1}
     mia.say(by_name(f"{EPOCH}.0", WRITE, name, 1))
-    assert reply(mia) == {"id": 1, "ok": True, "at": f"{EPOCH}.1", "again": True}
+    assert reply(mia) == {"answer": {"ok": True}, "again": True, "at": f"{EPOCH}.1", "id": 1}
 
 
 def test_many_wait_for_one_answer_of_the_log(here: pathlib.Path) -> None:  # noqa: F811
@@ -166,7 +167,7 @@ def test_many_wait_for_one_answer_of_the_log(here: pathlib.Path) -> None:  # noq
                 keeper.say('{"kept":%d}' % position)
                 batches += 1
     assert batches <= 4
-    assert all(reply(it)["ok"] for it in clients)
+    assert all(reply(it)["answer"] == {"ok": True} for it in clients)
 
 
 def test_who_follows_hears_what_who_leads_says(tmp_path: pathlib.Path, here: pathlib.Path) -> None:  # noqa: F811
@@ -181,8 +182,8 @@ def test_who_follows_hears_what_who_leads_says(tmp_path: pathlib.Path, here: pat
         lines = told(keeper)
         follower.say(*lines)
         keeper.say('{"kept":%d}' % (number + 2))
-        assert reply(mia)["ok"]
-        keeper.hear()
+        assert reply(mia)["answer"] == {"ok": True}
+        assert keeper.hear() == '{"on_disk":%d}' % (number + 2)
     while follower.hear() != '{"on_disk":4}':
         pass
     assert follower.end() == 0
