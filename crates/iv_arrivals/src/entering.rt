@@ -1,5 +1,5 @@
 //! What a request adds: the lines of its entry, its name, and what it makes of the shape; and where the names of a holder stand.
-ghost use Rattle.std.specs.Prelude.{◌≡◌, ◌++◌, ◌∷◌, [], if◌then◌else◌, IfOk, None, OnOk, Some, string_bytes};
+ghost use Rattle.std.specs.Prelude.{◌≡◌, ◌++◌, ◌∷◌, ◌||◌, [], if◌then◌else◌, IfOk, None, OnOk, Some, is_some, string_bytes};
 ghost use Rattle.iv_rows.specs.Options.{if_some};
 ghost use Rattle.iv_command.specs.Views.{act_of};
 ghost use Rattle.iv_records.specs.Journal.{name_text, position_text};
@@ -54,6 +54,13 @@ fn push_plain(
             Ok(())
         }
     }
+}
+
+/// Whether a request that is accepted or not has an entry.
+pub fn is_entered(accepted: bool, name: &Option<Named>) -> bool
+    ensures { result ≡ (accepted || is_some name.now) }
+{
+    accepted || name.is_some()
 }
 
 /// Appends a text as a part of a record.
@@ -128,12 +135,13 @@ fn push_step(
 ) -> Result<(), AllocError>
     ensures { OnOk result (lines.new.items ≡ lines.old.items ++ lines_entered asked.now accepted name.now (Some position)) }
 {
-    if !accepted && name.is_none() {
+    if !is_entered(accepted, name) {
         return Ok(());
     }
     push_request_part(alloc, lines, asked, accepted)?;
     push_name_part(alloc, lines, name)?;
-    push_position(alloc, lines, position)
+    push_position(alloc, lines, position)?;
+    Ok(())
 }
 
 /// Appends the lines of what the journal is to have of a request, which is a step if it has a position.

@@ -1,5 +1,5 @@
 -- Worked examples of the gateway: steps of a log, and requests with names.
-use Rattle.std.specs.Prelude.{ℕ, ◌^◌, ◌++◌, pos, Bool, true, false, List, [], ◌∷◌, codes, Option, Some, None, drop, length, map}
+use Rattle.std.specs.Prelude.{ℕ, ◌^◌, ◌++◌, pos, Bool, false, List, [], ◌∷◌, codes, Option, Some, None, drop, length, map}
 use Rattle.iv_rows.specs.Cell.{Cell, num}
 use Rattle.iv_rows.specs.Options.{if_some}
 use Rattle.iv_rows.specs.declared.value.Kind.TheVariants.{Int}

@@ -16,7 +16,8 @@ ghost use Rattle.iv_gateway.specs.Views.{IsAlive, IsRun};
 
 use crate::gateway::Gateway;
 use iv_arrivals::{
-    Asked, answer_text, ask_of, first_reply, is_done, place_text, push_entry, push_name, push_shape,
+    Asked, answer_text, ask_of, first_reply, is_done, is_entered, place_text, push_entry,
+    push_name, push_shape,
 };
 use iv_clients::seat_of;
 use iv_command::{Act, Command, Line, Refusal, Reply};
@@ -101,7 +102,7 @@ impl Gateway {
             → made.now ≡ made_of asked.now act by r → IsAlive (entered g (entries_of (next_position g) (request_of asked.now act) by r)) self.new) }
     {
         let next = self.next_position();
-        let position = self.position_with(accepted || name.is_some(), next);
+        let position = self.position_with(is_entered(accepted, &name), next);
         push_entry(self.alloc, &mut self.pending, asked, &name, accepted, next)?;
         self.shape.extend_from_slice(made)?;
         push_name(&mut self.names, name)?;
