@@ -288,7 +288,10 @@ impl Gateway {
     fn is_follower(&self) -> bool
         ensures { (g : Gate) → IsAlive g self.now → result ≡ is_follower g }
     {
-        self.log.is_some() && self.next_position().is_none()
+        if self.log.is_none() {
+            return false;
+        }
+        self.next_position().is_none()
     }
 
     /// Whether what has this name, or none, is decided elsewhere.
