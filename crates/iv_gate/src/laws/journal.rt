@@ -59,7 +59,7 @@ pub fn positions_rise()
     told_texts_are_lines();
 }
 
-/// A client's message adds nothing, or one entry: where the log is led that is its next step, one position further.
+/// A client's message adds nothing, or one entry: if the log is led, its next step, one position further.
 pub fn messages_are_next_steps()
     ensures { (g : Gate) (m : ℕ) (text : List ℕ) → AddsNext g (added_by g (message m text)) }
 {}
