@@ -1,11 +1,11 @@
 -- What is said of entries that are decided, as lines of a journal and as a keeper says it.
-use Rattle.std.proofs.Common.{◌≡◌, ℕ, ◌+◌, List, [], ◌∷◌, ◌++◌, map, Some, refl, ap, ◌∙◌, sym, append_assoc, append-nil}
+use Rattle.std.proofs.Common.{◌≡◌, ℕ, ◌+◌, cond, List, [], ◌∷◌, ◌++◌, map, Some, refl, ap, ◌∙◌, sym, append_assoc, append-nil}
 use Rattle.std.specs.Prelude.{false, flat_map, true}
 use Rattle.std.proofs.lemmas.List.Concat.{flat_map-append}
 use Rattle.iv_rows.specs.Options.{if_some}
 use Rattle.iv_journal.specs.Journal.{Line}
 use Rattle.iv_records.specs.Journal.{Entry, journal_of, name_text, position_text, record_of, request_text, texts_of}
-use Rattle.iv_door.specs.Leading.{AreNext, LeadsAsAKeeper, lines_from, said_line, step_said, steps_said}
+use Rattle.iv_door.specs.Leading.{AreNext, LeadsAsAKeeper, line_from, lines_from, said_line, step_said, steps_said}
 use Rattle.iv_door.specs.Said.{brings, ends}
 
 abbrev part : List ℕ → Line
@@ -47,3 +47,20 @@ led_lines p [] n = refl
 led_lines p (e ∷ es) n =
     step_lines p e (journal_of es) n.0
     ∙ (ap (λ z. flat_map said_line (step_said p e) ++ z) (led_lines (p + 1) es n.1) ∙ sym (flat_map-append said_line (step_said p e) (steps_said (p + 1) es)))
+
+-- ---- one line more
+
+-- where the log stands after lines
+abbrev pub reached : ℕ → List Line → ℕ
+reached p [] = p
+reached p (l ∷ ls) = reached (cond l.is_last (p + 1) p) ls
+
+pub lines_further : (p : ℕ) (ls : List Line) (l : Line) → lines_from p (ls ++ l ∷ []) ≡ lines_from p ls ++ line_from (reached p ls) l
+lines_further p [] l = append-nil (line_from p l)
+lines_further p (k ∷ ls) l =
+    ap (λ z. line_from p k ++ z) (lines_further (cond k.is_last (p + 1) p) ls l)
+    ∙ sym (append_assoc (line_from p k) (lines_from (cond k.is_last (p + 1) p) ls) (line_from (reached (cond k.is_last (p + 1) p) ls) l))
+
+pub reached_further : (p : ℕ) (ls : List Line) (l : Line) → reached p (ls ++ l ∷ []) ≡ cond l.is_last (reached p ls + 1) (reached p ls)
+reached_further p [] l = refl
+reached_further p (k ∷ ls) l = reached_further (cond k.is_last (p + 1) p) ls l

@@ -1,3 +1,3 @@
 mod Texts
 mod Talks
-mod LedSteps
+pub mod LedSteps

@@ -95,7 +95,7 @@ fn keep(means: &mut Means, told: &mut Told, position: u64) -> Result<(), Fault>
     let Some(lead) = &mut means.lead else {
         return Err(Fault::Desk);
     };
-    told.owes = true;
+    told.owe();
     match lead.keep(position) {
         Ok(()) => Ok(()),
         Err(fault) => Err(told.fail(&means.rt, &fault)),

@@ -10,6 +10,7 @@ mod following;
 mod guest;
 mod keeper;
 mod leading;
+mod led;
 mod logs;
 mod shown;
 mod steps;

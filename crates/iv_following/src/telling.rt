@@ -1,5 +1,5 @@
 //! `Told`: what a keeper is told: what is held, what is on disk, what was recalled, and why nothing more is taken.
-ghost use Rattle.std.specs.Prelude.{◌≡◌, ◌++◌, ◌∷◌, [], OnOk, Some, false, if◌then◌else◌, option_map};
+ghost use Rattle.std.specs.Prelude.{◌≡◌, ◌++◌, ◌∷◌, [], OnOk, Some, false, if◌then◌else◌, option_map, true};
 ghost use Rattle.iv_gate.specs.Arriving.{settled_at};
 ghost use Rattle.iv_desk.specs.Desks.{IsDesk};
 ghost use Rattle.iv_desk.specs.Front.{Front};
@@ -48,6 +48,13 @@ impl Told {
             owes: false,
             leads: false,
         }
+    }
+
+    /// The keeper is to be told what is on disk.
+    pub(crate) fn owe(&mut self)
+        ensures { self.new ≡ record self.old { owes = true } }
+    {
+        self.owes = true;
     }
 
     /// Appends what is held: the log that is followed, up to a position.
