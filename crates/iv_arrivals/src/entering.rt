@@ -1,5 +1,5 @@
 //! What a request adds: the lines of its entry, its name, and what it makes of the shape; and where the names of a holder stand.
-ghost use Rattle.std.specs.Prelude.{◌≡◌, ◌++◌, ◌∷◌, ◌||◌, [], if◌then◌else◌, IfOk, None, OnOk, Some, is_some, string_bytes};
+ghost use Rattle.std.specs.Prelude.{◌≡◌, ◌++◌, ◌∷◌, ◌||◌, [], if◌then◌else◌, IfOk, None, OnOk, Some, is_some, string_bytes, true};
 ghost use Rattle.iv_rows.specs.Options.{if_some};
 ghost use Rattle.iv_command.specs.Views.{act_of};
 ghost use Rattle.iv_records.specs.Journal.{name_text, position_text};

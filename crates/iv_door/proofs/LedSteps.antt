@@ -1,6 +1,7 @@
 -- What is said of entries that are decided, as lines of a journal and as a keeper says it.
-use Rattle.std.proofs.Common.{◌≡◌, ℕ, ◌+◌, cond, List, [], ◌∷◌, ◌++◌, map, Some, refl, ap, ◌∙◌, sym, append_assoc, append-nil}
+use Rattle.std.proofs.Common.{◌≡◌, ◌<◌, ℕ, ◌+◌, cond, get_or, length, take, List, [], ◌∷◌, ◌++◌, map, Some, refl, ap, ◌∙◌, sym, append_assoc, append-nil}
 use Rattle.std.specs.Prelude.{false, flat_map, true}
+use Rattle.std.proofs.lemmas.List.{take_more}
 use Rattle.std.proofs.lemmas.List.Concat.{flat_map-append}
 use Rattle.iv_rows.specs.Options.{if_some}
 use Rattle.iv_journal.specs.Journal.{Line}
@@ -64,3 +65,14 @@ lines_further p (k ∷ ls) l =
 pub reached_further : (p : ℕ) (ls : List Line) (l : Line) → reached p (ls ++ l ∷ []) ≡ cond l.is_last (reached p ls + 1) (reached p ls)
 reached_further p [] l = refl
 reached_further p (k ∷ ls) l = reached_further (cond k.is_last (p + 1) p) ls l
+
+pub steps_further : (from : ℕ) (xs : List Line) (i : ℕ) (l : Line) (old out now : List ℕ) (at next : ℕ) → i < length xs → get_or xs i l ≡ l
+    → out ≡ old ++ lines_from from (take i xs) → at ≡ reached from (take i xs) → now ≡ out ++ line_from at l → next ≡ cond l.is_last (at + 1) at
+    → (now ≡ old ++ lines_from from (take (i + 1) xs)) × (next ≡ reached from (take (i + 1) xs))
+steps_further from xs i l old out now at next lt is o a n m =
+    let ys = take i xs in
+    let more : take (i + 1) xs ≡ ys ++ l ∷ [] = take_more xs i l lt ∙ ap (λ x. ys ++ x ∷ []) is in (
+      n ∙ ((λ j. o j ++ line_from (a j) l) ∙ (append_assoc old (lines_from from ys) (line_from (reached from ys) l)
+          ∙ ap (λ z. old ++ z) (sym (lines_further from ys l) ∙ ap (lines_from from) (sym more)))),
+      m ∙ ((λ j. cond l.is_last (a j + 1) (a j)) ∙ (sym (reached_further from ys l) ∙ ap (reached from) (sym more))),
+    )
