@@ -13,7 +13,7 @@ returns c = λ g act by r b s a n t.
     let lines = c.in_ok-push_entry.ensures
     ∙ ap (λ p. c.args.self.now.pending.items ++ lines_entered c.args.asked.now c.args.accepted c.args.name p) next in
     let k =
-    AreKept-entered g (next_position g) c.args.asked.now act by r c.args.accepted c.args.name c.args.self.now (names_of c.push_name.new.names) c.position_with-position.position
+    AreKept-entered g (next_position g) c.args.asked.now act by r c.args.accepted c.args.name c.args.self.now (names_of c.push_name.new.names) c.position_with-position.result
     c.push_entry.new.lines.items c.args.self.now.shape.items c.args.made.now c.extend_from_slice.new.self.items b s a n c.in_ok-push_name.ensures at lines b.shape t
     c.in_ok-extend_from_slice.ensures.items in
     record {
