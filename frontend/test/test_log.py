@@ -102,7 +102,7 @@ def here() -> Iterator[pathlib.Path]:
 
 def test_the_conversation_of_the_page(here: pathlib.Path) -> None:
     blocks = re.findall(r"(?ms)^```\n(.*?)^```$", (TOP / "docs/LOG.md").read_text())
-    assert len(blocks) == 2
+    assert len(blocks) == 3
     for block in blocks:
         keeper, mia, told = Keeper(here), None, list[str]()
         for text in block.splitlines():
@@ -120,6 +120,9 @@ def test_the_conversation_of_the_page(here: pathlib.Path) -> None:
                 assert told.pop(0) == line
         assert not told
         if "fault" in block:
+            assert keeper.process.wait(PATIENCE) == 4
+        elif "lead" in block:
+            keeper.taken.close()
             assert keeper.process.wait(PATIENCE) == 4
         else:
             assert keeper.end() == 0

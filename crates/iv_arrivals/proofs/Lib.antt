@@ -1,3 +1,4 @@
 pub mod AnswerTexts
 pub mod StepLines
 pub mod StepParts
+pub mod EnteredLines

@@ -1,8 +1,8 @@
 -- For contracts of the code: what the journal, the names and the shape get of what arrives.
-use Rattle.std.specs.Prelude.{ℕ, Bool, true, false, List, [], ◌∷◌, Option, None}
+use Rattle.std.specs.Prelude.{ℕ, Bool, true, false, List, [], ◌∷◌, ◌++◌, Option, None}
 use Rattle.iv_rows.specs.Options.{if_some}
 use Rattle.iv_machine.specs.Act.{Act, Reply}
-use Rattle.iv_records.specs.Journal.{Request, name_text, record_of}
+use Rattle.iv_records.specs.Journal.{Request, name_text, position_text, record_of}
 use Rattle.iv_records.specs.Parsed.{text_of_request}
 use Rattle.iv_gate.specs.Gate.{entries_of, shape_text}
 use Rattle.iv_journal.specs.Journal.{Line}
@@ -14,12 +14,16 @@ use Rattle.iv_arrivals.specs.Speaking.{Asking, request_of}
 
 -- the text of what its entry makes of the shape
 abbrev pub made_of : Asking → Act → Option Ask → Reply → List ℕ
-made_of a act name r = shape_text (entries_of (request_of a act) name r)
+made_of a act name r = shape_text (entries_of None (request_of a act) name r)
 
--- the lines of its entry, if it has one: of it, where it is accepted, and of its name, if it has one
-abbrev pub lines_entered : Asking → Bool → Option Named → List Line
-lines_entered a true name = record_of (text_of_request a.role a.line ∷ if_some name [] (λ n. name_text n ∷ []))
-lines_entered a false name = if_some name [] (λ n. record_of (name_text n ∷ []))
+-- the text of a step's position
+abbrev pub text_at : Option ℕ → List (List ℕ)
+text_at position = if_some position [] (λ p. position_text p ∷ [])
+
+-- the lines of its entry, if it has one: of it, where it is accepted, of its name, if it has one, and of its position, if it is a step
+abbrev pub lines_entered : Asking → Bool → Option Named → (position : Option ℕ) → List Line
+lines_entered a true name position = record_of (text_of_request a.role a.line ∷ (if_some name [] (λ n. name_text n ∷ []) ++ text_at position))
+lines_entered a false name position = if_some name [] (λ n. record_of (name_text n ∷ text_at position))
 
 -- ---- a step
 

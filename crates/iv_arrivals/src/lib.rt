@@ -9,7 +9,7 @@ mod steps;
 mod tally;
 
 pub use asking::{Asked, Speaker, answer_text, ask_of, first_reply, is_done, speaker_at};
-pub use entering::{place_text, push_entry, push_name, push_shape};
+pub use entering::{is_entered, place_text, push_entry, push_name, push_shape};
 pub use learning::{are_writes, facts_of, learn};
 pub use steps::{Log, Step, read_step};
 pub use tally::{KINDS, Tally, number_of};

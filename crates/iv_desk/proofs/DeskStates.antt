@@ -3,7 +3,7 @@ use Rattle.std.proofs.Common.{◌≡◌, ℕ, ◌||◌, Bool, true, false, cond,
 use Rattle.std.proofs.lemmas.Bool.{false≢true}
 use Rattle.iv_rows.specs.Options.{if_some}
 use Rattle.iv_clients.specs.Clients.{client_at, is_free}
-use Rattle.iv_gate.specs.Events.{Event, IsWell, failed, forgave, next}
+use Rattle.iv_gate.specs.Events.{Event, IsWell, failed, next}
 use Rattle.iv_gate.specs.Gate.{Gate}
 use Rattle.iv_gate.specs.Laws.{marked}
 use Rattle.iv_gate.specs.Restoring.{Restores}
@@ -53,8 +53,8 @@ IsBehind-by_event k d e w v x slots b is same =
     record { alive = dead-next k d.gate e w b.alive ∙ (same ∙ b.alive); gate = is; places = b.places; lives = b.lives }
 
 -- nothing happens to a dead one
-pub IsDesk-forgave : ((g : Gate) (e : Event) → g.dead ≡ true → next g e ≡ g) → (d : Front) (x : Desk) → IsDesk d x → x.dead ≡ true → IsDesk (by_event forgave d) x
-IsDesk-forgave rests d x b e = subst (λ (h : Gate). IsDesk (record d { gate = h }) x) (sym (rests d.gate forgave (sym b.dead ∙ e))) b
+pub IsDesk-rests : ((g : Gate) (e : Event) → g.dead ≡ true → next g e ≡ g) → (e : Event) (d : Front) (x : Desk) → IsDesk d x → x.dead ≡ true → IsDesk (by_event e d) x
+IsDesk-rests rests e d x b h = subst (λ (g : Gate). IsDesk (record d { gate = g }) x) (sym (rests d.gate e (sym b.dead ∙ h))) b
 
 pub IsBehind-Restores : (d : Front) (journal : List Line) (now : Gate) (v x : Gateway) (slots : List (Option Place)) → IsBehind d v slots
     → Restores d.gate journal now → IsGate now x

@@ -8,7 +8,7 @@ use Rattle.iv_rows.specs.Options.{if_some}
 use Rattle.iv_message.specs.Told.{Told}
 use Rattle.iv_clients.specs.Bounds.{most_requests, most_waiting}
 use Rattle.iv_clients.specs.Clients.{Client, Shown, all_shown, client_at, dropping, handing, is_slow, may_say, released, saying, text_shown}
-use Rattle.iv_gate.specs.Events.{Event, IsWell, arrived, failed, forgave, gone, handed, hands, known, message, next, on_disk, presented, synced, ticked}
+use Rattle.iv_gate.specs.Events.{Event, IsWell, arrived, failed, forgave, gone, handed, hands, known, message, next, on_disk, presented, synced, ticked, led}
 use Rattle.iv_gate.specs.Gate.{Gate, is_heard}
 use Rattle.iv_gate.specs.Laws.{HoldAlways}
 use Rattle.iv_gate.specs.Replies.{IsClient, heard_by, told_by}
@@ -125,6 +125,7 @@ kept_waits l cap g (known tokens) v r a m c d x y same k = same_asked c d _ k x.
 kept_waits l cap g ticked v r a m c d x y same k = same_asked c d _ k x.stays same (((l cap g r).1 ticked tt).shows m c d x y)
 kept_waits l cap g synced v r a m c d x y same k = same_asked c d _ k x.stays same (((l cap g r).1 synced tt).shows m c d x y)
 kept_waits l cap g (arrived s) v r a m c d x y same k = same_asked c d _ k x.stays same (((l cap g r).1 (arrived s) v).shows m c d x y)
+kept_waits l cap g led v r a m c d x y same k = same_asked c d _ k x.stays same (((l cap g r).1 led tt).shows m c d x y)
 kept_waits l cap g forgave v r a m c d x y same k = same_asked c d _ k x.stays same (((l cap g r).1 forgave tt).shows m c d x y)
 kept_waits l cap g failed v r a m c d x y same k = same_asked c d _ k x.stays same (((l cap g r).1 failed tt).shows m c d x y)
 

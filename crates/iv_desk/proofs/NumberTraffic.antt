@@ -13,7 +13,7 @@ use Rattle.iv_clients.specs.Clients.{Client, Shown, at_client, client_at, fresh,
 use Rattle.iv_clients.specs.Feeds.{seat_of}
 use Rattle.iv_clients.specs.Tokens.{Token, role_opened, token_of}
 use Rattle.iv_gate.specs.Arriving.{Step}
-use Rattle.iv_gate.specs.Events.{Event, IsWell, arrived, failed, forgave, gone, handed, known, message, next, presented, synced, ticked}
+use Rattle.iv_gate.specs.Events.{Event, IsWell, arrived, failed, forgave, gone, handed, known, message, next, presented, synced, ticked, led}
 use Rattle.iv_gate.specs.Gate.{Gate, begun_for, came, at_text, has_session, is_heard, seated, token_for, with_session}
 use Rattle.iv_gate.specs.Laws.{HoldAlways, marked}
 use Rattle.iv_gate.specs.Runs.{Runs}
@@ -24,7 +24,7 @@ use Rattle.iv_peer.specs.Socket as socket
 use Rattle.iv_peer.specs.Hearing.{Hears, accepts, refuses_other, refuses_bad, refuses_long, frames, fails}
 use Rattle.iv_peer.specs.Lives.{Lives, listed}
 use Rattle.iv_peer.specs.Lives as life
-use Rattle.iv_desk.specs.Front.{Front, FrontRuns, Happens, HearsAt, arrives, at_socket, begins, begun, by_event, closes, dismisses, fails as front_fails, forgives, front_at_start}
+use Rattle.iv_desk.specs.Front.{Front, FrontRuns, Happens, HearsAt, arrives, at_socket, begins, begun, by_event, closes, dismisses, fails as front_fails, forgives, leads as front_leads, front_at_start}
 use Rattle.iv_desk.specs.Front.{goes_on, has_presented, hears, knows, leaves, left, let_go, let_in, later_text, no_text, first_text, nothing, offered}
 use Rattle.iv_desk.specs.Front.{offered_to, offers, put_off, sends, socket_at, starts, syncs, takes, text_for, ticks, told_some, turned_away, with_both}
 use Rattle.iv_desk.specs.Front.{is_dropped}
@@ -70,6 +70,9 @@ known_comes tokens n token e = cc e
 ticked_comes : (n : ℕ) (token : List ℕ) → ticked ≡ presented n token → ⊥
 ticked_comes n token e = cc e
 
+led_comes : (n : ℕ) (token : List ℕ) → led ≡ presented n token → ⊥
+led_comes n token e = cc e
+
 forgave_comes : (n : ℕ) (token : List ℕ) → forgave ≡ presented n token → ⊥
 forgave_comes n token e = cc e
 
@@ -112,6 +115,7 @@ goes_or_stays n ticked = inr (does_not_go n ticked refl)
 goes_or_stays n synced = inr (does_not_go n synced refl)
 goes_or_stays n (handed m) = inr (does_not_go n (handed m) refl)
 goes_or_stays n (arrived s) = inr (does_not_go n (arrived s) refl)
+goes_or_stays n led = inr (does_not_go n led refl)
 goes_or_stays n forgave = inr (does_not_go n forgave refl)
 goes_or_stays n failed = inr (does_not_go n failed refl)
 
@@ -600,6 +604,9 @@ happens_living l cap d _ a v (arrives s w) =
 happens_living l cap d _ a v ticks =
     event_living cap d ticked tt v (λ n. stays_same d.gate ticked n (event_touches l cap d.gate ticked tt v.runs a) (does_not_go n ticked refl) (λ c. refl)
     (ticked_comes n))
+happens_living l cap d _ a v front_leads =
+    event_living cap d led tt v (λ n. stays_same d.gate led n (event_touches l cap d.gate led tt v.runs a) (does_not_go n led refl) (λ c. refl)
+    (led_comes n))
 happens_living l cap d _ a v forgives =
     event_living cap d forgave tt v (λ n. stays_same d.gate forgave n (event_touches l cap d.gate forgave tt v.runs a) (does_not_go n forgave refl) (λ c. refl)
     (forgave_comes n))

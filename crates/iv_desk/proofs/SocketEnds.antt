@@ -18,7 +18,7 @@ use Rattle.iv_peer.specs.Socket.{Socket, ending, fresh, is_open, most_head, pass
 use Rattle.iv_peer.specs.Socket as socket
 use Rattle.iv_peer.specs.Hearing.{AsksOther, Hears, IsBadHead, accepts, refuses_other, refuses_bad, refuses_long, frames, fails, text_in}
 use Rattle.iv_peer.specs.Lives.{CarriesAt, listed, texts_of}
-use Rattle.iv_desk.specs.Front.{Front, FrontRuns, Happens, HearsAt, arrives, at_socket, begins, dismisses, fails as front_fails, first_text, has_presented, hears}
+use Rattle.iv_desk.specs.Front.{Front, FrontRuns, Happens, HearsAt, arrives, at_socket, begins, dismisses, fails as front_fails, leads as front_leads, first_text, has_presented, hears}
 use Rattle.iv_desk.specs.Front.{is_dropped, knows, later_text, leaves, let_in, no_text, nothing, offered, offered_to, offers, put_off, sends, socket_at, syncs}
 use Rattle.iv_desk.specs.Front.{forgives, takes, text_for, ticks, told_some, turned_away, with_both}
 use Rattle.iv_desk.specs.Desks.{IsLived}
@@ -249,5 +249,6 @@ IsOverFor-Happens l cap m d _ s t r a syncs here live there over = absurd (stays
 IsOverFor-Happens l cap m d _ s t r a (knows tokens) here live there over = absurd (stays_going s t (sym (same-Some s t (sym here ∙ there))) live over)
 IsOverFor-Happens l cap m d _ s t r a (arrives e w) here live there over = absurd (stays_going s t (sym (same-Some s t (sym here ∙ there))) live over)
 IsOverFor-Happens l cap m d _ s t r a ticks here live there over = absurd (stays_going s t (sym (same-Some s t (sym here ∙ there))) live over)
+IsOverFor-Happens l cap m d _ s t r a front_leads here live there over = absurd (stays_going s t (sym (same-Some s t (sym here ∙ there))) live over)
 IsOverFor-Happens l cap m d _ s t r a forgives here live there over = absurd (stays_going s t (sym (same-Some s t (sym here ∙ there))) live over)
 IsOverFor-Happens l cap m d _ s t r a front_fails here live there over = absurd (stays_going s t (sym (same-Some s t (sym here ∙ there))) live over)

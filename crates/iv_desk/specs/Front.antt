@@ -6,7 +6,7 @@ use Rattle.iv_rows.specs.Options.{if_some}
 use Rattle.iv_clients.specs.Clients.{at_client, client_at, is_free, text_shown}
 use Rattle.iv_clients.specs.Tokens.{Token, role_opened}
 use Rattle.iv_gate.specs.Arriving.{Step}
-use Rattle.iv_gate.specs.Events.{Event, IsWell, arrived, failed, forgave, gone, handed, known, message, next, presented, synced, ticked}
+use Rattle.iv_gate.specs.Events.{Event, IsWell, arrived, failed, forgave, gone, handed, known, led, message, next, presented, synced, ticked}
 use Rattle.iv_gate.specs.Gate.{Gate, is_heard, token_for}
 use Rattle.iv_gate.specs.Runs.{Runs}
 use Rattle.iv_peer.specs.Socket.{Socket, closed, fresh, is_open, passing, told_text, took}
@@ -138,6 +138,7 @@ pub data Happens (d : Front) : Front → Type 0 where
   syncs : Happens d (by_event synced d)
   knows : (tokens : List Token) → Happens d (by_event (known tokens) d)
   arrives : (s : Step) → IsWell (arrived s) → Happens d (by_event (arrived s) d)
+  leads : Happens d (by_event led d)
   ticks : Happens d (by_event ticked d)
   forgives : Happens d (by_event forgave d)
   fails : Happens d (by_event failed d)

@@ -2,8 +2,8 @@
 ghost use Rattle.std.specs.Prelude.{◌≡◌, ◌++◌, ℕ, [], Err, IfErr, IfOk, OnErr, OnOk, drop, false, option_map, take, true};
 ghost use Rattle.iv_clients.specs.Clients.{client_at, is_free};
 ghost use Rattle.iv_records.specs.Journal.{journal_of};
-ghost use Rattle.iv_gate.specs.Arriving.{settled_at};
-ghost use Rattle.iv_gate.specs.Events.{IsWell, arrived, failed, forgave, known, synced, ticked};
+ghost use Rattle.iv_gate.specs.Arriving.{position, settled_at};
+ghost use Rattle.iv_gate.specs.Events.{IsWell, arrived, failed, forgave, known, led, synced, ticked};
 ghost use Rattle.iv_gate.specs.Gate.{Gate};
 ghost use Rattle.iv_gate.specs.Restoring.{IsDamagedAt};
 ghost use Rattle.iv_gateway.specs.Arriving.{IsFaultOf, IsTakenBy};
@@ -267,6 +267,17 @@ impl Desk {
         }
     }
 
+    /// The log that is followed is led from now on, if one is: requests with names are decided here. A dead desk does nothing.
+    pub fn lead(&mut self)
+        ensures { (d : Front) → IsDesk d self.old → IsDesk (by_event led d) self.new }
+    {
+        events_leave_their_marks();
+        if self.dead {
+            return;
+        }
+        self.gateway.lead();
+    }
+
     /// Forgives names that were refused: once a minute. A dead desk does nothing.
     pub fn forgive(&mut self)
         ensures { (d : Front) → IsDesk d self.old → IsDesk (by_event forgave d) self.new }
@@ -331,6 +342,13 @@ impl Desk {
         ensures { (d : Front) → IsDesk d self.now → d.gate.dead ≡ false → WaitsWithin d.gate result }
     {
         self.gateway.waiting()
+    }
+
+    /// Where the log stands that is followed, or led.
+    pub fn position(&self) -> u64
+        ensures { (d : Front) → IsDesk d self.now → d.gate.dead ≡ false → result ≡ position d.gate }
+    {
+        self.gateway.position()
     }
 
     /// Up to where the log that is followed is on disk: what its source is to be told, and nothing beyond it.

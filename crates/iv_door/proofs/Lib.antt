@@ -1,2 +1,3 @@
 mod Texts
 mod Talks
+pub mod LedSteps

@@ -20,6 +20,7 @@ pub data Fault : Type 0 where
   no_entry : (line to : ℕ) → Fault
   not_accepted : (entry to refusal : ℕ) → Fault
   not_new : (name to : ℕ) → Fault
+  not_decided : (kept from to : ℕ) → Fault
 
 -- ---- words
 
@@ -34,6 +35,7 @@ words_of (gap to from position) = codes "step " ++ (decimal to ++ (codes " is fr
 words_of (no_entry line to) = codes "line " ++ (decimal line ++ (codes " of step " ++ (decimal to ++ codes " is no entry")))
 words_of (not_accepted entry to refusal) = codes "entry " ++ (decimal entry ++ (codes " of step " ++ (decimal to ++ (codes " is refused by " ++ decimal refusal))))
 words_of (not_new name to) = codes "name " ++ (decimal name ++ (codes " of step " ++ (decimal to ++ codes " may have an answer already")))
+words_of (not_decided kept from to) = codes "kept " ++ (decimal kept ++ (codes " is not from " ++ (decimal from ++ (codes " to " ++ decimal to))))
 
 -- ---- lines
 
@@ -49,6 +51,10 @@ hello rows held = codes "{\"door\":1,\"rows\":" ++ (decimal rows ++ (if_some hel
 
 abbrev pub on_disk : (position : ℕ) → List ℕ
 on_disk position = codes "{\"on_disk\":" ++ (decimal position ++ codes "}")
+
+-- it decides from a position on, which it has on disk
+abbrev pub leads : (position : ℕ) → List ℕ
+leads position = codes "{\"leads\":" ++ (decimal position ++ codes "}")
 
 abbrev pub recalled : (position : ℕ) → List ℕ
 recalled position = codes "{\"recalled\":" ++ (decimal position ++ codes "}")

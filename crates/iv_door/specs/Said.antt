@@ -10,7 +10,7 @@ pub record Log : Type 0 where
   pub epoch : List ℕ
 
 -- it begins a log, or goes on with one; asks what is held; brings a text of the step that is under way, or ends that step, from one position to
--- another; says that clients may come in, or that nobody may
+-- another; says that clients may come in, or that nobody may; that the gateway leads from here on; and up to where it has what that decided
 pub data Said : Type 0 where
   begins : Log → Said
   goes_on : Log → Said
@@ -19,6 +19,8 @@ pub data Said : Type 0 where
   ends : (from to : ℕ) → Said
   opens : Said
   shuts : Said
+  leads : Said
+  keeps : (position : ℕ) → Said
 
 -- ---- lines
 
@@ -33,6 +35,8 @@ line_of (brings text) = 123 ∷ text
 line_of (ends from to) = codes "{\"from\":" ++ (decimal from ++ 44 ∷ position_text to)
 line_of opens = codes "{\"open\":true}"
 line_of shuts = codes "{\"open\":false}"
+line_of leads = codes "{\"lead\":true}"
+line_of (keeps position) = codes "{\"kept\":" ++ (decimal position ++ codes "}")
 
 -- ---- which are well
 
@@ -55,4 +59,5 @@ is_well (begins l) = has_form l
 is_well (goes_on l) = has_form l
 is_well (brings text) = is_brought text
 is_well (ends from to) = is_count from && is_count to
+is_well (keeps position) = is_count position
 is_well _ = true

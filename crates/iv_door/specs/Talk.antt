@@ -1,9 +1,9 @@
 -- A keeper's talk: how what it says is heard, line by line, however its bytes come.
-use Rattle.std.specs.Prelude.{◌≡◌, ◌≢◌, ◌<◌, ◌≤◌, ℕ, ◌+◌, ◌==◌, ◌&&◌, Bool, true, false, if◌then◌else◌, List, [], ◌∷◌, ◌++◌, bytes_eq, length, nat_le, nat_lt, Option, None, Some}
+use Rattle.std.specs.Prelude.{◌≡◌, ◌≢◌, ◌<◌, ◌≤◌, ℕ, ◌+◌, ◌==◌, ◌&&◌, not, Bool, true, false, if◌then◌else◌, List, [], ◌∷◌, ◌++◌, bytes_eq, length, nat_le, nat_lt, Option, None, Some}
 use Rattle.std.specs.List.{list_any}
 use Rattle.iv_rows.specs.Options.{if_some}
 use Rattle.iv_records.specs.Journal.{position_text}
-use Rattle.iv_door.specs.Said.{Log, Said, begins, goes_on, recalls, brings, ends, opens, shuts, is_well, line_of}
+use Rattle.iv_door.specs.Said.{Log, Said, begins, goes_on, recalls, brings, ends, opens, shuts, leads, keeps, is_well, line_of}
 use Rattle.iv_door.specs.Answers.{Fault, too_long, no_line, wrong_time, no_log, other_log, no_room}
 
 -- bytes of a line without its newline, and lines and bytes of a step before its last line, at most
@@ -17,12 +17,13 @@ abbrev pub most_bytes : ℕ
 most_bytes = 268435456
 
 -- the bytes that were not heard yet; how many lines were; the log that the gateway follows; whether the keeper has begun it, or gone on with it;
--- the texts of the step that is under way, and the bytes of their lines
+-- whether the gateway leads it; the texts of the step that is under way, and the bytes of their lines
 pub record Talk : Type 0 where
   pub unread : List ℕ
   pub lines : ℕ
   pub log : Option Log
   pub follows : Bool
+  pub leads : Bool
   pub texts : List (List ℕ)
   pub size : ℕ
 
@@ -35,6 +36,8 @@ pub data Act : Type 0 where
   ended : (from to : ℕ) (texts : List (List ℕ)) → Act
   opened : Act
   shut : Act
+  led : Act
+  kept : (position : ℕ) → Act
 
 pub data Heard : Type 0 where
   nothing : Heard
@@ -43,7 +46,7 @@ pub data Heard : Type 0 where
 
 -- nothing was said
 abbrev pub at_start : Option Log → Talk
-at_start log = record { unread = []; lines = 0; log = log; follows = false; texts = []; size = 0 }
+at_start log = record { unread = []; lines = 0; log = log; follows = false; leads = false; texts = []; size = 0 }
 
 -- its step is taken: another one is under way
 abbrev pub stepped : Talk → Talk
@@ -69,14 +72,28 @@ before t x = if t.follows then (fails (wrong_time t.lines), t) else x
 abbrev pub behind : Talk → Heard × Talk → Heard × Talk
 behind t x = if t.follows then x else (fails (wrong_time t.lines), t)
 
+-- it is of steps that the keeper brings, which it does until the gateway leads
+abbrev pub bringing : Talk → Heard × Talk → Heard × Talk
+bringing t x = if t.follows && not t.leads then x else (fails (wrong_time t.lines), t)
+
+-- it is of steps that the gateway decides
+abbrev pub leading : Talk → Heard × Talk → Heard × Talk
+leading t x = if t.leads then x else (fails (wrong_time t.lines), t)
+
+-- no step is under way
+abbrev pub is_between : Talk → Bool
+is_between t = length t.texts == 0
+
 abbrev pub says : Talk → Said → Heard × Talk
 says t (begins l) = before t (if_some t.log (acts begun, record t { log = Some l; follows = true }) (λ k. (fails (other_log k), t)))
 says t (goes_on l) = before t (if_some t.log (fails no_log, t) (λ k. if is_same k l then (acts gone_on, record t { follows = true }) else (fails (other_log k), t)))
 says t recalls = before t (if_some t.log (fails no_log, t) (λ k. (acts recalled, t)))
-says t (brings text) = behind t (if has_room t text then (acts brought, with_text text t) else (fails no_room, t))
-says t (ends from to) = behind t (acts (ended from to (t.texts ++ position_text to ∷ [])), stepped t)
+says t (brings text) = bringing t (if has_room t text then (acts brought, with_text text t) else (fails no_room, t))
+says t (ends from to) = bringing t (acts (ended from to (t.texts ++ position_text to ∷ [])), stepped t)
 says t opens = behind t (acts opened, t)
 says t shuts = behind t (acts shut, t)
+says t leads = bringing t (if is_between t then (acts led, record t { leads = true }) else (fails (wrong_time t.lines), t))
+says t (keeps position) = leading t (acts (kept position), t)
 
 -- ---- lines
 

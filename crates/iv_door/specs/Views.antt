@@ -1,8 +1,8 @@
 -- For contracts of the code: what its values are to the definitions.
 use Rattle.std.specs.Prelude.{◌≡◌, ℕ, ◌+◌, List, ◌∷◌, ◌++◌, false, map, true, Option, None, Some}
-use Rattle.iv_door.specs.Answers.{Fault, too_long, no_line, wrong_time, no_log, other_log, no_room, gap, no_entry, not_accepted, not_new}
+use Rattle.iv_door.specs.Answers.{Fault, too_long, no_line, wrong_time, no_log, other_log, no_room, gap, no_entry, not_accepted, not_new, not_decided}
 use Rattle.iv_door.specs.Said as spec
-use Rattle.iv_door.specs.Talk.{Act, Heard, Talk, acts, fails, has_newline, nothing, begun, gone_on, recalled, brought, ended, opened, shut}
+use Rattle.iv_door.specs.Talk.{Act, Heard, Talk, acts, fails, has_newline, nothing, begun, gone_on, recalled, brought, ended, opened, shut, led, kept}
 use Rattle.iv_door.specs.declared.said.Said.{Said}
 use Rattle.iv_door.specs.declared.said.Said.TheVariants as said
 use Rattle.iv_door.specs.declared.talk.Act.{Act as ActCode}
@@ -18,6 +18,8 @@ said_of (said.Bring text) = spec.brings text.items
 said_of (said.End from to) = spec.ends from to
 said_of said.Open = spec.opens
 said_of said.Shut = spec.shuts
+said_of said.Lead = spec.leads
+said_of (said.Keep position) = spec.keeps position
 
 -- a log's line
 abbrev pub IsLogIn : (line front : List ℕ) → spec.Log → Type 0
@@ -28,6 +30,7 @@ abbrev pub IsWord : spec.Said → Type 0
 IsWord spec.recalls = Unit {0}
 IsWord spec.opens = Unit {0}
 IsWord spec.shuts = Unit {0}
+IsWord spec.leads = Unit {0}
 IsWord _ = ⊥
 
 abbrev pub act_of : ActCode → Act
@@ -38,6 +41,8 @@ act_of act.Brought = brought
 act_of (act.Ended from to texts) = ended from to (map (λ v. v.items) texts.items)
 act_of act.Opened = opened
 act_of act.Shut = shut
+act_of act.Led = led
+act_of (act.Kept position) = kept position
 
 -- out of memory says nothing
 abbrev pub fault_of : FaultCode → Option Fault
@@ -51,6 +56,7 @@ fault_of (fault.Gap to from position) = Some (gap to from position)
 fault_of (fault.NoEntry line to) = Some (no_entry line to)
 fault_of (fault.NotAccepted entry to refusal) = Some (not_accepted entry to refusal)
 fault_of (fault.NotNew name to) = Some (not_new name to)
+fault_of (fault.NotDecided number from to) = Some (not_decided number from to)
 fault_of fault.Memory = None
 
 abbrev pub heard_of : Option ActCode → Heard

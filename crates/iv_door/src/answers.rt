@@ -2,7 +2,7 @@
 ghost use Rattle.std.specs.Prelude.{◌≡◌, ◌++◌, [], OnOk, codes, decimal, option_map};
 ghost use Rattle.iv_rows.specs.Options.{if_some};
 ghost use Rattle.iv_records.specs.Journal.{position_text};
-ghost use Rattle.iv_door.specs.Answers.{gap, held_text, hello, not_accepted, on_disk, other_log, recalled, words_of};
+ghost use Rattle.iv_door.specs.Answers.{gap, held_text, hello, leads, not_accepted, not_decided, on_disk, other_log, recalled, words_of};
 ghost use Rattle.iv_door.specs.Views.{fault_of};
 
 use crate::said::Log;
@@ -32,6 +32,8 @@ pub enum Fault {
     NotAccepted(u64, u64, u64),
     /// This name of the step to a position may have an answer already.
     NotNew(u64, u64),
+    /// The first position is said to be kept, and it is not from the second, which was, to the third, of which the keeper was told.
+    NotDecided(u64, u64, u64),
     /// A growth of memory was refused.
     Memory,
 }
@@ -136,6 +138,15 @@ fn push_refused(out: &mut Vec<u8>, entry: u64, to: u64, refusal: u64) -> Result<
     Ok(())
 }
 
+/// Appends which position is said to be kept, and between which it may be.
+fn push_undecided(out: &mut Vec<u8>, kept: u64, from: u64, to: u64) -> Result<(), AllocError>
+    ensures { OnOk result (out.new.items ≡ out.old.items ++ words_of (not_decided kept from to)) }
+{
+    push_both(out, b"kept ", kept, b" is not from ", from, b" to ")?;
+    push_number(out, to)?;
+    Ok(())
+}
+
 /// Appends the words of a fault: none for want of memory.
 ///
 /// # Errors
@@ -163,6 +174,7 @@ pub fn push_words(out: &mut Vec<u8>, fault: &Fault) -> Result<(), AllocError>
             *to,
             b" may have an answer already",
         ),
+        Fault::NotDecided(kept, from, to) => push_undecided(out, *kept, *from, *to),
         Fault::Memory => Ok(()),
     }
 }
@@ -249,4 +261,14 @@ pub fn push_recalled(out: &mut Vec<u8>, position: u64) -> Result<(), AllocError>
     ensures { OnOk result (out.new.items ≡ out.old.items ++ recalled position) }
 {
     push_with(out, b"{\"recalled\":", position, b"}")
+}
+
+/// Appends the line of where it begins to decide, without its newline.
+///
+/// # Errors
+/// `AllocError` if a growth of memory was refused.
+pub fn push_leads(out: &mut Vec<u8>, position: u64) -> Result<(), AllocError>
+    ensures { OnOk result (out.new.items ≡ out.old.items ++ leads position) }
+{
+    push_with(out, b"{\"leads\":", position, b"}")
 }

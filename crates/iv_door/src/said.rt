@@ -3,7 +3,7 @@ ghost use Rattle.std.specs.Prelude.{◌≡◌, ◌≢◌, ◌<◌, ◌^◌, ◌=
 ghost use Rattle.std.specs.List.{list_all, list_any};
 ghost use Rattle.iv_door.specs.Said as spec;
 ghost use Rattle.iv_records.specs.Names.{is_between, is_epoch};
-ghost use Rattle.iv_door.specs.Said.{ends, has_form, is_brought, is_letter, is_name, is_well, line_of};
+ghost use Rattle.iv_door.specs.Said.{ends, has_form, is_brought, is_letter, is_name, is_well, keeps, line_of};
 ghost use Rattle.iv_door.specs.Talk.{IsSaidBy};
 ghost use Rattle.iv_door.specs.Views.{IsLogIn, IsWord, said_of};
 
@@ -45,6 +45,10 @@ pub enum Said {
     Open,
     /// Nobody may.
     Shut,
+    /// The gateway leads the log from here on.
+    Lead,
+    /// What the gateway has decided is in the log, up to a position.
+    Keep(u64),
 }
 
 /// What follows a first text.
@@ -201,6 +205,14 @@ fn step_in(line: &[u8]) -> Option<(u64, u64)>
     Some((number_in(from)?, number_in(to)?))
 }
 
+/// The position up to which what was decided is kept, by the line that says so.
+fn kept_in(line: &[u8]) -> Option<u64>
+    ensures some { IfSome result (λ p. line_of (keeps p) ≡ line.now) }
+    ensures none { result ≡ None → (p : ℕ) → is_well (keeps p) ≡ true → line_of (keeps p) ≢ line.now }
+{
+    number_in(within(line, b"{\"kept\":", b"}")?)
+}
+
 /// Whether a text begins as that of a request does, or of a name.
 fn is_brought(text: &[u8]) -> bool
     ensures { result ≡ is_brought text.now }
@@ -228,6 +240,8 @@ fn word_in(line: &[u8]) -> Option<Said>
         Some(Said::Open)
     } else if line == b"{\"open\":false}".as_slice() {
         Some(Said::Shut)
+    } else if line == b"{\"lead\":true}".as_slice() {
+        Some(Said::Lead)
     } else {
         None
     }
@@ -245,6 +259,9 @@ pub fn read_said(alloc: Global, line: &[u8]) -> Result<Option<Said>, AllocError>
     }
     if let Some((from, to)) = step_in(line) {
         return Ok(Some(Said::End(from, to)));
+    }
+    if let Some(position) = kept_in(line) {
+        return Ok(Some(Said::Keep(position)));
     }
     if let Some(said) = word_in(line) {
         return Ok(Some(said));

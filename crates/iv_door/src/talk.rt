@@ -1,6 +1,6 @@
 //! `Talk`: how what a keeper says is heard, line by line.
-ghost use Rattle.std.specs.Prelude.{◌≡◌, ◌≤◌, ◌++◌, false, true, Some, length, IfErr, IfOk, IfSome, OnOk, option_map};
-ghost use Rattle.iv_door.specs.Said.{begins, brings, ends, goes_on, recalls};
+ghost use Rattle.std.specs.Prelude.{◌≡◌, ◌≤◌, ◌++◌, ◌&&◌, not, false, true, Some, length, IfErr, IfOk, IfSome, OnOk, option_map};
+ghost use Rattle.iv_door.specs.Said.{begins, brings, ends, goes_on, keeps, leads, recalls};
 ghost use Rattle.iv_door.specs.Answers.{other_log};
 ghost use Rattle.iv_door.specs.Talk as spec;
 ghost use Rattle.iv_door.specs.Talk.{Hears, HearsLine, IsSaidBy, acts, at_start, fails, has_newline, has_room, is_same, most_line};
@@ -39,6 +39,10 @@ pub enum Act {
     Opened,
     /// Nobody may.
     Shut,
+    /// The gateway leads the log from here on.
+    Led,
+    /// What the gateway has decided is in the log, up to a position.
+    Kept(u64),
 }
 
 /// A keeper's talk.
@@ -56,6 +60,8 @@ pub struct Talk {
     log: Option<Log>,
     /// Whether the keeper has begun it, or gone on with it.
     follows: bool,
+    /// Whether the gateway leads it.
+    leads: bool,
     /// The texts of the step that is under way.
     texts: Vec<Vec<u8>>,
     /// The bytes of their lines.
@@ -73,6 +79,7 @@ impl Model for Talk {
       lines = t.lines;
       log = t.log;
       follows = t.follows;
+      leads = t.leads;
       texts = map (λ v. v.items) t.texts.items;
       size = t.size;
     } };
@@ -90,6 +97,7 @@ impl Talk {
             lines: 0,
             log,
             follows: false,
+            leads: false,
             texts: Vec::new(alloc),
             size: 0,
         }
@@ -227,12 +235,19 @@ impl Talk {
         }
     }
 
+    /// Whether it brings steps: it does until the gateway leads.
+    fn is_bringing(&self) -> bool
+        ensures { result ≡ (self.now.follows && not self.now.leads) }
+    {
+        self.follows && !self.leads
+    }
+
     /// It brings a text.
     fn bring(&mut self, text: Vec<u8>) -> Result<Act, Fault>
         ensures says { IfOk result (λ a. spec.says self.old (brings text.items) ≡ (acts (act_of a), self.new)) }
         ensures fault { IfErr result (λ f. IfSome (fault_of f) (λ g. (spec.says self.old (brings text.items)).0 ≡ fails g)) }
     {
-        if !self.follows {
+        if !self.is_bringing() {
             return Err(Fault::WrongTime(self.lines));
         }
         if !self.has_room(&text) {
@@ -248,7 +263,7 @@ impl Talk {
         ensures says { IfOk result (λ a. spec.says self.old (ends from to) ≡ (acts (act_of a), self.new)) }
         ensures fault { IfErr result (λ f. IfSome (fault_of f) (λ g. (spec.says self.old (ends from to)).0 ≡ fails g)) }
     {
-        if !self.follows {
+        if !self.is_bringing() {
             return Err(Fault::WrongTime(self.lines));
         }
         let mut text = Vec::new(self.alloc);
@@ -271,6 +286,32 @@ impl Talk {
         }
     }
 
+    /// It says that the gateway leads.
+    fn lead(&mut self) -> Result<Act, Fault>
+        ensures says { IfOk result (λ a. spec.says self.old leads ≡ (acts (act_of a), self.new)) }
+        ensures fault { IfErr result (λ f. IfSome (fault_of f) (λ g. (spec.says self.old leads).0 ≡ fails g)) }
+    {
+        if !self.is_bringing() {
+            return Err(Fault::WrongTime(self.lines));
+        }
+        if !self.texts.is_empty() {
+            return Err(Fault::WrongTime(self.lines));
+        }
+        self.leads = true;
+        Ok(Act::Led)
+    }
+
+    /// It says up to where what was decided is in the log.
+    fn keep(&self, position: u64) -> Result<Act, Fault>
+        ensures says { IfOk result (λ a. spec.says self.now (keeps position) ≡ (acts (act_of a), self.now)) }
+        ensures fault { IfErr result (λ f. IfSome (fault_of f) (λ g. (spec.says self.now (keeps position)).0 ≡ fails g)) }
+    {
+        if !self.leads {
+            return Err(Fault::WrongTime(self.lines));
+        }
+        Ok(Act::Kept(position))
+    }
+
     /// Does what is said.
     fn heed(&mut self, said: Said) -> Result<Act, Fault>
         ensures says { IfOk result (λ a. spec.says self.old (said_of said) ≡ (acts (act_of a), self.new)) }
@@ -284,6 +325,8 @@ impl Talk {
             Said::End(from, to) => self.end(from, to),
             Said::Open => self.say(Act::Opened),
             Said::Shut => self.say(Act::Shut),
+            Said::Lead => self.lead(),
+            Said::Keep(position) => self.keep(position),
         }
     }
 

@@ -79,6 +79,7 @@ impl Following {
             rows: settings.rows,
             journal,
             log: None,
+            lead: None,
             scratch: Scratch::new(rt.alloc()),
         };
         Ok(Following {
@@ -145,7 +146,7 @@ impl Following {
     }
 
     /// Whether a keeper is there.
-    fn has_keeper(&self) -> bool
+    pub(crate) fn has_keeper(&self) -> bool
         ensures { result ≡ has_keeper self.now.guest }
     {
         match &self.guest {
@@ -190,7 +191,8 @@ impl Following {
     /// who goes all clients go, and none comes in until the next one says so.
     ///
     /// # Errors
-    /// `Log` if what is said cannot be, which is told by `last_words`; `Memory` if a growth of memory was refused.
+    /// `Log` if what is said cannot be, which is told by `last_words`, or if a keeper has gone whose log is led; `Memory` if a growth of memory
+    /// was refused.
     pub fn hear(
         &mut self,
         desk: &mut Desk,
@@ -212,6 +214,7 @@ impl Following {
         } else {
             self.let_go();
         }
+        self.is_over()?;
         self.shut_without(desk, server)?;
         self.hurry();
         Ok(self.has_ended())

@@ -1,10 +1,11 @@
 //! `Keeper`: what a keeper says, and what is done with that; `Means`: what that is done with.
-ghost use Rattle.std.specs.Prelude.{◌≡◌, [], IfOk, OnOk, false, map, option_map, true};
+ghost use Rattle.std.specs.Prelude.{◌≡◌, [], IfOk, OnOk, Some, false, map, option_map, true};
 ghost use Rattle.iv_door.specs.Talk.{at_start, ended};
 ghost use Rattle.iv_door.specs.Views.{act_of};
 ghost use Rattle.iv_running.specs.Running.{Leads};
-ghost use Rattle.iv_following.specs.Following.{HeedsAll, IsHeard, IsHeeded, said_log};
+ghost use Rattle.iv_following.specs.Following.{HeedsAll, IsHeard, IsHeeded, IsKept, Lead as Leading, said_log};
 
+use crate::leading::{Lead, begin_to_lead};
 use crate::logs::said_logs;
 use crate::steps::take_step;
 use crate::telling::Told;
@@ -31,6 +32,8 @@ pub(crate) struct Means {
     pub(crate) journal: String,
     /// The log that is followed.
     pub(crate) log: Option<Log>,
+    /// How far that is led, if it is.
+    pub(crate) lead: Option<Lead>,
     /// What JSON is read with.
     pub(crate) scratch: Scratch,
 }
@@ -57,7 +60,8 @@ fn end_step(
     texts: &[Vec<u8>],
 ) -> Result<(), Fault>
     ensures leads { Leads desk.old desk.new }
-    ensures heeded { OnOk result (IsHeeded means.old.log (ended from to (map (λ v. v.items) texts.now)) desk.old server.old.open desk.new server.new.open) }
+    ensures heeded { OnOk result (IsHeeded means.old.log (ended from to (map (λ v. v.items) texts.now))
+        (record { desk = desk.old; may = server.old.open; lead = means.old.lead }) (record { desk = desk.new; may = server.new.open; lead = means.new.lead })) }
     ensures owed { OnOk result (told.new.owes ≡ true) }
     ensures same { means.new.log ≡ means.old.log }
 {
@@ -82,6 +86,22 @@ fn end_step(
     }
 }
 
+/// What was decided is in the log up to a position.
+fn keep(means: &mut Means, told: &mut Told, position: u64) -> Result<(), Fault>
+    ensures kept { OnOk result ((a : Leading) × (means.old.lead ≡ Some a) × (b : Leading) × IsKept position a b × (means.new.lead ≡ Some b)) }
+    ensures owed { OnOk result (told.new.owes ≡ true) }
+    ensures same { means.new.log ≡ means.old.log }
+{
+    let Some(lead) = &mut means.lead else {
+        return Err(Fault::Desk);
+    };
+    told.owe();
+    match lead.keep(position) {
+        Ok(()) => Ok(()),
+        Err(fault) => Err(told.fail(&means.rt, &fault)),
+    }
+}
+
 /// Does what a line asks.
 fn heed(
     means: &mut Means,
@@ -91,7 +111,8 @@ fn heed(
     act: Act,
 ) -> Result<(), Fault>
     ensures leads { Leads desk.old desk.new }
-    ensures heeded { OnOk result (IsHeeded means.old.log (act_of act) desk.old server.old.open desk.new server.new.open) }
+    ensures heeded { OnOk result (IsHeeded means.old.log (act_of act) (record { desk = desk.old; may = server.old.open; lead = means.old.lead })
+        (record { desk = desk.new; may = server.new.open; lead = means.new.lead })) }
     ensures same { means.new.log ≡ means.old.log }
 {
     match act {
@@ -103,6 +124,12 @@ fn heed(
             Ok(())
         }
         Act::Shut => server.shut(desk),
+        Act::Led => {
+            means.lead = Some(begin_to_lead(desk));
+            told.leads = true;
+            Ok(())
+        }
+        Act::Kept(position) => keep(means, told, position),
     }
 }
 
@@ -131,7 +158,8 @@ impl Keeper {
         server: &mut Server,
     ) -> Result<bool, Fault>
         ensures leads { Leads desk.old desk.new }
-        ensures heard { IfOk result (λ is. IsHeard means.old.log is self.old.talk self.new.talk desk.old server.old.open desk.new server.new.open) }
+        ensures heard { IfOk result (λ is. IsHeard means.old.log is self.old.talk self.new.talk
+            (record { desk = desk.old; may = server.old.open; lead = means.old.lead }) (record { desk = desk.new; may = server.new.open; lead = means.new.lead })) }
         ensures same { means.new.log ≡ means.old.log }
     {
         match self.talk.hear() {
@@ -144,7 +172,8 @@ impl Keeper {
         }
     }
 
-    /// Hears the lines that have come, until much waits for the journal, or for the keeper. Whether the next round is to come at once.
+    /// Hears the lines that have come, until much waits for the keeper, or for the journal, unless that waits for the keeper. Whether the next
+    /// round is to come at once.
     ///
     /// # Errors
     /// `Log` if what is said cannot be, which it is told; `Memory` if a growth of memory was refused.
@@ -155,14 +184,15 @@ impl Keeper {
         server: &mut Server,
     ) -> Result<bool, Fault>
         ensures leads { Leads desk.old desk.new }
-        ensures heeds { OnOk result (HeedsAll means.old.log self.old.talk desk.old server.old.open self.new.talk desk.new server.new.open) }
+        ensures heeds { OnOk result (HeedsAll means.old.log self.old.talk (record { desk = desk.old; may = server.old.open; lead = means.old.lead })
+            self.new.talk (record { desk = desk.new; may = server.new.open; lead = means.new.lead })) }
     {
         self.late = true;
         'lines: for _ in 0..u32::MAX {
             if self.told.out.len() > MOST_OUT {
                 return Ok(false);
             }
-            if !may_read(desk) {
+            if means.lead.is_none() && !may_read(desk) {
                 return Ok(true);
             }
             if !self.hear_line(means, desk, server)? {

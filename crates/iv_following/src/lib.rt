@@ -9,6 +9,8 @@ mod coming;
 mod following;
 mod guest;
 mod keeper;
+mod leading;
+mod led;
 mod logs;
 mod shown;
 mod steps;

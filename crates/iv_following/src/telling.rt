@@ -1,5 +1,5 @@
 //! `Told`: what a keeper is told: what is held, what is on disk, what was recalled, and why nothing more is taken.
-ghost use Rattle.std.specs.Prelude.{◌≡◌, ◌++◌, ◌∷◌, [], OnOk, Some, false, if◌then◌else◌, option_map};
+ghost use Rattle.std.specs.Prelude.{◌≡◌, ◌++◌, ◌∷◌, [], OnOk, Some, false, if◌then◌else◌, option_map, true};
 ghost use Rattle.iv_gate.specs.Arriving.{settled_at};
 ghost use Rattle.iv_desk.specs.Desks.{IsDesk};
 ghost use Rattle.iv_desk.specs.Front.{Front};
@@ -23,6 +23,8 @@ pub(crate) struct Told {
     pub(crate) sent: usize,
     /// It is to be told what is on disk.
     pub(crate) owes: bool,
+    /// It is to be told that the gateway leads.
+    pub(crate) leads: bool,
 }
 
 /// Says why nothing more is taken.
@@ -44,7 +46,15 @@ impl Told {
             out: Vec::new(alloc),
             sent: 0,
             owes: false,
+            leads: false,
         }
+    }
+
+    /// The keeper is to be told what is on disk.
+    pub(crate) fn owe(&mut self)
+        ensures { self.new ≡ record self.old { owes = true } }
+    {
+        self.owes = true;
     }
 
     /// Appends what is held: the log that is followed, up to a position.

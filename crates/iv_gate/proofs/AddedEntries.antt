@@ -20,10 +20,10 @@ use Rattle.iv_steps.specs.Steps.{first_refused, shared}
 use Rattle.iv_clients.specs.Clients.{Client}
 use Rattle.iv_records.specs.Journal.{Entry, IsEntry, IsNamed, IsRequest, Request, claim_said, has_newline, is_digest, is_shared, line_said, names_in, position_of, said_by}
 use Rattle.iv_records.specs.Laws.{ClaimsAreWell, HoldersAreText}
-use Rattle.iv_records.specs.Names.{Claim, limits}
+use Rattle.iv_records.specs.Names.{Claim, limits, is_count}
 use Rattle.iv_records.proofs.CutParts.{but_last-push}
 use Rattle.iv_gate.specs.Arriving.{Fault, Step, entry_of, fact_of, fault_of, first_known, gap, was_taken, is_log, is_new, not_accepted, not_new, other_log, position}
-use Rattle.iv_gate.specs.Gate.{Gate, answer_text, asked_by, came, went, entries_of, is_accepted, known_at, known_of, may_have, names_of}
+use Rattle.iv_gate.specs.Gate.{Gate, answer_text, asked_by, came, went, entries_of, is_accepted, known_at, known_of, may_have, names_of, next_position, is_elsewhere}
 use Rattle.iv_gate.specs.Restoring.{are_rising}
 use Rattle.iv_gate.proofs.NameVerdicts.{is_new-verdict, first_known-append}
 use Rattle.iv_gate.proofs.JournalDamage.{both_so, names_in-append}
@@ -98,13 +98,32 @@ abbrev AreAsked : Gate → Option Ask → Reply → Type 0
 AreAsked g None r = Unit {0}
 AreAsked g (Some a) r = IsAsked g a r
 
-request_more : (g : Gate) (q : Request) (name : Option Ask) (r : Reply) → IsRequest q → AreAsked g name r → MayAdd g (entries_of q name r)
+-- the next position is one of a journal, and after the last
+next_counts : (g : Gate) → if_some (next_position g) true is_count ≡ true
+next_counts g = by g.leads (is_count (position g + 1)) refl
+  where
+    by : (l c : Bool) → is_count (position g + 1) ≡ c → if_some (cond (l && c) (Some (position g + 1)) None) true is_count ≡ true
+    by true true e = e
+    by true false e = refl
+    by false c e = refl
+
+next_rises : (g : Gate) → if_some (next_position g) true (nat_lt (position g)) ≡ true
+next_rises g = by (g.leads && is_count (position g + 1))
+  where
+    by : (l : Bool) → if_some (cond l (Some (position g + 1)) None) true (nat_lt (position g)) ≡ true
+    by true = lt-ltb (position g) (position g + 1) (omega arith)
+    by false = refl
+
+rises_on : (g : Gate) → (if_some (next_position g) true (nat_lt (position g)) && true) ≡ true
+rises_on g = ap (λ b. b && true) (next_rises g)
+
+request_more : (g : Gate) (q : Request) (name : Option Ask) (r : Reply) → IsRequest q → AreAsked g name r → MayAdd g (entries_of (next_position g) q name r)
 request_more g q None r w a = by (is_shared q.act) (is_accepted r)
   where
-    by : (x y : Bool) → MayAdd g (cond (x && (y || false)) (record { requests = cond y (q ∷ []) []; names = []; position = None } ∷ []) [])
+    by : (x y : Bool) → MayAdd g (cond (x && (y || false)) (record { requests = cond y (q ∷ []) []; names = []; position = next_position g } ∷ []) [])
     by false y = nothing_more g
     by true false = nothing_more g
-    by true true = record { well = (record { requests = (w, tt); names = tt; position = refl; some = λ h. no_cons _ _ h }, tt); names = refl; steps = refl }
+    by true true = record { well = (record { requests = (w, tt); names = tt; position = next_counts g; some = λ h. no_cons _ _ h }, tt); names = refl; steps = rises_on g }
 request_more g q (Some a) r w x = by (is_shared q.act) (is_accepted r) refl
   where
     first : Named
@@ -113,10 +132,10 @@ request_more g q (Some a) r w x = by (is_shared q.act) (is_accepted r) refl
     fresh : first_known 1 (first ∷ []) (known_of g) ≡ None
     fresh = ap (λ b. cond b None (Some (not_new 1))) x.fresh
 
-    by : (s y : Bool) → is_accepted r ≡ y → MayAdd g (cond (s && (y || true)) (record { requests = cond y (q ∷ []) []; names = first ∷ []; position = None } ∷ []) [])
+    by : (s y : Bool) → is_accepted r ≡ y → MayAdd g (cond (s && (y || true)) (record { requests = cond y (q ∷ []) []; names = first ∷ []; position = next_position g } ∷ []) [])
     by false y e = nothing_more g
-    by true true e = record { well = (record { requests = (w, tt); names = (x.well, tt); position = refl; some = λ h. no_cons _ _ h }, tt); names = fresh; steps = refl }
-    by true false e = record { well = (record { requests = tt; names = (x.well, tt); position = refl; some = λ h. no_cons _ _ h }, tt); names = fresh; steps = refl }
+    by true true e = record { well = (record { requests = (w, tt); names = (x.well, tt); position = next_counts g; some = λ h. no_cons _ _ h }, tt); names = fresh; steps = rises_on g }
+    by true false e = record { well = (record { requests = tt; names = (x.well, tt); position = next_counts g; some = λ h. no_cons _ _ h }, tt); names = fresh; steps = rises_on g }
 
 -- ---- a name
 
@@ -176,9 +195,9 @@ named_well texts c text k r name h =
 
 module _ (texts : Texts) (g : Gate) (c : Client) (text : List ℕ) (name : is_name c.role ≡ true) where
   decided_more : (q : Request) (o : Option Ask) → IsRequest q → ((r : Reply) → AreAsked g o r) → MayAdd g (decided_added g q o)
-  decided_more q o w a = by (is_some g.head.log)
+  decided_more q o w a = by (is_elsewhere g o)
     where
-      by : (t : Bool) → MayAdd g (cond t [] (entries_of q o (carried_reply g q)))
+      by : (t : Bool) → MayAdd g (cond t [] (entries_of (next_position g) q o (carried_reply g q)))
       by true = nothing_more g
       by false = request_more g q o (carried_reply g q) w (a (carried_reply g q))
 

@@ -18,8 +18,8 @@ use Rattle.iv_clients.specs.Clients.{Client, Sub, answered, at_client, client_at
 use Rattle.iv_clients.specs.Feeds.{Feed, feed_for, room_for}
 use Rattle.iv_records.specs.Journal.{Entry, said_by, shape_for, Request, claim_said}
 use Rattle.iv_clients.proofs.Slots.{client_at-at_client, same-Some, not_None-Some}
-use Rattle.iv_gate.specs.Events.{Event, presented, message, gone, known, ticked, synced, handed, failed, happens, next, arrived, forgave}
-use Rattle.iv_gate.specs.Gate.{Gate, begun_for, closes, done_for, hears, seated, settles, swept, tells, asked_by, at_text, decided_elsewhere, entered, entries_of, may_have, names_of, reply_told}
+use Rattle.iv_gate.specs.Events.{Event, presented, message, gone, known, ticked, synced, handed, failed, happens, next, arrived, forgave, led}
+use Rattle.iv_gate.specs.Gate.{Gate, begun_for, closes, done_for, hears, seated, settles, swept, tells, asked_by, at_text, decided_elsewhere, entered, entries_of, may_have, names_of, reply_told, next_position, is_elsewhere}
 use Rattle.iv_gate.specs.Replies.{IsAnswered, IsClient, heard_by, is_opened, is_reply, reading_told, replies, told_by}
 use Rattle.iv_gate.specs.Seen.{IsClosed, has_ended, is_end_of}
 use Rattle.iv_gate.proofs.GrownTexts.{drop-append_front}
@@ -57,6 +57,7 @@ IsOwn-heard_by m c ticked text h = absurd (not_None-Some text (sym h))
 IsOwn-heard_by m c synced text h = absurd (not_None-Some text (sym h))
 IsOwn-heard_by m c (handed n) text h = absurd (not_None-Some text (sym h))
 IsOwn-heard_by m c (arrived st) text h = absurd (not_None-Some text (sym h))
+IsOwn-heard_by m c led text h = absurd (not_None-Some text (sym h))
 IsOwn-heard_by m c forgave text h = absurd (not_None-Some text (sym h))
 IsOwn-heard_by m c failed text h = absurd (not_None-Some text (sym h))
 
@@ -219,7 +220,7 @@ read_is g c id rel = by (nat_lt (length c.subs) most_subs) (feed_for g.feeds c.r
     by false o = refl
 
 decided_is : (g : Gate) (id : Option Data) (q : Request) (name : Option Ask) → is_reply (decided_reply g id q name) ≡ true
-decided_is g id q name = by (is_some g.head.log)
+decided_is g id q name = by (is_elsewhere g name)
   where
     elsewhere_is : (o : Option Ask) → is_reply (decided_elsewhere id o) ≡ true
     elsewhere_is None = refl
@@ -231,7 +232,7 @@ decided_is g id q name = by (is_some g.head.log)
 
     by : (l : Bool) → is_reply (cond l (decided_elsewhere id name) (done_reply g id q name (carried_reply g q))) ≡ true
     by true = elsewhere_is name
-    by false = told_is (entered g (entries_of q name (carried_reply g q))) name (carried_reply g q)
+    by false = told_is (entered g (entries_of (next_position g) q name (carried_reply g q))) name (carried_reply g q)
 
 verdict_is : (g : Gate) (id : Option Data) (q : Request) (a : Ask) (v : Verdict) → is_reply (verdict_reply g id q a v) ≡ true
 verdict_is g id q a carry = decided_is g id q (Some a)

@@ -15,7 +15,7 @@ use Rattle.iv_clients.specs.Feeds.{ends_in, is_of_role}
 use Rattle.iv_records.specs.Journal.{Entry, said_by, shape_for}
 use Rattle.iv_clients.specs.Tokens.{Token}
 use Rattle.iv_clients.proofs.Slots.{client_at-at_all, client_at-at_other_client, client_at-at_client, not_client_at-replicate, same-Some}
-use Rattle.iv_gate.specs.Events.{Event, presented, message, gone, known, ticked, synced, handed, failed, happens, next, arrived, forgave}
+use Rattle.iv_gate.specs.Events.{Event, presented, message, gone, known, ticked, synced, handed, failed, happens, next, arrived, forgave, led}
 use Rattle.iv_gate.specs.Gate.{Gate, all_rested, all_swept, done_for, hears, token_for, said, settles, told_of, went, at_text, Head}
 use Rattle.iv_gate.specs.Laws.{IsBounded}
 use Rattle.iv_gate.specs.Restoring.{Restores, gate_at_start}
@@ -253,6 +253,7 @@ happens_bounded sounds g ticked b j c d t x k = subst Bounded (same-at_all (beat
 happens_bounded sounds g synced b j c d t x k = subst Bounded (same-at_all released g.clients j c d t k) (bounded_released c x)
 happens_bounded sounds g (handed m) b j c d t x k = one_bounded m j handing g.clients c d bounded_handing t x k
 happens_bounded sounds g (arrived s) b j c d t x k = client_at-takes Bounded g s j c d t k x (λ o e. bounded_landed g (entry_of s) o c x)
+happens_bounded sounds g led b j c d t x k = subst Bounded (same-Some c d (sym t ∙ k)) x
 happens_bounded sounds g forgave b j c d t x k = subst Bounded (same-Some c d (sym t ∙ k)) x
 happens_bounded sounds g failed b j c d t x k = subst Bounded (same-Some c d (sym t ∙ k)) x
 
@@ -354,6 +355,7 @@ happens_places g ticked = all_length (beating g.entries) g.clients
 happens_places g synced = all_length released g.clients
 happens_places g (handed m) = at_length m handing g.clients
 happens_places g (arrived s) = by_marks g.clients (takes g s).clients (marks_in g.clients) (marks_in-takes g s) (marks_length g.clients)
+happens_places g led = refl
 happens_places g forgave = refl
 happens_places g failed = refl
 
@@ -409,6 +411,7 @@ happens_last sounds g (arrived s) b = by (is_some (fault_of g s)) (was_taken g s
     by false true o e = omega arith
     by false false None e = omega arith
     by false false (Some o) e = let l = (IsLed-stepped sounds (map fact_of s.requests) g.machine o e).last in omega (arith, l)
+happens_last sounds g led b = omega arith
 happens_last sounds g forgave b = omega arith
 happens_last sounds g failed b = omega arith
 

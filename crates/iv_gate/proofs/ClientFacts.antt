@@ -14,7 +14,7 @@ use Rattle.iv_clients.specs.Feeds.{Seat}
 use Rattle.iv_records.specs.Journal.{Entry, Request, shape_for}
 use Rattle.iv_once.specs.Names.{Ask}
 use Rattle.iv_clients.proofs.Slots.{client_at-at_all, client_at-at_other_client, client_at-at_client, same-Some}
-use Rattle.iv_gate.specs.Gate.{Gate, all_rested, all_swept, done_for, entered, entries_of, in_session, ran, replies_to, reply_to, reply_told, done_in, settles, informs, tells, told_of, with_session, went_on}
+use Rattle.iv_gate.specs.Gate.{Gate, all_rested, all_swept, done_for, entered, entries_of, in_session, ran, replies_to, reply_to, reply_told, done_in, settles, informs, tells, told_of, with_session, went_on, next_position}
 use Rattle.iv_gate.proofs.ShapeTexts.{all_made}
 use Rattle.iv_gate.proofs.StepRelations.{Steps, request_of, step_all_rested, step_all_swept, step_done, step_with}
 use Rattle.iv_gate.specs.Arriving.{Step, entry_of, fact_of, fault_of, was_taken, landed, newly, takes}
@@ -104,13 +104,13 @@ module _ (m : ℕ) (R : ℕ → Client → Client → Type 0) (kit : Kit m R) wh
       (λ j c. shown_all g.entries j (shape_for c.role es) c (all_made (λ t. (d : Client) → R j d (told_one g.entries t d)) (λ role line d. kit.show j d g.entries role line) c.role es)) g.clients
 
   to_replies : (g : Gate) (id : Option Data) (q : Request) (name : Option Ask) (r : Reply) → Leads R g.clients (replies_to g m id q name r).clients
-  to_replies g id q name r = let h = entered g (entries_of q name r) in to_tells h (reply_told h id name r)
+  to_replies g id q name r = let h = entered g (entries_of (next_position g) q name r) in to_tells h (reply_told h id name r)
 
   to_requests : (g : Gate) (id : Option Data) (q : Request) (name : Option Ask) (n : ℕ) → Leads R g.clients (done_in g m id q name n).clients
   to_requests g id q name n =
       let k = in_session n q.act in let r = reply_to g k in let h = replies_to g m id q name r in
       to_then g.clients h.clients (done_in g m id q name n).clients (to_replies g id q name r)
-      (to_then h.clients (ran h k).clients (done_in g m id q name n).clients (to_ran h k) (to_informs (ran h k) (entries_of q name r)))
+      (to_then h.clients (ran h k).clients (done_in g m id q name n).clients (to_ran h k) (to_informs (ran h k) (entries_of (next_position g) q name r)))
 
   steps : Steps m (λ g h. Leads R g.clients h.clients)
   steps = record {

@@ -26,7 +26,7 @@ use Rattle.iv_clients.specs.Feeds.{Feed, ends_in, feed_of, is_end, rel_read}
 use Rattle.iv_clients.proofs.Slots.{same-Some, not_None-Some}
 use Rattle.iv_gate.specs.Events.{Event, next}
 use Rattle.iv_gate.specs.Gate as gates
-use Rattle.iv_gate.specs.Gate.{Gate, granted_by, is_accepted, reply_in, entries_of}
+use Rattle.iv_gate.specs.Gate.{Gate, granted_by, is_accepted, reply_in, entries_of, next_position}
 use Rattle.iv_gate.specs.Replies.{ByClient, IsClient, told_by}
 use Rattle.iv_gate.specs.Seen.{all_rows, change_told, is_told_of, read_by, rows_told, seen}
 use Rattle.iv_gate.proofs.MessageEffects.{AreCalm, is_news}
@@ -364,7 +364,7 @@ of_command g e b m c d x own a = of_outcome g e b m c d x own o grants added a.b
     grants = grants_of g.machine a.command c.role
 
     added : List Entry
-    added = entries_of a.request a.name (gates.reply_to g a.command)
+    added = entries_of (next_position g) a.request a.name (gates.reply_to g a.command)
 
     quiet : filter (is_told_of own) (grants_of g.machine a.command c.role) ≡ []
     quiet = grant_texts own (is_accepted (reply_in (step g.machine a.command).lines)) (granted_by (step g.machine a.command).state.frame a.command.act c.role)

@@ -16,8 +16,8 @@ use Rattle.iv_records.specs.Laws.{ReadsBack}
 use Rattle.iv_clients.specs.Tokens.{Token}
 use Rattle.iv_journal.specs.Journal.{Line}
 use Rattle.iv_gate.specs.Arriving.{Step, entry_of, fact_of, fault_of, was_taken, landed, takes}
-use Rattle.iv_gate.specs.Events.{Event, presented, message, gone, known, ticked, synced, handed, arrived, forgave, failed, happens, next}
-use Rattle.iv_gate.specs.Gate.{Gate, Head, answering, done_in, in_session, is_accepted, ran, replies_to, reply_in}
+use Rattle.iv_gate.specs.Events.{Event, presented, message, gone, known, ticked, synced, handed, arrived, forgave, failed, happens, next, led}
+use Rattle.iv_gate.specs.Gate.{Gate, Head, answering, done_in, in_session, is_accepted, ran, replies_to, reply_in, next_position}
 use Rattle.iv_gate.specs.Laws.{CrashesAreSafe, LeadsBack}
 use Rattle.iv_gate.specs.Replies.{ActsAs}
 use Rattle.iv_gate.specs.Restoring.{LeadOn, Restores, gate_at_start}
@@ -25,7 +25,7 @@ use Rattle.iv_gate.specs.Runs.{Runs, begins, goes_on, begins_again}
 use Rattle.iv_gate.proofs.StepsTaken.{IsBegun-all_carried}
 use Rattle.iv_gate.proofs.SoundRequests.{ActsAs-seat_of}
 use Rattle.iv_gate.proofs.AddedEntries.{IsBooked, Texts}
-use Rattle.iv_gate.proofs.JournalDamage.{all_carried-append, facts_of-append, facts_of, Leads-LeadOn, led}
+use Rattle.iv_gate.proofs.JournalDamage.{all_carried-append, facts_of-append, facts_of, Leads-LeadOn, led_to}
 use Rattle.iv_gate.proofs.TextsAndDisk.{IsFront-take, IsWritten-Runs, IsFront-take_take}
 use Rattle.iv_gate.proofs.SoundRuns.{Starts, IsSoundGate-Runs}
 use Rattle.iv_gate.proofs.RequestsAlone.{SameShared-step, state-refused, carried-fact_of, shared-SameShared}
@@ -64,7 +64,7 @@ requests_led cap g m id q name n acts x l = by (is_shared q.act) x (is_accepted 
     behind = step g.machine (in_session n q.act)
 
     entry : Bool → Option Ask → Entry
-    entry y o = record { requests = cond y (q ∷ []) []; names = answering o (reply_in behind.lines); position = None }
+    entry y o = record { requests = cond y (q ∷ []) []; names = answering o (reply_in behind.lines); position = next_position g }
 
     stays : is_accepted (reply_in behind.lines) ≡ false → shared g.machine ≡ shared behind.state
     stays y = ap shared (sym (state-refused g.machine (in_session n q.act) y))
@@ -81,10 +81,10 @@ requests_led cap g m id q name n acts x l = by (is_shared q.act) x (is_accepted 
 refused_led : (cap : ℕ) (g : Gate) (m : ℕ) (id : Option Data) (q : Request) (a : Ask) (r : Reply) → is_accepted r ≡ false → IsLed cap g → IsLed cap (replies_to g m id q (Some a) r)
 refused_led cap g m id q a r h l = by (is_shared q.act) (is_accepted r) h
   where
-    by : (s y : Bool) → y ≡ false → LeadTo cap (g.entries ++ cond (s && (y || true)) (record { requests = cond y (q ∷ []) []; names = answering (Some a) r; position = None } ∷ []) []) g.machine
+    by : (s y : Bool) → y ≡ false → LeadTo cap (g.entries ++ cond (s && (y || true)) (record { requests = cond y (q ∷ []) []; names = answering (Some a) r; position = next_position g } ∷ []) []) g.machine
     by s true e = absurd (false≢true (sym e))
     by false false e = none_more cap g.entries g.machine g.machine refl l
-    by true false e = entry_more cap g.entries (record { requests = []; names = answering (Some a) r; position = None }) g.machine g.machine refl l
+    by true false e = entry_more cap g.entries (record { requests = []; names = answering (Some a) r; position = next_position g }) g.machine g.machine refl l
 
 -- ---- each step
 
@@ -132,6 +132,7 @@ happens_led sounds cap g ticked b l = l
 happens_led sounds cap g synced b l = l
 happens_led sounds cap g (handed m) b l = l
 happens_led sounds cap g (arrived s) b l = takes_led sounds cap g s b l
+happens_led sounds cap g led b l = l
 happens_led sounds cap g forgave b l = l
 happens_led sounds cap g failed b l = l
 
@@ -165,11 +166,11 @@ LeadsBack-Runs adds starts sounds cap g r = IsLed-Runs adds starts sounds cap g 
 is_safe : (cap : ℕ) (g : Gate) → IsBooked g → IsLed cap g → CrashesAreSafe cap g
 is_safe cap g b h disk tokens most l =
     let begun = gate_at_start cap tokens most g.head g.sent in
-    let on : LeadOn begun (take l.0 g.entries ++ drop l.0 g.entries) (led begun (take l.0 g.entries ++ drop l.0 g.entries) (shared g.machine)) =
-    subst (λ es. LeadOn begun es (led begun es (shared g.machine))) (sym (take-append-drop l.0 g.entries))
+    let on : LeadOn begun (take l.0 g.entries ++ drop l.0 g.entries) (led_to begun (take l.0 g.entries ++ drop l.0 g.entries) (shared g.machine)) =
+    subst (λ es. LeadOn begun es (led_to begun es (shared g.machine))) (sym (take-append-drop l.0 g.entries))
     (record { state = shared g.machine; well = b.well; accepted = h; names = b.names; steps = b.steps; gate = refl }) in
-    let x = Leads-LeadOn begun (led begun (take l.0 g.entries ++ drop l.0 g.entries) (shared g.machine)) (take l.0 g.entries) (drop l.0 g.entries) on in (
-      led begun (take l.0 g.entries) x.state,
+    let x = Leads-LeadOn begun (led_to begun (take l.0 g.entries ++ drop l.0 g.entries) (shared g.machine)) (take l.0 g.entries) (drop l.0 g.entries) on in (
+      led_to begun (take l.0 g.entries) x.state,
       record { all = l.2; leads = x.on },
       IsFront-take_take g.kept l.0 g.entries l.1,
       IsFront-take l.0 g.entries,

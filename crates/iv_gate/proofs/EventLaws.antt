@@ -15,7 +15,7 @@ use Rattle.iv_steps.specs.Laws.{RefusalsAreFound}
 use Rattle.iv_steps.specs.Steps.{stepped}
 use Rattle.iv_clients.proofs.Slots.{same-Some}
 use Rattle.iv_gate.specs.Arriving.{Step, entry_of, fact_of, fault_of, was_taken}
-use Rattle.iv_gate.specs.Events.{Event, presented, message, gone, known, ticked, synced, handed, arrived, forgave, failed, IsWell, happens, next}
+use Rattle.iv_gate.specs.Events.{Event, presented, message, gone, known, ticked, synced, handed, arrived, forgave, failed, IsWell, happens, next, led}
 use Rattle.iv_gate.specs.Gate.{Gate, hears, place_of}
 use Rattle.iv_gate.specs.Implied.{EndsForCause}
 use Rattle.iv_gate.specs.Laws.{AddsOnly, AreShown, HasMarks, LeavesMarks, marked}
@@ -37,7 +37,7 @@ use Rattle.iv_gate.proofs.EventMarks.{IsKept as KeepsCard, IsNewcomer as Comes, 
 -- ---- marks
 
 as_marked : (g h : Gate) (e : Event) → g.dead ≡ false
-    → record h { tokens = (marks_behind g e).tokens; head = (marks_behind g e).head; kept = (marks_behind g e).kept; forgiven = (marks_behind g e).forgiven; sent = (marks_behind g e).sent; dead = (marks_behind g e).dead }
+    → record h { tokens = (marks_behind g e).tokens; head = (marks_behind g e).head; kept = (marks_behind g e).kept; forgiven = (marks_behind g e).forgiven; leads = (marks_behind g e).leads; sent = (marks_behind g e).sent; dead = (marks_behind g e).dead }
     ≡ record (marked g e) { machine = h.machine; seats = h.seats; feeds = h.feeds; clients = h.clients; entries = h.entries }
 as_marked g h (presented m token) live = refl
 as_marked g h (message m text) live = refl
@@ -46,12 +46,13 @@ as_marked g h ticked live = refl
 as_marked g h (known tokens) live = refl
 as_marked g h synced live = refl
 as_marked g h (handed m) live = refl
+as_marked g h led live = refl
 as_marked g h forgave live = refl
 as_marked g h failed live = refl
 as_marked g h (arrived s) live = by (is_some (fault_of g s))
   where
     with_marks : Marks → Gate
-    with_marks m = record h { tokens = m.tokens; head = m.head; kept = m.kept; forgiven = m.forgiven; sent = m.sent; dead = m.dead }
+    with_marks m = record h { tokens = m.tokens; head = m.head; kept = m.kept; forgiven = m.forgiven; leads = m.leads; sent = m.sent; dead = m.dead }
 
     by : (b : Bool) → with_marks (cond b (record (marks g) { dead = true }) (marks g))
         ≡ record (record g { dead = b }) { machine = h.machine; seats = h.seats; feeds = h.feeds; clients = h.clients; entries = h.entries }
@@ -61,7 +62,7 @@ as_marked g h (arrived s) live = by (is_some (fault_of g s))
 has_marks : (g : Gate) (e : Event) → g.dead ≡ false → HasMarks g e
 has_marks g e live =
     let m = marks-next g e live in
-    (λ i. record (next g e) { tokens = (m i).tokens; head = (m i).head; kept = (m i).kept; forgiven = (m i).forgiven; sent = (m i).sent; dead = (m i).dead }) ∙ as_marked g (next g e) e live
+    (λ i. record (next g e) { tokens = (m i).tokens; head = (m i).head; kept = (m i).kept; forgiven = (m i).forgiven; leads = (m i).leads; sent = (m i).sent; dead = (m i).dead }) ∙ as_marked g (next g e) e live
 
 -- where the entries stay nothing was added
 none_added : (g : Gate) (e : Event) → (next g e).entries ≡ g.entries → added_by g e ≡ []
@@ -113,6 +114,7 @@ adds_only found g (known tokens) w live = none_added g (known tokens) (ap (λ (x
 adds_only found g ticked w live = none_added g ticked (ap (λ (x : Gate). x.entries) (awake g ticked live))
 adds_only found g synced w live = none_added g synced (ap (λ (x : Gate). x.entries) (awake g synced live))
 adds_only found g (handed m) w live = none_added g (handed m) (ap (λ (x : Gate). x.entries) (awake g (handed m) live))
+adds_only found g led w live = none_added g led (ap (λ (x : Gate). x.entries) (awake g led live))
 adds_only found g forgave w live = none_added g forgave (ap (λ (x : Gate). x.entries) (awake g forgave live))
 adds_only found g failed w live = none_added g failed (ap (λ (x : Gate). x.entries) (awake g failed live))
 
@@ -138,6 +140,7 @@ itself_card m c (known tokens) = refl
 itself_card m c ticked = refl
 itself_card m c synced = refl
 itself_card m c (arrived s) = refl
+itself_card m c led = refl
 itself_card m c forgave = refl
 itself_card m c failed = refl
 
@@ -163,6 +166,7 @@ not_gone m ticked h = refl
 not_gone m synced h = refl
 not_gone m (handed n) h = refl
 not_gone m (arrived s) h = refl
+not_gone m led h = refl
 not_gone m forgave h = refl
 not_gone m failed h = refl
 

@@ -13,7 +13,7 @@ use Rattle.iv_steps.specs.Steps.{stepped}
 use Rattle.iv_clients.specs.Tokens.{Token, token_of}
 use Rattle.iv_clients.proofs.Slots.{client_at-at_all, client_at-at_other_client, client_at-at_client, is_free-client_at, same-Some, client_at-set_None, client_at-set_other, client_at-set_free, not_None-Some}
 use Rattle.iv_gate.specs.Arriving.{Step, entry_of, fact_of, fault_of, was_taken, landed, takes}
-use Rattle.iv_gate.specs.Events.{Event, presented, message, gone, known, ticked, synced, handed, arrived, forgave, failed, happens, next}
+use Rattle.iv_gate.specs.Events.{Event, presented, message, gone, known, ticked, synced, handed, arrived, forgave, failed, happens, next, led}
 use Rattle.iv_gate.specs.Gate.{Gate, all_rested, all_swept, at_text, came, has_session, hears, said, settles, token_for, went, with_session}
 use Rattle.iv_gate.specs.Replies.{added_by}
 use Rattle.iv_gate.specs.Touched.{drops}
@@ -28,6 +28,7 @@ marks_behind g (known tokens) = record (marks g) { tokens = tokens }
 marks_behind g synced = record (marks g) { kept = length g.entries }
 marks_behind g (handed m) = record (marks g) { sent = g.sent ++ if_some (client_at g.clients m) [] (λ c. c.sendable) }
 marks_behind g (arrived s) = cond (is_some (fault_of g s)) (record (marks g) { dead = true }) (marks g)
+marks_behind g led = record (marks g) { leads = is_some g.head.log }
 marks_behind g forgave = record (marks g) { forgiven = length g.entries }
 marks_behind g failed = record (marks g) { dead = true }
 marks_behind g e = marks g
@@ -320,6 +321,7 @@ stays_at g ticked j c h n = every_at (beating g.entries) g.clients j c h ∙ unc
 stays_at g synced j c h n = every_at released g.clients j c h ∙ ap Some (released_mark c)
 stays_at g (handed m) j c h n = handed_at g m j c h
 stays_at g (arrived s) j c h n = ap (λ z. client_at z j) (marks_in-takes g s) ∙ (mark_at g.clients j ∙ (ap (option_map mark_of) h ∙ unchanged c))
+stays_at g led j c h n = mark_at g.clients j ∙ (ap (option_map mark_of) h ∙ unchanged c)
 stays_at g forgave j c h n = mark_at g.clients j ∙ (ap (option_map mark_of) h ∙ unchanged c)
 stays_at g failed j c h n = mark_at g.clients j ∙ (ap (option_map mark_of) h ∙ unchanged c)
 
@@ -406,6 +408,7 @@ comes_at g e j d live n h = by e refl (ap (λ (x : Gate). client_at x.clients j)
     by synced s x = absurd (not_None-Some d (sym x ∙ (client_at-at_all released g.clients j ∙ ap (option_map released) n)))
     by (handed m) s x = absurd (not_None-Some d (sym x ∙ at_none m j handing g.clients n))
     by (arrived s) q x = never (takes g s).clients (ap (λ z. client_at z j) (marks_in-takes g s) ∙ nobody) x
+    by led s x = absurd (not_None-Some d (sym x ∙ n))
     by forgave s x = absurd (not_None-Some d (sym x ∙ n))
     by failed s x = absurd (not_None-Some d (sym x ∙ n))
 
@@ -418,6 +421,7 @@ client_at-is_gone g ticked j h = absurd (false≢true h)
 client_at-is_gone g synced j h = absurd (false≢true h)
 client_at-is_gone g (handed m) j h = absurd (false≢true h)
 client_at-is_gone g (arrived s) j h = absurd (false≢true h)
+client_at-is_gone g led j h = absurd (false≢true h)
 client_at-is_gone g forgave j h = absurd (false≢true h)
 client_at-is_gone g failed j h = absurd (false≢true h)
 
@@ -472,6 +476,7 @@ is_left g ticked = left_by g ticked (marks g) refl refl
 is_left g synced = left_by g synced (record (marks g) { kept = length g.entries }) refl refl
 is_left g (handed m) = left_by g (handed m) (marks_behind g (handed m)) refl refl
 is_left g (arrived s) = record { more = taken_by g s; left = ap of_sign (sign-takes g s) }
+is_left g led = left_by g led (record (marks g) { leads = is_some g.head.log }) refl refl
 is_left g forgave = left_by g forgave (record (marks g) { forgiven = length g.entries }) refl refl
 is_left g failed = left_by g failed (record (marks g) { dead = true }) refl refl
 

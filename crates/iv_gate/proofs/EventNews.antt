@@ -13,8 +13,8 @@ use Rattle.iv_clients.specs.Feeds.{is_of_role}
 use Rattle.iv_records.specs.Journal.{Entry, said_by, requests_in, shape_for}
 use Rattle.iv_clients.specs.Tokens.{Token}
 use Rattle.iv_clients.proofs.Slots.{client_at-at_all, client_at-at_other_client, client_at-at_client, is_free-client_at, same-Some, client_at-set_other, not_None-Some}
-use Rattle.iv_gate.specs.Events.{Event, presented, message, gone, known, ticked, synced, handed, failed, happens, next, arrived, forgave}
-use Rattle.iv_gate.specs.Gate.{Gate, all_rested, all_swept, done_for, hears, token_for, said, settles, with_session, at_text, entries_of, reply_to}
+use Rattle.iv_gate.specs.Events.{Event, presented, message, gone, known, ticked, synced, handed, failed, happens, next, arrived, forgave, led}
+use Rattle.iv_gate.specs.Gate.{Gate, all_rested, all_swept, done_for, hears, token_for, said, settles, with_session, at_text, entries_of, reply_to, next_position}
 use Rattle.iv_gate.specs.Replies.{told_by}
 use Rattle.iv_gate.proofs.QuietCommands.{all_rested_clients, clients-all_swept, Sits-IsSoundState, clients-with_session}
 use Rattle.iv_gate.proofs.GrownTexts.{Grown, append-associative, drop-append_front, Kit-Grown}
@@ -64,7 +64,7 @@ after_calm g h i c z y machine entries m subs given (by_command a) = by_command 
   request = a.request;
   name = a.name;
   asks = a.asks;
-  by = calm_behind g h i (step g.machine a.command) (grants_of g.machine a.command c.role) (entries_of a.request a.name (reply_to g a.command)) c z y machine entries m subs a.by;
+  by = calm_behind g h i (step g.machine a.command) (grants_of g.machine a.command c.role) (entries_of (next_position g) a.request a.name (reply_to g a.command)) c z y machine entries m subs a.by;
 })
 after_calm g h i c z y machine entries m subs given (by_contents a n) =
     let news = changed (c.given + 1) (difference a.before a.after) in
@@ -326,6 +326,7 @@ happens_all sounds g ticked o b j c d t live k s =
 happens_all sounds g synced o b j c d t live k s = quietly (IsCalm-same_told c d (told-released c d (same-at_all released g.clients j c d t k) s)) refl
 happens_all sounds g (handed m) o b j c d t live k s = handed_all g (happens g (handed m)) m j c d refl t k
 happens_all sounds g (arrived x) o b j c d t live k s = absurd (o x refl)
+happens_all sounds g led o b j c d t live k s = same_hears g (happens g led) g.clients j c d refl t k
 happens_all sounds g forgave o b j c d t live k s = same_hears g (happens g forgave) g.clients j c d refl t k
 happens_all sounds g failed o b j c d t live k s = same_hears g (happens g failed) g.clients j c d refl t k
 
@@ -395,6 +396,7 @@ HearsBy-next sounds g e b j c d t live k s = by g.dead refl
     live_by q (arrived x) f =
         let same : next g e ≡ takes g x = is_alive g e q ∙ ap (happens g) f in
         step_by q x f (takes g x) same (takes_all g x j c d t (ap (λ (i : Gate). client_at i.clients j) (sym same) ∙ k))
+    live_by q led f = other q (λ x i. apart_step led x refl (sym f ∙ i))
     live_by q forgave f = other q (λ x i. apart_step forgave x refl (sym f ∙ i))
     live_by q failed f = other q (λ x i. apart_step failed x refl (sym f ∙ i))
 

@@ -13,22 +13,23 @@ use Rattle.iv_records.specs.Journal.{Entry, Request, said_by, shape_for}
 use Rattle.iv_once.specs.Names.{Ask}
 use Rattle.iv_clients.specs.Tokens.{Token}
 use Rattle.iv_gate.specs.Arriving.{landed, newly}
-use Rattle.iv_gate.specs.Gate.{Gate, Head, all_rested, all_swept, done_for, entered, entries_of, hears, in_session, informs, ran, replies_to, reply_to, reply_told, done_in, rested, settles, tells, told_of, went_on, with_session}
+use Rattle.iv_gate.specs.Gate.{Gate, Head, all_rested, all_swept, done_for, entered, entries_of, hears, in_session, informs, ran, replies_to, reply_to, reply_told, done_in, rested, settles, tells, told_of, went_on, with_session, next_position}
 use Rattle.iv_gate.proofs.StepRelations.{Steps, request_of, step_all_rested, step_all_swept, step_done, step_rested, step_with}
 
 -- ---- what is looked at
 
--- what tokens it knows, what the journal begins with, what of it is on disk and forgiven, what was sent, and whether it is dead
+-- what tokens it knows, what the journal begins with, what of it is on disk and forgiven, what was sent, whether it leads, and whether it is dead
 pub record Marks : Type 0 where
   pub tokens : List Token
   pub head : Head
   pub kept : ℕ
   pub forgiven : ℕ
+  pub leads : Bool
   pub sent : List Shown
   pub dead : Bool
 
 abbrev pub marks : Gate → Marks
-marks g = record { tokens = g.tokens; head = g.head; kept = g.kept; forgiven = g.forgiven; sent = g.sent; dead = g.dead }
+marks g = record { tokens = g.tokens; head = g.head; kept = g.kept; forgiven = g.forgiven; leads = g.leads; sent = g.sent; dead = g.dead }
 
 -- what others cannot change of a client
 pub record Card : Type 0 where
@@ -157,20 +158,20 @@ more_same : (g h : Gate) → sign h ≡ sign g → IsMore g h
 more_same g h e = record { more = []; entries = ap (λ (s : Sign). s.entries) e ∙ sym (append-nil g.entries); sign = e ∙ ap (λ z. record (sign g) { entries = z }) (sym (ap (λ (s : Sign). s.entries) e)) }
 
 -- what a request adds is what it is to
-pub sign_replies : (g : Gate) (m : ℕ) (id : Option Data) (q : Request) (name : Option Ask) (r : Reply) → sign (replies_to g m id q name r) ≡ record (sign g) { entries = g.entries ++ entries_of q name r }
-sign_replies g m id q name r = let h = entered g (entries_of q name r) in sign_tells h m (reply_told h id name r)
+pub sign_replies : (g : Gate) (m : ℕ) (id : Option Data) (q : Request) (name : Option Ask) (r : Reply) → sign (replies_to g m id q name r) ≡ record (sign g) { entries = g.entries ++ entries_of (next_position g) q name r }
+sign_replies g m id q name r = let h = entered g (entries_of (next_position g) q name r) in sign_tells h m (reply_told h id name r)
 
 pub sign_requests : (g : Gate) (m : ℕ) (id : Option Data) (q : Request) (name : Option Ask) (n : ℕ)
-    → sign (done_in g m id q name n) ≡ record (sign g) { entries = g.entries ++ entries_of q name (reply_to g (in_session n q.act)) }
+    → sign (done_in g m id q name n) ≡ record (sign g) { entries = g.entries ++ entries_of (next_position g) q name (reply_to g (in_session n q.act)) }
 sign_requests g m id q name n =
     let k = in_session n q.act in let r = reply_to g k in let h = replies_to g m id q name r in
-    sign_informs (ran h k) (entries_of q name r) ∙ (sign_ran h k ∙ sign_replies g m id q name r)
+    sign_informs (ran h k) (entries_of (next_position g) q name r) ∙ (sign_ran h k ∙ sign_replies g m id q name r)
 
 sign_done : (g : Gate) (m : ℕ) (c : Client) (text : List ℕ) (s : Message) → IsMore g (done_for g m c text s)
 sign_done g m c text s = step_done m SameSign (sign_steps m) g (IsMore g) (λ h e. more_same g h e) c text s
-    (λ id act name n e shared seat. let q = request_of c text act in let es = entries_of q name (reply_to g (in_session n q.act)) in let x = sign_requests g m id q name n in
+    (λ id act name n e shared seat. let q = request_of c text act in let es = entries_of (next_position g) q name (reply_to g (in_session n q.act)) in let x = sign_requests g m id q name n in
     record { more = es; entries = ap (λ (z : Sign). z.entries) x; sign = x ∙ ap (λ z. record (sign g) { entries = z }) (sym (ap (λ (z : Sign). z.entries) x)) })
-    (λ id act a r e shared. let q = request_of c text act in let es = entries_of q (Some a) (refused r) in let x = sign_replies g m id q (Some a) (refused r) in
+    (λ id act a r e shared. let q = request_of c text act in let es = entries_of (next_position g) q (Some a) (refused r) in let x = sign_replies g m id q (Some a) (refused r) in
     record { more = es; entries = ap (λ (z : Sign). z.entries) x; sign = x ∙ ap (λ z. record (sign g) { entries = z }) (sym (ap (λ (z : Sign). z.entries) x)) })
 
 -- what is behind a message that is heard

@@ -19,8 +19,8 @@ use Rattle.iv_clients.specs.Feeds.{Feed, Seat, feed_for, feed_of, is_of_role, is
 use Rattle.iv_records.specs.Journal.{Entry, said_by, shape_for, Request, claim_said}
 use Rattle.iv_clients.specs.Tokens.{Token}
 use Rattle.iv_clients.proofs.Slots.{client_at-at_all, client_at-at_client, client_at-is_free, IsFrom-option_map, not_client_at-replicate, same-Some, not_None-Some}
-use Rattle.iv_gate.specs.Events.{Event, presented, message, gone, known, ticked, synced, handed, failed, happens, next, forgave, arrived}
-use Rattle.iv_gate.specs.Gate.{Gate, acts, all_rested, all_swept, begun_for, closes, columns_in, done_for, entered, feed_begun, hears, in_session, is_needed, joined, joined_by, joins, next_own, ran, reads, reads_first, reply_to, done_in, rested, token_for, said, seated, settles, shut, subscribes, swept, tells, told_of, went, with_session, informs, entries_of, shares, may_have, reply_told, at_text, replies_to, Head, went_on}
+use Rattle.iv_gate.specs.Events.{Event, presented, message, gone, known, ticked, synced, handed, failed, happens, next, forgave, arrived, led}
+use Rattle.iv_gate.specs.Gate.{Gate, acts, all_rested, all_swept, begun_for, closes, columns_in, done_for, entered, feed_begun, hears, in_session, is_needed, joined, joined_by, joins, next_own, ran, reads, reads_first, reply_to, done_in, rested, token_for, said, seated, settles, shut, subscribes, swept, tells, told_of, went, with_session, informs, entries_of, shares, may_have, reply_told, at_text, replies_to, Head, went_on, next_position}
 use Rattle.iv_gate.specs.Implied.{ReadsForClients}
 use Rattle.iv_gate.specs.Restoring.{Restores, gate_at_start}
 use Rattle.iv_gate.specs.Runs.{Runs, begins, goes_on, begins_again}
@@ -91,12 +91,12 @@ using_informs g es a = using_all none_but g (λ c. telling g.entries (shape_for 
 -- ---- requests of the machine
 
 using_replies : (g : Gate) (m : ℕ) (id : Option Data) (q : Request) (name : Option Ask) (r : Reply) → IsUsing none_but g → IsUsing none_but (replies_to g m id q name r)
-using_replies g m id q name r a = let h = entered g (entries_of q name r) in using_tells none_but h m (reply_told h id name r) (record { followed = a.followed; fit = a.fit })
+using_replies g m id q name r a = let h = entered g (entries_of (next_position g) q name r) in using_tells none_but h m (reply_told h id name r) (record { followed = a.followed; fit = a.fit })
 
 using_requests : (g : Gate) (m : ℕ) (id : Option Data) (q : Request) (name : Option Ask) (n : ℕ) → IsUsing none_but g → IsUsing none_but (done_in g m id q name n)
 using_requests g m id q name n a =
     let k = in_session n q.act in let r = reply_to g k in let i = replies_to g m id q name r in
-    using_informs (ran i k) (entries_of q name r) (IsUsing-ran none_but i k (using_replies g m id q name r a))
+    using_informs (ran i k) (entries_of (next_position g) q name r) (IsUsing-ran none_but i k (using_replies g m id q name r a))
 
 using_shares : (g : Gate) (m : ℕ) (c : Client) (id : Option Data) (q : Request) (claim : Option Claim) → IsUsing none_but g → IsUsing none_but (shares g m c id q claim)
 using_shares g m c id q claim a = shares_so (IsUsing none_but) g m id q
@@ -557,6 +557,7 @@ happens_using adds sounds g ticked even b a = using_all none_but g (beating g.en
 happens_using adds sounds g synced even b a = let x = using_all none_but g released released_subs role-released a in record { followed = x.followed; fit = x.fit }
 happens_using adds sounds g (handed m) even b a = let x = using_one none_but g m handing handing_subs role-handing a in record { followed = x.followed; fit = x.fit }
 happens_using adds sounds g (arrived x) even b a = using_takes sounds g x b a
+happens_using adds sounds g led even b a = record { followed = a.followed; fit = a.fit }
 happens_using adds sounds g forgave even b a = record { followed = a.followed; fit = a.fit }
 happens_using adds sounds g failed even b a = record { followed = a.followed; fit = a.fit }
 

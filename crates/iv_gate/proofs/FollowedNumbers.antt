@@ -24,7 +24,7 @@ use Rattle.iv_clients.specs.Feeds.{Feed, feed_of, rel_read}
 use Rattle.iv_records.specs.Journal.{is_shared, Entry}
 use Rattle.iv_clients.proofs.Slots.{same-Some, not_None-Some}
 use Rattle.iv_gate.specs.Events.{Event, next}
-use Rattle.iv_gate.specs.Gate.{Gate, granted_by, in_session, is_accepted, reply_in, entries_of, reply_to}
+use Rattle.iv_gate.specs.Gate.{Gate, granted_by, in_session, is_accepted, reply_in, entries_of, reply_to, next_position}
 use Rattle.iv_gate.specs.Replies.{told_by}
 use Rattle.iv_gate.specs.Implied.{EndsForCause, HearsFollowed, IsCaused}
 use Rattle.iv_gate.specs.Seen.{hindrance, is_told_of}
@@ -122,7 +122,7 @@ HearsFollowed-IsSoundGate adds sounds g e b m c d x y own h = by (HearsBy-next s
     command a true f = inl (is_some-followed_by own c.subs ∙ f)
     command a false f =
         let o = step g.machine a.command in
-        absurd (false≢true (sym (outcome_of_none g (next g e) o (grants_of g.machine a.command c.role) (entries_of a.request a.name (reply_to g a.command)) c d own a.by
+        absurd (false≢true (sym (outcome_of_none g (next g e) o (grants_of g.machine a.command c.role) (entries_of (next_position g) a.request a.name (reply_to g a.command)) c d own a.by
         (grants_of_none own (is_accepted (reply_in o.lines)) (granted_by o.state.frame a.command.act c.role)) f) ∙ h))
 
     by_step : (s : Step) (a : IsToldStep g (next g e) s c d) → (t : Bool) → list_any (λ (z : Sub). own == z.own) c.subs ≡ t → (is_some (followed_by c.subs own) ≡ true) ⊎ ((c.given < own) × (own ≤ d.given))
@@ -369,7 +369,7 @@ EndsForCause-IsSoundGate sounds g e b m c d x y own rel why rows h = AllByRecurs
     by_event (quietly a n) = subst (AllByRecursion (IsEndTold g e c)) (sym (told_by-append c d a.more a.told)) (calm_ends g e c a.more a.calm)
     by_event (by_command a) =
         let z = step g.machine a.command in
-        ends_of_outcome g e b c d z (grants_of g.machine a.command c.role) (entries_of a.request a.name (reply_to g a.command)) a.by (lines_are sounds g.machine a.command a.shared b.state.numbers.unique)
+        ends_of_outcome g e b c d z (grants_of g.machine a.command c.role) (entries_of (next_position g) a.request a.name (reply_to g a.command)) a.by (lines_are sounds g.machine a.command a.shared b.state.numbers.unique)
         (grants_end g e c (is_accepted (reply_in z.lines)) (granted_by z.state.frame a.command.act c.role)) (b.clients m c x.there x.stays)
     by_event (by_contents a n) = subst (AllByRecursion (IsEndTold g e c)) (sym (told_by-append c d _ a.told))
         (AllByRecursion-append (IsEndTold g e c) a.front (changed (c.given + 1) (difference a.before a.after) ∷ a.back) (calm_ends g e c a.front a.calm.0) (tt, calm_ends g e c a.back a.calm.1))

@@ -21,8 +21,8 @@ use Rattle.iv_records.specs.Journal.{Entry, said_by, requests_in}
 use Rattle.iv_clients.specs.Tokens.{Token}
 use Rattle.iv_clients.proofs.Slots.{same-Some, not_None-Some}
 use Rattle.iv_journal.specs.Journal as journals
-use Rattle.iv_gate.specs.Events.{Event, presented, message, gone, known, ticked, synced, handed, failed, happens, next, arrived, forgave}
-use Rattle.iv_gate.specs.Gate.{Gate, all_rested, all_swept, granted_by, has_some, hears, in_session, is_accepted, is_needed, ran, reply_in, rested, token_for, settles, Head, entries_of, reply_to}
+use Rattle.iv_gate.specs.Events.{Event, presented, message, gone, known, ticked, synced, handed, failed, happens, next, arrived, forgave, led}
+use Rattle.iv_gate.specs.Gate.{Gate, all_rested, all_swept, granted_by, has_some, hears, in_session, is_accepted, is_needed, ran, reply_in, rested, token_for, settles, Head, entries_of, reply_to, next_position}
 use Rattle.iv_gate.specs.Replies.{IsClient, told_by}
 use Rattle.iv_gate.specs.Restoring.{Restores, gate_at_start}
 use Rattle.iv_gate.specs.Runs.{Runs, begins, goes_on, begins_again}
@@ -130,6 +130,7 @@ happens_admin sounds g ticked h = h
 happens_admin sounds g synced h = h
 happens_admin sounds g (handed m) h = h
 happens_admin sounds g (arrived s) h = takes_admin sounds g s h
+happens_admin sounds g led h = h
 happens_admin sounds g forgave h = h
 happens_admin sounds g failed h = h
 
@@ -234,7 +235,7 @@ module _ (adds : Adds) (starts : Starts) (sounds : Sounds) (gives : GrantsGive) 
       by_event : Hears g (next g e) c d → AllByRecursion (IsGrantTrue (next g e).machine.frame c.role) (told_by c d)
       by_event (quietly a k) = subst (AllByRecursion (IsGrantTrue (next g e).machine.frame c.role)) (sym (told_by-append c d a.more a.told)) (calm_all (next g e).machine.frame c.role a.more a.calm)
       by_event (by_command a) =
-          outcome_true (step g.machine a.command) (grants_of g.machine a.command c.role) (entries_of a.request a.name (reply_to g a.command)) a.by
+          outcome_true (step g.machine a.command) (grants_of g.machine a.command c.role) (entries_of (next_position g) a.request a.name (reply_to g a.command)) a.by
           (grants_by a (is_accepted (reply_in (step g.machine a.command).lines)) refl)
       by_event (by_contents a k) = subst (AllByRecursion (IsGrantTrue (next g e).machine.frame c.role)) (sym (told_by-append c d _ a.told))
           (AllByRecursion-append (IsGrantTrue (next g e).machine.frame c.role) a.front (changed (c.given + 1) (difference a.before a.after) ∷ a.back) (calm_all (next g e).machine.frame c.role a.front a.calm.0)

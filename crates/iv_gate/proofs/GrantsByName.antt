@@ -10,8 +10,8 @@ use Rattle.iv_message.specs.Told.{Told, changed, over, granted}
 use Rattle.iv_clients.specs.Clients.{Client, Sub, own_line, own_lines, told}
 use Rattle.iv_clients.specs.Feeds.{Feed, rel_read}
 use Rattle.iv_records.specs.Journal.{Entry, requests_in, Request}
-use Rattle.iv_gate.specs.Events.{Event, next, arrived, happens, failed, forgave, gone, handed, known, message, presented, synced, ticked}
-use Rattle.iv_gate.specs.Gate.{Gate, granted_by, is_accepted, entries_of, has_on, reply_to}
+use Rattle.iv_gate.specs.Events.{Event, next, arrived, happens, failed, forgave, gone, handed, known, message, presented, synced, ticked, led}
+use Rattle.iv_gate.specs.Gate.{Gate, granted_by, is_accepted, entries_of, has_on, reply_to, next_position}
 use Rattle.iv_gate.specs.Implied.{NewRightsAreTold}
 use Rattle.iv_gate.specs.Laws.{GrantsAreTold, granted_at, is_granted}
 use Rattle.iv_gate.specs.Replies.{told_by, added_by}
@@ -99,7 +99,7 @@ module _ (g h : Gate) (c d : Client) (es : List Entry) (e : h.entries ≡ g.entr
       nothing_granted (a.front ++ (news ∷ a.back)) (told_by-append c d _ a.told)
       (filter-append is_granted a.front (news ∷ a.back) ∙ (λ i. none_granted a.front a.calm.0 i ++ none_granted a.back a.calm.1 i)) n
   exactly (by_command a) =
-      outcome_grants g h (step g.machine a.command) (grants_of g.machine a.command c.role) (entries_of a.request a.name (reply_to g a.command)) c d a.by (grants_stay accepted names)
+      outcome_grants g h (step g.machine a.command) (grants_of g.machine a.command c.role) (entries_of (next_position g) a.request a.name (reply_to g a.command)) c d a.by (grants_stay accepted names)
       ∙ (same accepted ∙ sym (ap (λ qs. map granted (flat_map (λ (q : Request). granted_by h.machine.frame q.act c.role) qs)) asked))
     where
       accepted : Bool
@@ -109,10 +109,10 @@ module _ (g h : Gate) (c d : Client) (es : List Entry) (e : h.entries ≡ g.entr
       names = granted_by (step g.machine a.command).state.frame a.command.act c.role
 
       added : List Entry
-      added = entries_of a.request a.name (reply_to g a.command)
+      added = entries_of (next_position g) a.request a.name (reply_to g a.command)
 
       asked : requests_in es ≡ cond (is_accepted (reply_to g a.command)) (a.request ∷ []) []
-      asked = ap requests_in (same-append_front g.entries es added (sym e ∙ a.by.entries)) ∙ requests_in-entries_of a.request a.name (reply_to g a.command) (ap is_shared a.asks ∙ a.shared)
+      asked = ap requests_in (same-append_front g.entries es added (sym e ∙ a.by.entries)) ∙ requests_in-entries_of (next_position g) a.request a.name (reply_to g a.command) (ap is_shared a.asks ∙ a.shared)
 
       same : (b : Bool) → cond b (map granted names) [] ≡ map granted (flat_map (λ (q : Request). granted_by h.machine.frame q.act c.role) (cond b (a.request ∷ []) []))
       same true = (λ i. map granted (granted_by (sym a.by.machine i).frame (sym a.asks i) c.role)) ∙ ap (map granted) (sym (append-nil (granted_by h.machine.frame a.request.act c.role)))
@@ -134,6 +134,7 @@ other_grants g ticked role n = refl
 other_grants g synced role n = refl
 other_grants g (handed m) role n = refl
 other_grants g (arrived s) role n = absurd (n s refl)
+other_grants g led role n = refl
 other_grants g forgave role n = refl
 other_grants g failed role n = refl
 
@@ -148,6 +149,7 @@ no_grants g synced role n k = ap (flat_map (λ (q : Request). granted_by (next g
 no_grants g (handed m) role n k = ap (flat_map (λ (q : Request). granted_by (next g (handed m)).machine.frame q.act role)) k
 no_grants g (arrived s) role n k =
     ap (λ (x : State). newly g.machine.frame x.frame role) n ∙ none_newly g.machine.frame role (map (λ x. x.name) g.machine.frame.catalog)
+no_grants g led role n k = ap (flat_map (λ (q : Request). granted_by (next g led).machine.frame q.act role)) k
 no_grants g forgave role n k = ap (flat_map (λ (q : Request). granted_by (next g forgave).machine.frame q.act role)) k
 no_grants g failed role n k = ap (flat_map (λ (q : Request). granted_by (next g failed).machine.frame q.act role)) k
 

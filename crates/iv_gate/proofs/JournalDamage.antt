@@ -83,12 +83,12 @@ AllByRecursion-push P [] x w p = (p, tt)
 AllByRecursion-push P (y ∷ ys) x w p = (w.0, AllByRecursion-push P ys x w.1 p)
 
 -- where entries lead
-abbrev pub led : Gate → List Entry → State → Gate
-led g es s = record g { machine = s; entries = es; kept = length es; forgiven = length es }
+abbrev pub led_to : Gate → List Entry → State → Gate
+led_to g es s = record g { machine = s; entries = es; kept = length es; forgiven = length es }
 
 pub record Leads (g : Gate) (es : List Entry) : Type 0 where
   pub state : State
-  pub on : LeadOn g es (led g es state)
+  pub on : LeadOn g es (led_to g es state)
 
 pub Leads-LeadOn : (g h : Gate) (es fs : List Entry) → LeadOn g (es ++ fs) h → Leads g es
 Leads-LeadOn g h es fs l =
@@ -215,7 +215,7 @@ either_way reads g lines = by (far reads (length lines) g lines [] lines refl (l
     less i j k h = omega (arith, h)
 
     stopped : (es : List Entry) (rest : List Line) → lines ≡ journal_of es ++ rest → Leads g es → (rest ≡ []) ⊎ Stops g es rest → ((h : Gate) × Restores g lines h) ⊎ ((place : ℕ) × IsDamagedAt g lines place)
-    stopped es [] a l s = inl (led g es l.state, record { all = a ∙ append-nil (journal_of es); leads = l.on })
+    stopped es [] a l s = inl (led_to g es l.state, record { all = a ∙ append-nil (journal_of es); leads = l.on })
     stopped es (x ∷ xs) a l (inl h) = absurd (none h)
       where
         none : (x ∷ xs) ≡ [] → ⊥
@@ -224,7 +224,7 @@ either_way reads g lines = by (far reads (length lines) g lines [] lines refl (l
       length (journal_of es),
       record {
         entries = es;
-        gate = led g es l.state;
+        gate = led_to g es l.state;
         rest = x ∷ xs;
         all = a;
         leads = l.on;
@@ -265,7 +265,7 @@ no_further : (g : Gate) (es fs : List Entry) (h : Gate) (rest s : List Line) (f 
 no_further g es fs h rest s f more stops l a b =
     let on : LeadOn g ((es ++ f ∷ []) ++ more) h = subst (λ z. LeadOn g z h) (a ∙ sym (append_assoc es (f ∷ []) more)) l in
     let x = Leads-LeadOn g h (es ++ f ∷ []) more on in
-    stops f (journal_of more ++ s) (led g (es ++ f ∷ []) x.state) (b ∙ (journal_first f more s ∙ sym (journal_of-one f (journal_of more ++ s)))) x.on
+    stops f (journal_of more ++ s) (led_to g (es ++ f ∷ []) x.state) (b ∙ (journal_first f more s ∙ sym (journal_of-one f (journal_of more ++ s)))) x.on
 
 pub IsEntry-append : (es fs : List Entry) (e : Entry) (more : List Entry) → fs ≡ es ++ e ∷ more → AllByRecursion IsEntry fs → IsEntry e
 IsEntry-append es fs e more a w = (AllByRecursion-append_back IsEntry es (e ∷ more) (subst (AllByRecursion IsEntry) a w)).0
@@ -276,7 +276,7 @@ restored_once reads g lines h i x y = by (Compared-journal_of reads h.entries i.
     by : Compared h.entries i.entries [] [] → h ≡ i
     by (same a b) =
         let state : x.leads.state ≡ y.leads.state = same-Some x.leads.state y.leads.state (sym x.leads.accepted ∙ (ap (λ es. all_carried (facts_of es) g.machine) a ∙ y.leads.accepted)) in
-        x.leads.gate ∙ ((λ k. led g (a k) (state k)) ∙ sym y.leads.gate)
+        x.leads.gate ∙ ((λ k. led_to g (a k) (state k)) ∙ sym y.leads.gate)
     by (shorter f more a b) = absurd (not_nothing-journal_of f more [] (IsEntry-append h.entries i.entries f more a y.leads.well) b)
     by (longer e more a b) = absurd (not_nothing-journal_of e more [] (IsEntry-append i.entries h.entries e more a x.leads.well) b)
 

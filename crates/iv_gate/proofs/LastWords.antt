@@ -13,8 +13,8 @@ use Rattle.iv_clients.specs.Feeds.{Feed, rel_read}
 use Rattle.iv_records.specs.Journal.{Entry, said_by, shape_for}
 use Rattle.iv_clients.specs.Tokens.{Token}
 use Rattle.iv_clients.proofs.Slots.{client_at-at_all, client_at-at_other_client, client_at-at_client, same-Some}
-use Rattle.iv_gate.specs.Events.{Event, presented, message, gone, known, ticked, synced, handed, failed, happens, next, arrived, forgave}
-use Rattle.iv_gate.specs.Gate.{Gate, columns_in, done_for, entered, feed_begun, granted_by, hears, in_session, is_accepted, next_own, reply_in, reply_to, said, settles, told_of, entries_of, reply_told}
+use Rattle.iv_gate.specs.Events.{Event, presented, message, gone, known, ticked, synced, handed, failed, happens, next, arrived, forgave, led}
+use Rattle.iv_gate.specs.Gate.{Gate, columns_in, done_for, entered, feed_begun, granted_by, hears, in_session, is_accepted, next_own, reply_in, reply_to, said, settles, told_of, entries_of, reply_told, next_position}
 use Rattle.iv_gate.specs.Laws.{IsSettledBy, is_word}
 use Rattle.iv_gate.specs.Replies.{ByClient, told_by}
 use Rattle.iv_gate.specs.Runs.{Runs, begins, goes_on, begins_again}
@@ -149,7 +149,7 @@ answer_owes g m h a j x t = by (m == j) refl
 done_owes : (g : Gate) (m : ℕ) (a : Client) (h : Gate) → IsDone g m a h → (j : ℕ) (x : Client) → client_at g.clients j ≡ Some x → Later (λ n c d. Owes c d) h.clients j x
 done_owes g m a h (answers r) j x t = answer_owes g m h r j x t
 done_owes g m a h (asks id q name n s heard same) j x t =
-    let k = in_session n q.act in let r = reply_to g k in let more = entries_of q name r in let before = entered g more in let es = g.entries ++ more in
+    let k = in_session n q.act in let r = reply_to g k in let more = entries_of (next_position g) q name r in let before = entered g more in let es = g.entries ++ more in
     let text = reply_told before id name r in
     let first = told_one es text x in
     let hears : Client → Client = λ c. staying (step g.machine k).lines (telling es (told_of g k.act (step g.machine k) c) c) in
@@ -349,6 +349,7 @@ happens_told sounds g (handed m) b j c d t o k = by (m == j) refl
         is_told (handed m) c d refl (λ s. told-handing c d e) (ap (λ (x : Client). x.owed) (sym e) ∙ owed_handing c) o
     by false q = still_told (handed m) c d refl (same-Some c d (sym t ∙ (sym (client_at-at_other_client m j handing g.clients (eqb-false m j q)) ∙ k))) o
 happens_told sounds g (arrived x) b j c d t o k = takes_told g x j c d t o k
+happens_told sounds g led b j c d t o k = still_told led c d refl (same-Some c d (sym t ∙ k)) o
 happens_told sounds g forgave b j c d t o k = still_told forgave c d refl (same-Some c d (sym t ∙ k)) o
 happens_told sounds g failed b j c d t o k = still_told failed c d refl (same-Some c d (sym t ∙ k)) o
 

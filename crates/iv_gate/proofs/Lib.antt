@@ -63,4 +63,5 @@ pub mod StepsTaken
 pub mod RequestFates
 pub mod QueryTexts
 pub mod LogPositions
+pub mod NextEntries
 pub mod UndecidedNames

@@ -8,7 +8,7 @@ use Rattle.iv_rows.specs.Options.{if_some}
 use Rattle.iv_records.specs.Journal.{Entry, IsEntry, position_of}
 use Rattle.iv_records.specs.Laws.{ReadsBack}
 use Rattle.iv_gate.specs.Arriving.{fault_of, position, settled_at}
-use Rattle.iv_gate.specs.Events.{Event, presented, message, gone, known, ticked, synced, handed, arrived, forgave, failed, IsWell, next}
+use Rattle.iv_gate.specs.Events.{Event, presented, message, gone, known, ticked, synced, handed, arrived, forgave, failed, IsWell, next, led}
 use Rattle.iv_gate.specs.Gate.{Gate, Head}
 use Rattle.iv_gate.specs.Implied.{PositionsLast, PositionsRise}
 use Rattle.iv_gate.specs.Laws.{IsFront}
@@ -63,6 +63,7 @@ kept_more g (gone m) k = omega arith
 kept_more g (known tokens) k = omega arith
 kept_more g ticked k = omega arith
 kept_more g (handed m) k = omega arith
+kept_more g led k = omega arith
 kept_more g forgave k = omega arith
 kept_more g failed k = omega arith
 
@@ -79,6 +80,7 @@ head-marks_behind g (gone m) = refl
 head-marks_behind g (known tokens) = refl
 head-marks_behind g ticked = refl
 head-marks_behind g (handed m) = refl
+head-marks_behind g led = refl
 head-marks_behind g forgave = refl
 head-marks_behind g failed = refl
 

@@ -25,7 +25,7 @@ use Rattle.iv_clients.specs.Feeds.{Feed, Seat, feed_for, is_begun, next_seat, ro
 use Rattle.iv_records.specs.Journal.{said_by, Request, claim_said, names_in, Entry}
 use Rattle.iv_clients.proofs.Slots.{not_None-Some}
 use Rattle.iv_gate.specs.Events.{Event}
-use Rattle.iv_gate.specs.Gate.{Gate, begun_for, in_session, is_accepted, reply_in, reply_to, seated, has_shape_room, answer_text, answering, asked_by, entered, entries_of, may_have, names_of, number_here, place_at, place_of}
+use Rattle.iv_gate.specs.Gate.{Gate, begun_for, in_session, is_accepted, reply_in, reply_to, seated, has_shape_room, answer_text, answering, asked_by, entered, entries_of, may_have, names_of, number_here, place_at, place_of, next_position, is_follower}
 use Rattle.iv_gate.specs.Replies.{ActsAs, AreReplied, HasToWait, IsFull, IsReadingReply, IsReplyTo, IsReplyToAct, reading_told, IsNamedReply, IsReplyToShared, IsSharedReply, added_by, MayBeDone, count_of, elsewhere, is_repeated, names_by, place_after, is_done, is_left, waits}
 use Rattle.iv_gate.proofs.ClientAnswers.{IsOwn-heard_by, replies-heard_by, OwnAnswer-IsOwn, told_by-OwnAnswer, next-IsOwn, IsOwn}
 use Rattle.iv_gate.proofs.SoundRequests.{refusal-begun_for, ActsAs-feed_for, ActsAs-begun_for, ActsAs-room_for, ActsAs-seat_of}
@@ -282,42 +282,42 @@ carried_true g c q role seat b = by (has_shape_room g q.act) refl (seat_of g.sea
     by false e o f = inr (e, refl)
 
 -- its name stands one further
-place_more : (g : Gate) (q : Request) (a : Ask) (r : Reply) → is_shared q.act ≡ true → place_text (place_of (entered g (entries_of q (Some a) r)) a.holder) ≡ place_after g a.holder 1
+place_more : (g : Gate) (q : Request) (a : Ask) (r : Reply) → is_shared q.act ≡ true → place_text (place_of (entered g (entries_of (next_position g) q (Some a) r)) a.holder) ≡ place_after g a.holder 1
 place_more g q a r h =
-    place_text-place_after (entered g (entries_of q (Some a) r)) a.holder
-    ∙ (let n : count_of (entered g (entries_of q (Some a) r)) a.holder + 0 ≡ count_of g a.holder + 1 = omega (arith, more) in
+    place_text-place_after (entered g (entries_of (next_position g) q (Some a) r)) a.holder
+    ∙ (let n : count_of (entered g (entries_of (next_position g) q (Some a) r)) a.holder + 0 ≡ count_of g a.holder + 1 = omega (arith, more) in
     λ i. place_text (record { epoch = (place_at g.head a.holder).epoch; count = n i }))
   where
     e : Entry
-    e = record { requests = cond (is_accepted r) (q ∷ []) []; names = answering (Some a) r; position = None }
+    e = record { requests = cond (is_accepted r) (q ∷ []) []; names = answering (Some a) r; position = next_position g }
 
-    one : entries_of q (Some a) r ≡ record { requests = cond (is_accepted r) (q ∷ []) []; names = answering (Some a) r; position = None } ∷ []
+    one : entries_of (next_position g) q (Some a) r ≡ record { requests = cond (is_accepted r) (q ∷ []) []; names = answering (Some a) r; position = next_position g } ∷ []
     one = ap (λ t. cond (t && (is_accepted r || true)) (e ∷ []) []) h ∙ by (is_accepted r)
       where
         by : (t : Bool) → cond (true && (t || true)) (e ∷ []) [] ≡ e ∷ []
         by true = refl
         by false = refl
 
-    names : names_by (entered g (entries_of q (Some a) r)) a.holder ≡ names_by g a.holder ++ record { ask = a; refused = not (is_accepted r); answer = answer_text r } ∷ []
+    names : names_by (entered g (entries_of (next_position g) q (Some a) r)) a.holder ≡ names_by g a.holder ++ record { ask = a; refused = not (is_accepted r); answer = answer_text r } ∷ []
     names = ap (λ es. filter (λ (x : Named). bytes_eq x.ask.holder a.holder) (names_in (g.entries ++ es))) one
         ∙ (ap (filter (λ (x : Named). bytes_eq x.ask.holder a.holder)) (flat_map-append (λ (x : Entry). x.names) g.entries (e ∷ []))
         ∙ (filter-append (λ (x : Named). bytes_eq x.ask.holder a.holder) (names_in g.entries) (answering (Some a) r ++ [])
         ∙ ap (λ t. names_by g a.holder ++ cond t (record { ask = a; refused = not (is_accepted r); answer = answer_text r } ∷ []) []) ((bytes_eq-Decides a.holder a.holder).1 refl)))
 
-    more : length (names_by (entered g (entries_of q (Some a) r)) a.holder) ≡ length (names_by g a.holder) + 1
+    more : length (names_by (entered g (entries_of (next_position g) q (Some a) r)) a.holder) ≡ length (names_by g a.holder) + 1
     more = ap length names ∙ length-append (names_by g a.holder) (record { ask = a; refused = not (is_accepted r); answer = answer_text r } ∷ [])
 
-named_true : (g : Gate) (c : Client) (id : Option Data) (q : Request) (a : Ask) → MayBeDone g a → (is_some g.head.log ≡ false → (number : ℕ) → HasToWait g a number → ⊥)
+named_true : (g : Gate) (c : Client) (id : Option Data) (q : Request) (a : Ask) → MayBeDone g a → (is_follower g ≡ false → (number : ℕ) → HasToWait g a number → ⊥)
     → q.role ≡ c.role → is_shared q.act ≡ true → is_some (seat_of g.seats c.role) ≡ true → IsSoundGate g
     → IsNamedReply g c id q a (decided_reply g id q (Some a)) (decided_added g q (Some a))
-named_true g c id q a may waits_not role shared seat b = by (is_some g.head.log) refl
+named_true g c id q a may waits_not role shared seat b = by (is_follower g) refl
   where
     r : Reply
     r = carried_reply g q
 
-    by : (t : Bool) → is_some g.head.log ≡ t → IsNamedReply g c id q a (cond t (undecided id 100) (done_reply g id q (Some a) (carried_reply g q))) (cond t [] (entries_of q (Some a) (carried_reply g q)))
+    by : (t : Bool) → is_follower g ≡ t → IsNamedReply g c id q a (cond t (undecided id 100) (done_reply g id q (Some a) (carried_reply g q))) (cond t [] (entries_of (next_position g) q (Some a) (carried_reply g q)))
     by true e = waits 100 may (elsewhere e)
-    by false e = subst (λ at. IsNamedReply g c id q a (answered id false at (answer_text (carried_reply g q))) (entries_of q (Some a) (carried_reply g q))) (sym (place_more g q a r shared))
+    by false e = subst (λ at. IsNamedReply g c id q a (answered id false at (answer_text (carried_reply g q))) (entries_of (next_position g) q (Some a) (carried_reply g q))) (sym (place_more g q a r shared))
         (is_done r may (waits_not e) (carried_true g c q role seat b))
 
 verdict_true : (g : Gate) → AreNew g → (c : Client) (id : Option Data) (q : Request) (a : Ask) (v : Verdict) → Reason (names_of g) a v
@@ -339,7 +339,7 @@ shared_true g new c id q (Some k) role shared seat b = let a = asked_by c q.line
 shared_true g new c id q None role shared seat b = by (is_some g.head.log) refl
   where
     by : (t : Bool) → is_some g.head.log ≡ t
-        → IsReplyToShared g c id q None (cond t (denied id 100) (done_reply g id q None (carried_reply g q))) (cond t [] (entries_of q None (carried_reply g q)))
+        → IsReplyToShared g c id q None (cond t (denied id 100) (done_reply g id q None (carried_reply g q))) (cond t [] (entries_of (next_position g) q None (carried_reply g q)))
     by true e = inl (e, refl, refl)
     by false e = inr (carried_reply g q, log_none g.head.log e, carried_true g c q role seat b, refl, refl)
 

@@ -17,7 +17,7 @@ use Rattle.iv_clients.specs.Bounds.{most_subs}
 use Rattle.iv_clients.specs.Clients.{Client, Slots, Sub, at_client, closing, followed_by, is_followed, moved, moved_sub, told, told_one}
 use Rattle.iv_clients.specs.Feeds.{Feed, feed_for, feed_of, is_reading, room_for}
 use Rattle.iv_records.specs.Journal.{Entry, is_shared, said_by, Request, claim_said, requests_in}
-use Rattle.iv_gate.specs.Gate.{Gate, acts, begun_for, closes, done_for, feed_begun, in_session, joined, joined_by, joins, ran, reads, reads_first, reply_to, done_in, seated, shut, subscribes, swept, tells, answering, entered, entries_of, may_have, replies_to, reply_told, shares, is_accepted}
+use Rattle.iv_gate.specs.Gate.{Gate, acts, begun_for, closes, done_for, feed_begun, in_session, joined, joined_by, joins, ran, reads, reads_first, reply_to, done_in, seated, shut, subscribes, swept, tells, answering, entered, entries_of, may_have, replies_to, reply_told, shares, is_accepted, next_position}
 use Rattle.iv_gate.proofs.QuietCommands.{ran-one_line, seated-IsSoundState, clients-shut, last-shut, clients-swept, last-swept}
 use Rattle.iv_gate.proofs.SameFeeds.{list_any-moved_sub}
 use Rattle.iv_gate.proofs.NewSubscriptions.{reply_in-None, reply_in-Some}
@@ -139,20 +139,21 @@ telling_done g m c t calm plain unmade = answers (record {
 })
 
 -- a refusal adds no request to the journal
-pub refused_asks_none : (es : List Entry) (q : Request) (name : Option Ask) (r : Refusal) → requests_in (es ++ entries_of q name (refused r)) ≡ requests_in es
-refused_asks_none es q name r = flat_map-append (λ (e : Entry). e.requests) es (entries_of q name (refused r)) ∙ (ap (λ z. requests_in es ++ z) (by (is_shared q.act && is_some name)) ∙ append-nil (requests_in es))
+pub refused_asks_none : (position : Option ℕ) (es : List Entry) (q : Request) (name : Option Ask) (r : Refusal)
+    → requests_in (es ++ entries_of position q name (refused r)) ≡ requests_in es
+refused_asks_none position es q name r = flat_map-append (λ (e : Entry). e.requests) es (entries_of position q name (refused r)) ∙ (ap (λ z. requests_in es ++ z) (by (is_shared q.act && is_some name)) ∙ append-nil (requests_in es))
   where
-    by : (b : Bool) → requests_in (cond b (record { requests = []; names = answering name (refused r); position = None } ∷ []) []) ≡ []
+    by : (b : Bool) → requests_in (cond b (record { requests = []; names = answering name (refused r); position = position } ∷ []) []) ≡ []
     by true = refl
     by false = refl
 
 -- what is accepted adds its request, and nothing else does
-pub requests_in-entries_of : (q : Request) (name : Option Ask) (r : Reply) → is_shared q.act ≡ true → requests_in (entries_of q name r) ≡ cond (is_accepted r) (q ∷ []) []
-requests_in-entries_of q name r h =
-    ap (λ b. requests_in (cond (b && (is_accepted r || is_some name)) (record { requests = cond (is_accepted r) (q ∷ []) []; names = answering name r; position = None } ∷ []) [])) h
+pub requests_in-entries_of : (position : Option ℕ) (q : Request) (name : Option Ask) (r : Reply) → is_shared q.act ≡ true → requests_in (entries_of position q name r) ≡ cond (is_accepted r) (q ∷ []) []
+requests_in-entries_of position q name r h =
+    ap (λ b. requests_in (cond (b && (is_accepted r || is_some name)) (record { requests = cond (is_accepted r) (q ∷ []) []; names = answering name r; position = position } ∷ []) [])) h
     ∙ by (is_accepted r) (is_some name)
   where
-    by : (a n : Bool) → requests_in (cond (true && (a || n)) (record { requests = cond a (q ∷ []) []; names = answering name r; position = None } ∷ []) []) ≡ cond a (q ∷ []) []
+    by : (a n : Bool) → requests_in (cond (true && (a || n)) (record { requests = cond a (q ∷ []) []; names = answering name r; position = position } ∷ []) []) ≡ cond a (q ∷ []) []
     by true n = refl
     by false true = refl
     by false false = refl
@@ -171,7 +172,7 @@ is_made-reply_told g id (Some a) r = refl
 
 refusing_done : (g : Gate) (m : ℕ) (c : Client) (id : Option Data) (q : Request) (name : Option Ask) (r : Refusal) → IsDone g m c (replies_to g m id q name (refused r))
 refusing_done g m c id q name r =
-    let h = entered g (entries_of q name (refused r)) in let t = reply_told h id name (refused r) in
+    let h = entered g (entries_of (next_position g) q name (refused r)) in let t = reply_told h id name (refused r) in
     answers (record {
       text = t;
       calm = is_news-reply_told h id name (refused r);
@@ -182,7 +183,7 @@ refusing_done g m c id q name r =
       fewer = λ x. omega arith;
       owed = λ x. refl;
       last = refl;
-      entries = refused_asks_none g.entries q name r;
+      entries = refused_asks_none (next_position g) g.entries q name r;
       clients = refl;
     })
 

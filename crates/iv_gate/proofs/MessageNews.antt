@@ -18,7 +18,7 @@ use Rattle.iv_clients.specs.Clients.{Client, Slots, Sub, at_client, client_at, f
 use Rattle.iv_clients.specs.Feeds.{Feed, ends_in}
 use Rattle.iv_records.specs.Journal.{Entry, is_shared, shape_for, Request, requests_in}
 use Rattle.iv_clients.proofs.Slots.{client_at-at_all, client_at-at_other_client, client_at-at_client}
-use Rattle.iv_gate.specs.Gate.{Gate, columns_in, entered, feed_begun, in_session, is_accepted, next_own, ran, reply_in, reply_to, done_in, told_of, entries_of, granted_by, replies_to, reply_told}
+use Rattle.iv_gate.specs.Gate.{Gate, columns_in, entered, feed_begun, in_session, is_accepted, next_own, ran, reply_in, reply_to, done_in, told_of, entries_of, granted_by, replies_to, reply_told, next_position}
 use Rattle.iv_gate.proofs.QuietCommands.{flat_map-own_line, le-step_last}
 use Rattle.iv_gate.proofs.GrownTexts.{append-associative}
 use Rattle.iv_gate.proofs.NewSubscriptions.{eq-le_next, le-feed_of}
@@ -65,7 +65,7 @@ pub record IsToldOf (g h : Gate) (c d : Client) : Type 0 where
   pub request : Request
   pub name : Option Ask
   pub asks : request.act ≡ command.act
-  pub by : IsToldOutcome g h (step g.machine command) (grants_of g.machine command c.role) (entries_of request name (reply_to g command)) c d
+  pub by : IsToldOutcome g h (step g.machine command) (grants_of g.machine command c.role) (entries_of (next_position g) request name (reply_to g command)) c d
 
 -- the contents of what it reads by its next number
 pub record IsToldContents (c d : Client) : Type 0 where
@@ -329,17 +329,17 @@ module _ (g : Gate) (m : ℕ) (id : Option Data) (q : Request) (name : Option As
   asking = in_session n q.act
 
   abbrev making : List Entry
-  making = entries_of q name (reply_to g (in_session n q.act))
+  making = entries_of (next_position g) q name (reply_to g (in_session n q.act))
 
   abbrev before : Gate
   before = replies_to g m id q name (reply_to g (in_session n q.act))
 
   abbrev text : Told
-  text = reply_told (entered g (entries_of q name (reply_to g (in_session n q.act)))) id name (reply_to g (in_session n q.act))
+  text = reply_told (entered g (entries_of (next_position g) q name (reply_to g (in_session n q.act)))) id name (reply_to g (in_session n q.act))
 
   abbrev hears_all : Client → Client
-  hears_all x = let k = in_session n q.act in let es = g.entries ++ entries_of q name (reply_to g k) in let z = staying (step g.machine k).lines (telling es (told_of g k.act (step g.machine k) x) x) in
-      telling es (shape_for z.role (entries_of q name (reply_to g k))) z
+  hears_all x = let k = in_session n q.act in let es = g.entries ++ entries_of (next_position g) q name (reply_to g k) in let z = staying (step g.machine k).lines (telling es (told_of g k.act (step g.machine k) x) x) in
+      telling es (shape_for z.role (entries_of (next_position g) q name (reply_to g k))) z
 
   -- by what it was told in front
   one_hears : (front : List Told) (x y : Client) → AreCalm front → filter is_made front ≡ [] → told y ≡ told x ++ front → y.subs ≡ x.subs → y.role ≡ x.role → Hears g (done_in g m id q name n) x (hears_all y)
@@ -350,18 +350,18 @@ module _ (g : Gate) (m : ℕ) (id : Option Data) (q : Request) (name : Option As
     request = q;
     name = name;
     asks = refl;
-    by = told_whole g (done_in g m id q name n) (step g.machine (in_session n q.act)) (entries_of q name (reply_to g (in_session n q.act))) refl refl
-        (g.entries ++ entries_of q name (reply_to g (in_session n q.act))) (g.entries ++ entries_of q name (reply_to g (in_session n q.act)))
+    by = told_whole g (done_in g m id q name n) (step g.machine (in_session n q.act)) (entries_of (next_position g) q name (reply_to g (in_session n q.act))) refl refl
+        (g.entries ++ entries_of (next_position g) q name (reply_to g (in_session n q.act))) (g.entries ++ entries_of (next_position g) q name (reply_to g (in_session n q.act)))
         (λ w. grants_of g.machine (in_session n q.act) w.role) front x y (ap (grants_of g.machine (in_session n q.act)) role) c unmade h subs role;
   })
 
   pub request_there : (P : Client → Client → Type 0) (j : ℕ) (x : Client) → client_at g.clients j ≡ Some x
-      → (m ≡ j → P x (hears_all (told_one (g.entries ++ entries_of q name (reply_to g (in_session n q.act))) text x))) → ((m ≡ j → ⊥) → P x (hears_all x))
+      → (m ≡ j → P x (hears_all (told_one (g.entries ++ entries_of (next_position g) q name (reply_to g (in_session n q.act))) text x))) → ((m ≡ j → ⊥) → P x (hears_all x))
       → Later (λ i c d. P c d) (done_in g m id q name n).clients j x
   request_there P j x t this others = by (m == j) refl
     where
       es : List Entry
-      es = g.entries ++ entries_of q name (reply_to g (in_session n q.act))
+      es = g.entries ++ entries_of (next_position g) q name (reply_to g (in_session n q.act))
 
       hears_lines : Client → Client
       hears_lines y = staying (step g.machine (in_session n q.act)).lines (telling es (told_of g q.act (step g.machine (in_session n q.act)) y) y)
@@ -385,25 +385,25 @@ module _ (g : Gate) (m : ℕ) (id : Option Data) (q : Request) (name : Option As
 
   heard_request : (j : ℕ) (x : Client) → client_at g.clients j ≡ Some x → Later (λ i c d. Hears g (done_in g m id q name n) c d) (done_in g m id q name n).clients j x
   heard_request j x t =
-      let h = entered g (entries_of q name (reply_to g (in_session n q.act))) in let r = reply_to g (in_session n q.act) in
+      let h = entered g (entries_of (next_position g) q name (reply_to g (in_session n q.act))) in let r = reply_to g (in_session n q.act) in
       request_there (Hears g (done_in g m id q name n)) j x t
-      (λ same. one_hears (text ∷ []) x (told_one (g.entries ++ entries_of q name r) text x) (is_news-reply_told h id name r, tt) (ap (λ b. cond b (text ∷ []) []) (is_made-reply_told h id name r))
-      (told-told_one (g.entries ++ entries_of q name r) text x) refl refl)
+      (λ same. one_hears (text ∷ []) x (told_one (g.entries ++ entries_of (next_position g) q name r) text x) (is_news-reply_told h id name r, tt) (ap (λ b. cond b (text ∷ []) []) (is_made-reply_told h id name r))
+      (told-told_one (g.entries ++ entries_of (next_position g) q name r) text x) refl refl)
       (λ ne. one_hears [] x x tt refl (sym (append-nil (told x))) refl refl)
 
   fewer_heard : (x : Client) → length (hears_all x).subs ≤ length x.subs
   fewer_heard x =
-      let k = in_session n q.act in let es = g.entries ++ entries_of q name (reply_to g k) in
+      let k = in_session n q.act in let es = g.entries ++ entries_of (next_position g) q name (reply_to g k) in
       let z = staying (step g.machine k).lines (telling es (told_of g k.act (step g.machine k) x) x) in
       subst (λ (w : List Sub). length w ≤ length x.subs)
-      (sym (ap (λ (v : Seer). v.subs) (seer-telling es (shape_for z.role (entries_of q name (reply_to g k))) z)
+      (sym (ap (λ (v : Seer). v.subs) (seer-telling es (shape_for z.role (entries_of (next_position g) q name (reply_to g k))) z)
       ∙ ap (λ (v : Seer). filter (λ s. not (ends_in (step g.machine k).lines s.feed)) v.subs) (seer-telling es (told_of g k.act (step g.machine k) x) x)))
       (le-length_filter (λ s. not (ends_in (step g.machine k).lines s.feed)) x.subs)
 
   bounded_request : (j : ℕ) (x : Client) → client_at g.clients j ≡ Some x → length x.subs ≤ most_subs → Later (λ i c d. length d.subs ≤ most_subs) (done_in g m id q name n).clients j x
   bounded_request j x t few =
       request_there (λ c d. length d.subs ≤ most_subs) j x t
-      (λ same. let l = fewer_heard (told_one (g.entries ++ entries_of q name (reply_to g (in_session n q.act))) text x) in omega (arith, l, few)) (λ ne. let l = fewer_heard x in omega (arith, l, few))
+      (λ same. let l = fewer_heard (told_one (g.entries ++ entries_of (next_position g) q name (reply_to g (in_session n q.act))) text x) in omega (arith, l, few)) (λ ne. let l = fewer_heard x in omega (arith, l, few))
 
 -- ---- any message
 

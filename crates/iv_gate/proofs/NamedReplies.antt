@@ -12,7 +12,7 @@ use Rattle.iv_once.specs.Names.{Ask, Known, Named, Own, find_named, is_over, is_
 use Rattle.iv_once.proofs.HolderEntries.{Among-find_named}
 use Rattle.iv_once.proofs.Lists.{Among-append, Among-take, and-both_true, append-associative, bytes_eq-itself, is_place-itself, le-nat_le, le-nat_lt_false, lt-nat_le_false, not_None-Some, same-Some, same-bytes_eq, same-is_place, take-take_more}
 use Rattle.iv_gate.specs.Arriving.{first_known, is_new, not_new}
-use Rattle.iv_gate.specs.Gate.{Gate, Log, known_at, known_by, known_of, names_of, number_here, place_at, spent_in}
+use Rattle.iv_gate.specs.Gate.{Gate, Log, known_at, known_by, known_of, names_of, number_here, place_at, spent_in, is_follower}
 use Rattle.iv_gate.specs.Replies as replies
 use Rattle.iv_gate.specs.Replies.{HasToWait, IsAnswer, IsBarred, MayBeDone, NoneAnswers, another, count_of, elsewhere, foreign, foreign_yet, late, many, names_by, refused_by, refused_often, remembered_by}
 use Rattle.iv_gate.proofs.NameVerdicts.{IsFree, IsUsed, count_is, epoch_is, found_in_more, own_at, own_other, own_same, spent_by-count_by, used_first, used_more}
@@ -259,22 +259,22 @@ module _ (g : Gate) (a : Ask) where
   other_epoch t h = false≢true (sym t ∙ (ap (bytes_eq a.at.epoch) (epoch_is g a.holder ∙ sym h) ∙ bytes_eq-itself a.at.epoch))
 
   pub IsBarred-other_epoch : bytes_eq a.at.epoch (own_of (known_of g) a.holder).epoch ≡ false → IsBarred g a (number_here g 103)
-  IsBarred-other_epoch t = by (is_some g.head.log) refl
+  IsBarred-other_epoch t = by (is_follower g) refl
     where
-      by : (l : Bool) → is_some g.head.log ≡ l → IsBarred g a (cond l 100 103)
+      by : (l : Bool) → is_follower g ≡ l → IsBarred g a (cond l 100 103)
       by true e = foreign_yet e (other_epoch t)
-      by false e = foreign (log_none g.head.log e) (other_epoch t)
+      by false e = foreign e (other_epoch t)
 
   pub IsBarred-late : nat_lt (a.at.count + limits.names) (own_of (known_of g) a.holder).count ≡ true → IsBarred g a 102
   IsBarred-late t = late (subst (λ n. a.at.count + 64 < n) (count_is g a.holder) (ltb-true (a.at.count + 64) (own_of (known_of g) a.holder).count t))
 
-  -- what has to wait here is decided elsewhere while a log is followed
-  waits_here : (g.head.log ≡ None → HasToWait g a 104) → HasToWait g a (number_here g 104)
-  waits_here w = by (is_some g.head.log) refl
+  -- what has to wait here is decided elsewhere while others lead the log
+  waits_here : (is_follower g ≡ false → HasToWait g a 104) → HasToWait g a (number_here g 104)
+  waits_here w = by (is_follower g) refl
     where
-      by : (l : Bool) → is_some g.head.log ≡ l → HasToWait g a (cond l 100 104)
+      by : (l : Bool) → is_follower g ≡ l → HasToWait g a (cond l 100 104)
       by true e = elsewhere e
-      by false e = w (log_none g.head.log e)
+      by false e = w e
 
   pub HasToWait-ahead : nat_lt (own_of (known_of g) a.holder).count a.at.count ≡ true → HasToWait g a (number_here g 104)
   HasToWait-ahead t = waits_here (λ l. replies.ahead l (subst (λ n. n < a.at.count) (count_is g a.holder) (ltb-true (own_of (known_of g) a.holder).count a.at.count t)))
@@ -288,15 +288,15 @@ module _ (g : Gate) (a : Ask) where
   pub HasToWait-is_over : is_over (names_of g) a.holder ≡ true → HasToWait g a (number_here g 104)
   HasToWait-is_over t = waits_here (λ l. by l (nat_le limits.refusals spent) (nat_le limits.holders (known_of g).holders) ((known_of g).owns a.holder) refl refl refl t)
     where
-      by : g.head.log ≡ None → (r h : Bool) (o : Option Own) → nat_le limits.refusals spent ≡ r → nat_le limits.holders (known_of g).holders ≡ h → (known_of g).owns a.holder ≡ o
+      by : is_follower g ≡ false → (r h : Bool) (o : Option Own) → nat_le limits.refusals spent ≡ r → nat_le limits.holders (known_of g).holders ≡ h → (known_of g).owns a.holder ≡ o
           → (r || (h && not (is_some o))) ≡ true → HasToWait g a 104
       by l true h o e f k u = refused_often l (subst (λ n. limits.refusals ≤ n) spent_is (le-nat_le limits.refusals spent e))
       by l false true None e f k u = many l (le-nat_le limits.holders (known_of g).holders f) k
       by l false true (Some o) e f k u = absurd (false≢true u)
       by l false false o e f k u = absurd (false≢true u)
 
-  -- who is over nothing, and ahead of nothing, has nothing to wait for where no log is followed
-  pub not_HasToWait : is_some g.head.log ≡ false → is_over (names_of g) a.holder ≡ false → nat_lt (own_of (known_of g) a.holder).count a.at.count ≡ false → (number : ℕ) → HasToWait g a number → ⊥
+  -- who is over nothing, and ahead of nothing, has nothing to wait for where it is decided
+  pub not_HasToWait : is_follower g ≡ false → is_over (names_of g) a.holder ≡ false → nat_lt (own_of (known_of g) a.holder).count a.at.count ≡ false → (number : ℕ) → HasToWait g a number → ⊥
   not_HasToWait l w d _ (elsewhere t) = false≢true (sym l ∙ t)
   not_HasToWait l w d _ (replies.ahead z t) =
       let here : a.at.count ≤ count_of g a.holder = subst (λ n. a.at.count ≤ n) (count_is g a.holder) (le-nat_lt_false (own_of (known_of g) a.holder).count a.at.count d) in

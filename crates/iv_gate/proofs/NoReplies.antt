@@ -14,7 +14,7 @@ use Rattle.iv_clients.specs.Feeds.{Feed, ends_in, is_end, is_of_role, rel_read}
 use Rattle.iv_records.specs.Journal.{Entry, said_by}
 use Rattle.iv_clients.specs.Tokens.{Token}
 use Rattle.iv_clients.proofs.Slots.{client_at-at_all, client_at-at_other_client, client_at-at_client, is_free-client_at, same-Some, client_at-set_other, not_None-Some}
-use Rattle.iv_gate.specs.Events.{Event, presented, message, gone, known, ticked, synced, handed, failed, happens, arrived, forgave}
+use Rattle.iv_gate.specs.Events.{Event, presented, message, gone, known, ticked, synced, handed, failed, happens, arrived, forgave, led}
 use Rattle.iv_gate.specs.Gate.{Gate, all_rested, all_swept, done_for, hears, in_session, token_for, said, seated, settles, told_of, went, with_session, at_text, granted_by, is_accepted, reply_to}
 use Rattle.iv_gate.specs.Replies.{heard_by, is_reply, replies}
 use Rattle.iv_gate.specs.Seen.{is_end_of}
@@ -356,6 +356,7 @@ Hears-happens g ticked j c d h k s u =
 Hears-happens g synced j c d h k s u = released_apart c d (every_made released g.clients j c d h k) s
 Hears-happens g (handed m) j c d h k s u = handed_apart g m j c d h k
 Hears-happens g (arrived x) j c d h k s u = takes_apart g x j c d h k
+Hears-happens g led j c d h k s u = same_client g.clients j c d h k
 Hears-happens g forgave j c d h k s u = same_client g.clients j c d h k
 Hears-happens g failed j c d h k s u = same_client g.clients j c d h k
 

@@ -16,7 +16,7 @@ use Rattle.iv_clients.specs.Clients.{Client, Slots, Sub, answered, at_all, at_cl
 use Rattle.iv_clients.specs.Feeds.{Feed, feed_for, feed_of, is_reading, room_for, seat_of, without_feed}
 use Rattle.iv_records.specs.Journal.{Entry, said_by, shape_for, Request, claim_said}
 use Rattle.iv_clients.proofs.Slots.{client_at-at_all, client_at-at_client, same-Some}
-use Rattle.iv_gate.specs.Gate.{Gate, acts, begun_for, closes, columns_in, done_for, entered, feed_begun, hears, in_session, joined, joined_by, joins, next_own, ran, reads, reads_first, reply_to, done_in, seated, settles, shut, subscribes, swept, tells, told_of, informs, entries_of, has_shape_room, asked_by, by_verdict, decided_elsewhere, decides, may_have, names_of, place_of, replies_to, reply_told, shares, number_here}
+use Rattle.iv_gate.specs.Gate.{Gate, acts, begun_for, closes, columns_in, done_for, entered, feed_begun, hears, in_session, joined, joined_by, joins, next_own, ran, reads, reads_first, reply_to, done_in, seated, settles, shut, subscribes, swept, tells, told_of, informs, entries_of, has_shape_room, asked_by, by_verdict, decided_elsewhere, decides, may_have, names_of, place_of, replies_to, reply_told, shares, number_here, next_position, is_elsewhere}
 use Rattle.iv_gate.specs.Replies.{is_opened, reading_told, replies, is_reply}
 use Rattle.iv_gate.specs.Seen.{is_end_of}
 use Rattle.iv_gate.proofs.GrownTexts.{Grown, append-associative, Kit-Grown}
@@ -280,10 +280,10 @@ abbrev pub carried_reply : Gate → Request → Reply
 carried_reply g q = if has_shape_room g q.act then if_some (seat_of g.seats q.role) (refused no_session) (λ n. reply_to g (in_session n q.act)) else refused limit
 
 abbrev pub done_reply : Gate → Option Data → Request → Option Ask → Reply → Told
-done_reply g id q name r = reply_told (entered g (entries_of q name r)) id name r
+done_reply g id q name r = reply_told (entered g (entries_of (next_position g) q name r)) id name r
 
 abbrev pub decided_reply : Gate → Option Data → Request → Option Ask → Told
-decided_reply g id q name = if is_some g.head.log then decided_elsewhere id name else done_reply g id q name (carried_reply g q)
+decided_reply g id q name = if is_elsewhere g name then decided_elsewhere id name else done_reply g id q name (carried_reply g q)
 
 abbrev pub verdict_reply : Gate → Option Data → Request → Ask → Verdict → Told
 verdict_reply g id q a carry = decided_reply g id q (Some a)
@@ -313,7 +313,7 @@ said_reply g c text (request id act) = cond (may_have (claim_said text) act) (ac
 -- ---- what it adds to the journal
 
 abbrev pub decided_added : Gate → Request → Option Ask → List Entry
-decided_added g q name = if is_some g.head.log then [] else entries_of q name (carried_reply g q)
+decided_added g q name = if is_elsewhere g name then [] else entries_of (next_position g) q name (carried_reply g q)
 
 abbrev pub verdict_added : Gate → Request → Ask → Verdict → List Entry
 verdict_added g q a carry = decided_added g q (Some a)
@@ -356,11 +356,11 @@ nothing_added g h e = e ∙ sym (append-nil g.entries)
 
 module _ (g : Gate) (m : ℕ) (c : Client) (id : Option Data) where
   adds_decided : (q : Request) (name : Option Ask) → (decides g m id q name).entries ≡ g.entries ++ decided_added g q name
-  adds_decided q name = by (is_some g.head.log) (has_shape_room g q.act) (seat_of g.seats q.role)
+  adds_decided q name = by (is_elsewhere g name) (has_shape_room g q.act) (seat_of g.seats q.role)
     where
       by : (l b : Bool) (o : Option ℕ)
           → (cond l (tells g m (decided_elsewhere id name)) (cond b (if_some o (replies_to g m id q name (refused no_session)) (done_in g m id q name)) (replies_to g m id q name (refused limit)))).entries
-          ≡ g.entries ++ cond l [] (entries_of q name (cond b (if_some o (refused no_session) (λ n. reply_to g (in_session n q.act))) (refused limit)))
+          ≡ g.entries ++ cond l [] (entries_of (next_position g) q name (cond b (if_some o (refused no_session) (λ n. reply_to g (in_session n q.act))) (refused limit)))
       by true b o = sym (append-nil g.entries)
       by false true None = refl
       by false true (Some n) = refl
@@ -501,7 +501,7 @@ module _ (g : Gate) (m : ℕ) (c : Client) (text : List ℕ) where
   answers_replied : (s : Message) (id : Option Data) (q : Request) (name : Option Ask) (r : Reply) → client_at g.clients m ≡ Some (saying text c)
       → Answers g s (done_reply g id q name r) m (saying text c) (replies_to g m id q name r).clients
   answers_replied s id q name r e =
-      let h = entered g (entries_of q name r) in answers_tells g h s (reply_told h id name r) m (saying text c) (saying text c) (Began-itself g (saying text c)) (opens_none h name) e
+      let h = entered g (entries_of (next_position g) q name r) in answers_tells g h s (reply_told h id name r) m (saying text c) (saying text c) (Began-itself g (saying text c)) (opens_none h name) e
     where
       opens_none : (h : Gate) (o : Option Ask) → is_opened (reply_told h id o r) ≡ false
       opens_none h None = refl
@@ -510,13 +510,13 @@ module _ (g : Gate) (m : ℕ) (c : Client) (text : List ℕ) where
   answers_does : (s : Message) (id : Option Data) (q : Request) (name : Option Ask) (n : ℕ) → client_at g.clients m ≡ Some (saying text c)
       → Answers g s (done_reply g id q name (reply_to g (in_session n q.act))) m (saying text c) (done_in g m id q name n).clients
   answers_does s id q name n e =
-      let k = in_session n q.act in let r = reply_to g k in let i = replies_to g m id q name r in let more = entries_of q name r in
+      let k = in_session n q.act in let r = reply_to g k in let i = replies_to g m id q name r in let more = entries_of (next_position g) q name r in
       answers_then g s (done_reply g id q name r) m (saying text c) i.clients (informs (ran i k) more).clients (answers_replied s id q name r e)
       (behind_then m i.clients (ran i k).clients (informs (ran i k) more).clients (behind_ran m i k) (behind_informs m (ran i k) more))
 
   answers_decided : (s : Message) (id : Option Data) (q : Request) (name : Option Ask) → client_at g.clients m ≡ Some (saying text c)
       → Answers g s (decided_reply g id q name) m (saying text c) (decides g m id q name).clients
-  answers_decided s id q name e = by (is_some g.head.log) (has_shape_room g q.act) (seat_of g.seats q.role)
+  answers_decided s id q name e = by (is_elsewhere g name) (has_shape_room g q.act) (seat_of g.seats q.role)
     where
       aside : (o : Option Ask) → is_opened (decided_elsewhere id o) ≡ false
       aside None = refl

@@ -16,8 +16,8 @@ use Rattle.iv_journal.specs.Journal.{Line}
 use Rattle.iv_once.specs.Names.{Ask, Named, Verdict, is_over, spent_by, verdict}
 use Rattle.iv_once.proofs.Lists.{lt-nat_le_false, same-bytes_eq}
 use Rattle.iv_gate.specs.Arriving.{Step, fault_of, takes}
-use Rattle.iv_gate.specs.Events.{Event, presented, message, gone, known, ticked, synced, handed, arrived, forgave, failed, happens, next}
-use Rattle.iv_gate.specs.Gate.{Gate, Head, Log, answering, asked_by, entries_of, hears, is_accepted, may_have, names_of, said, spent_in, token_for}
+use Rattle.iv_gate.specs.Events.{Event, presented, message, gone, known, ticked, synced, handed, arrived, forgave, failed, happens, next, led}
+use Rattle.iv_gate.specs.Gate.{Gate, Head, Log, answering, asked_by, entries_of, hears, is_accepted, may_have, names_of, said, spent_in, token_for, next_position, is_elsewhere}
 use Rattle.iv_gate.specs.Replies.{refused_by}
 use Rattle.iv_gate.specs.Restoring.{Restores, gate_at_start}
 use Rattle.iv_gate.specs.Runs.{Runs, begins, goes_on, begins_again}
@@ -75,13 +75,13 @@ none_more v a n holder = let l = a.spent n holder in omega (arith, l)
 log_there : (o : Option Log) → o ≡ None → is_some o ≡ false
 log_there o h = ap is_some h
 
-no_names : (v : View) (b : Bool) (q : Request) (r : Reply) → IsSpent v → HasRoom v (cond b (record { requests = cond (is_accepted r) (q ∷ []) []; names = []; position = None } ∷ []) [])
-no_names v true q r a n holder = let l = a.spent n holder in omega (arith, l)
-no_names v false q r a n holder = let l = a.spent n holder in omega (arith, l)
+no_names : (v : View) (position : Option ℕ) (b : Bool) (q : Request) (r : Reply) → IsSpent v → HasRoom v (cond b (record { requests = cond (is_accepted r) (q ∷ []) []; names = []; position = position } ∷ []) [])
+no_names v position true q r a n holder = let l = a.spent n holder in omega (arith, l)
+no_names v position false q r a n holder = let l = a.spent n holder in omega (arith, l)
 
 -- one name more, of a holder who had not to wait
 one_name : (g : Gate) (q : Request) (a : Ask) (r : Reply) (b : Bool) → is_over (names_of g) a.holder ≡ false → IsSpent (view g)
-    → HasRoom (view g) (cond b (record { requests = cond (is_accepted r) (q ∷ []) []; names = answering (Some a) r; position = None } ∷ []) [])
+    → HasRoom (view g) (cond b (record { requests = cond (is_accepted r) (q ∷ []) []; names = answering (Some a) r; position = next_position g } ∷ []) [])
 one_name g q a r false w s n holder = let l = s.spent n holder in omega (arith, l)
 one_name g q a r true w s n holder = by (bytes_eq a.holder holder) refl (not (is_accepted r))
   where
@@ -101,13 +101,13 @@ one_name g q a r true w s n holder = by (bytes_eq a.holder holder) refl (not (is
 
 module _ (g : Gate) (s : IsSpent (view g)) where
   decided_room : (q : Request) (name : Option Ask) → ((a : Ask) → name ≡ Some a → is_over (names_of g) a.holder ≡ false) → HasRoom (view g) (decided_added g q name)
-  decided_room q name w = by (is_some g.head.log)
+  decided_room q name w = by (is_elsewhere g name)
     where
-      entries : (o : Option Ask) → ((a : Ask) → o ≡ Some a → is_over (names_of g) a.holder ≡ false) → HasRoom (view g) (entries_of q o (carried_reply g q))
-      entries None v = no_names (view g) _ q (carried_reply g q) s
+      entries : (o : Option Ask) → ((a : Ask) → o ≡ Some a → is_over (names_of g) a.holder ≡ false) → HasRoom (view g) (entries_of (next_position g) q o (carried_reply g q))
+      entries None v = no_names (view g) (next_position g) _ q (carried_reply g q) s
       entries (Some a) v = one_name g q a (carried_reply g q) _ (v a refl) s
 
-      by : (b : Bool) → HasRoom (view g) (cond b [] (entries_of q name (carried_reply g q)))
+      by : (b : Bool) → HasRoom (view g) (cond b [] (entries_of (next_position g) q name (carried_reply g q)))
       by true = none_more (view g) s
       by false = entries name w
 
@@ -209,6 +209,7 @@ happens_spent g ticked s = s
 happens_spent g synced s = s
 happens_spent g (handed m) s = s
 happens_spent g (arrived x) s = takes_spent g x s
+happens_spent g led s = s
 happens_spent g forgave s = record {
   forgiven = omega arith;
   spent = λ n holder. subst (λ es. refused_in holder (names_in es) ≤ 64) (sym (drop-length g.entries)) (omega arith);

@@ -9,7 +9,7 @@ use Rattle.iv_clients.specs.Feeds.{seat_of}
 use Rattle.iv_records.specs.Journal.{Request}
 use Rattle.iv_records.specs.Names.{Claim, place_text}
 use Rattle.iv_once.specs.Names.{Ask, Verdict, carry, again, another, late, foreign, ahead, over, verdict}
-use Rattle.iv_gate.specs.Gate.{Gate, asked_by, by_verdict, carries, decided_elsewhere, decides, has_shape_room, names_of, number_here, place_of, replies_to, done_in, shares, tells}
+use Rattle.iv_gate.specs.Gate.{Gate, asked_by, by_verdict, carries, decided_elsewhere, decides, has_shape_room, names_of, number_here, place_of, replies_to, done_in, shares, tells, is_elsewhere}
 use Rattle.iv_gate.proofs.ShapeTexts.{cond-either}
 
 -- what is told of it otherwise
@@ -35,7 +35,7 @@ module _ (P : Gate → Type 0) (g : Gate) (m : ℕ) (id : Option Data) (q : Requ
       by (Some n) e = x.does name n e
 
   decides_so : (name : Option Ask) → P (decides g m id q name)
-  decides_so name = cond-either P (is_some g.head.log) (tells g m (decided_elsewhere id name)) (carries g m id q name) (x.tells (decided_elsewhere id name) (aside name)) (carries_so name)
+  decides_so name = cond-either P (is_elsewhere g name) (tells g m (decided_elsewhere id name)) (carries g m id q name) (x.tells (decided_elsewhere id name) (aside name)) (carries_so name)
     where
       aside : (o : Option Ask) → IsAside (decided_elsewhere id o)
       aside None = refers id 100

@@ -11,7 +11,7 @@ use Rattle.iv_machine.specs.Sound.{IsSoundState}
 use Rattle.iv_clients.specs.Clients.{Client, Slots, Sub, client_at, fresh, has_role, is_followed, settling}
 use Rattle.iv_clients.specs.Feeds.{Feed, Seat, is_of_role, without_seat}
 use Rattle.iv_clients.proofs.Slots.{same-Some, IsThere-list_any, not_None-Some}
-use Rattle.iv_gate.specs.Events.{Event, presented, message, gone, known, ticked, synced, handed, failed, next, arrived, forgave}
+use Rattle.iv_gate.specs.Events.{Event, presented, message, gone, known, ticked, synced, handed, failed, next, arrived, forgave, led}
 use Rattle.iv_gate.specs.Gate.{Gate, all_rested, all_swept, in_session, is_needed, ran, rested, token_for, settles, at_text}
 use Rattle.iv_gate.specs.Replies.{ActsAs}
 use Rattle.iv_gate.specs.Runs.{Runs, begins, goes_on, begins_again}
@@ -257,6 +257,7 @@ next_needed adds sounds g e b c u a = by g.dead refl
     live_by live synced x s v = other_needed g synced live (λ j. refl) tt a
     live_by live (handed m) x s v = other_needed g (handed m) live (λ j. refl) tt a
     live_by live (arrived st) x s v = other_needed g (arrived st) live (λ j. refl) tt a
+    live_by live led x s v = other_needed g led live (λ j. refl) tt a
     live_by live forgave x s v = other_needed g forgave live (λ j. refl) tt a
     live_by live failed x s v = other_needed g failed live (λ j. refl) tt a
 

@@ -18,8 +18,8 @@ use Rattle.iv_clients.specs.Feeds.{Feed, Seat, ends_in, feed_for, feed_of, is_of
 use Rattle.iv_records.specs.Journal.{Entry, said_by, shape_for, Request, claim_said, requests_in}
 use Rattle.iv_clients.specs.Tokens.{Token}
 use Rattle.iv_clients.proofs.Slots.{client_at-at_client, same-Some, not_None-Some}
-use Rattle.iv_gate.specs.Events.{Event, presented, message, gone, known, ticked, synced, handed, failed, happens, next, arrived, forgave}
-use Rattle.iv_gate.specs.Gate.{Gate, acts, all_rested, all_swept, begun_for, closes, done_for, entered, has_session, hears, in_session, is_needed, joined, joined_by, joins, ran, reads, reads_first, reply_to, done_in, rested, token_for, said, seated, settles, shut, subscribes, swept, tells, went, with_session, informs, entries_of, at_text, shares, may_have, reply_told, replies_to, Head, went_on}
+use Rattle.iv_gate.specs.Events.{Event, presented, message, gone, known, ticked, synced, handed, failed, happens, next, arrived, forgave, led}
+use Rattle.iv_gate.specs.Gate.{Gate, acts, all_rested, all_swept, begun_for, closes, done_for, entered, has_session, hears, in_session, is_needed, joined, joined_by, joins, ran, reads, reads_first, reply_to, done_in, rested, token_for, said, seated, settles, shut, subscribes, swept, tells, went, with_session, informs, entries_of, at_text, shares, may_have, reply_told, replies_to, Head, went_on, next_position}
 use Rattle.iv_gate.specs.Replies.{ActsAs}
 use Rattle.iv_journal.specs.Journal.{Line}
 use Rattle.iv_gate.specs.Restoring.{Restores, gate_at_start}
@@ -200,13 +200,13 @@ kept_closes g m c id own s b = by (followed_by c.subs own)
     by (Some k) = sweeps k (is_followed k i.clients) (feed_of g.feeds k) refl
 
 kept_replies : (g : Gate) (m : ℕ) (id : Option Data) (q : Request) (name : Option Ask) (r : Reply) → IsKept g → IsKept (replies_to g m id q name r)
-kept_replies g m id q name r b = let h = entered g (entries_of q name r) in
+kept_replies g m id q name r b = let h = entered g (entries_of (next_position g) q name r) in
     kept_tells h m (reply_told h id name r) (record { shared = record { sessions = b.shared.sessions; seated = b.shared.seated; fed = b.shared.fed }; few = b.few })
 
 kept_requests : (g : Gate) (m : ℕ) (id : Option Data) (q : Request) (name : Option Ask) (n : ℕ) → is_plain q.act ≡ true → IsSoundGate g → IsKept g → IsKept (done_in g m id q name n)
 kept_requests g m id q name n p s b =
     let k = in_session n q.act in let r = reply_to g k in let i = replies_to g m id q name r in let x = kept_replies g m id q name r b in
-    kept_informs (ran i k) (entries_of q name r) (record { shared = IsShared-ran i k p s.state.numbers x.shared; few = AreFew-filter _ g.feeds b.few })
+    kept_informs (ran i k) (entries_of (next_position g) q name r) (record { shared = IsShared-ran i k p s.state.numbers x.shared; few = AreFew-filter _ g.feeds b.few })
 
 kept_shares : (g : Gate) (m : ℕ) (c : Client) (id : Option Data) (q : Request) (claim : Option Claim) → is_plain q.act ≡ true → IsSoundGate g → IsKept g → IsKept (shares g m c id q claim)
 kept_shares g m c id q claim p s b = shares_so IsKept g m id q
@@ -414,6 +414,7 @@ kept_happens adds sounds g ticked even s b = kept_all g (beating g.entries) (λ 
 kept_happens adds sounds g synced even s b = kept_as (record g { clients = at_all released g.clients }) (happens g synced) refl refl refl refl (kept_all g released role-released b)
 kept_happens adds sounds g (handed m) even s b = kept_as (record g { clients = at_client m handing g.clients }) (happens g (handed m)) refl refl refl refl (kept_one g m handing role-handing b)
 kept_happens adds sounds g (arrived st) even s b = kept_takes sounds g st s b
+kept_happens adds sounds g led even s b = kept_as g (happens g led) refl refl refl refl b
 kept_happens adds sounds g forgave even s b = kept_as g (happens g forgave) refl refl refl refl b
 kept_happens adds sounds g failed even s b = kept_as g (happens g failed) refl refl refl refl b
 

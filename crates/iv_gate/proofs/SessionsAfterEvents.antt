@@ -12,7 +12,7 @@ use Rattle.iv_clients.specs.Clients.{Client, at_client, client_at, closing, foll
 use Rattle.iv_clients.specs.Feeds.{Feed, Seat, feed_for, feed_of, has_room, is_of_role, is_reading, load, room_for, seat_of, without_seat}
 use Rattle.iv_records.specs.Journal.{said_by, Request, claim_said}
 use Rattle.iv_clients.proofs.Slots.{not_None-Some}
-use Rattle.iv_gate.specs.Events.{Event, presented, message, gone, known, ticked, synced, handed, failed, happens, next, arrived, forgave}
+use Rattle.iv_gate.specs.Events.{Event, presented, message, gone, known, ticked, synced, handed, failed, happens, next, arrived, forgave, led}
 use Rattle.iv_gate.specs.Gate.{Gate, acts, all_rested, all_swept, begun_for, closes, done_for, feed_begun, hears, in_session, is_needed, joined, joined_by, joins, ran, reads, reads_first, reply_to, rested, token_for, said, seated, settles, shut, subscribes, swept, tells, went, with_session, shares, may_have}
 use Rattle.iv_gate.specs.Needed.{AreSeatsAfter, left, begun}
 use Rattle.iv_gate.specs.Replies.{AreFull}
@@ -244,6 +244,7 @@ module _ (R : Name → Type 0) where
   happens_behind g synced w = same g
   happens_behind g (handed m) w = same g
   happens_behind g (arrived s) w = takes_behind g s
+  happens_behind g led w = same g
   happens_behind g forgave w = same g
   happens_behind g failed w = same g
 
@@ -269,6 +270,7 @@ for_any g ticked = tt
 for_any g synced = tt
 for_any g (handed m) = tt
 for_any g (arrived s) = tt
+for_any g led = tt
 for_any g forgave = tt
 for_any g failed = tt
 

@@ -18,8 +18,8 @@ use Rattle.iv_clients.specs.Tokens.{Token}
 use Rattle.iv_once.specs.Names.{Ask, Verdict, carry, again, another, late, foreign, ahead, verdict}
 use Rattle.iv_clients.proofs.Slots.{same-Some, not_None-Some}
 use Rattle.iv_gate.specs.Arriving.{Step, entry_of, newly}
-use Rattle.iv_gate.specs.Events.{Event, presented, message, gone, known, ticked, synced, handed, arrived, forgave, failed, happens, next}
-use Rattle.iv_gate.specs.Gate.{Gate, answering, asked_by, at_text, entries_of, granted_by, has_shape_room, hears, in_session, is_accepted, may_have, most_shape, names_of, reply_in, reply_to, said, shape_text}
+use Rattle.iv_gate.specs.Events.{Event, presented, message, gone, known, ticked, synced, handed, arrived, forgave, failed, happens, next, led}
+use Rattle.iv_gate.specs.Gate.{Gate, answering, asked_by, at_text, entries_of, granted_by, has_shape_room, hears, in_session, is_accepted, may_have, most_shape, names_of, reply_in, reply_to, said, shape_text, next_position, is_elsewhere}
 use Rattle.iv_gate.specs.Implied.{ShapeIsBounded}
 use Rattle.iv_gate.specs.Laws.{ShapeIsTold, is_made}
 use Rattle.iv_gate.specs.Replies.{added_by}
@@ -105,7 +105,7 @@ module _ (g h : Gate) (c d : Client) (es : List Entry) (e : h.entries ≡ g.entr
       more_of (a.front ++ (news ∷ a.back)) a.told (filter-append is_made a.front (news ∷ a.back) ∙ ((λ i. a.unmade.0 i ++ a.unmade.1 i) ∙ none_shown n))
   made_more (by_command a) =
       let o = step g.machine a.command in
-      outcome_made o (grants_of g.machine a.command c.role) (entries_of a.request a.name (reply_to g a.command)) (granted_other (is_accepted (reply_in o.lines)) (granted_by o.state.frame a.command.act c.role)) a.by
+      outcome_made o (grants_of g.machine a.command c.role) (entries_of (next_position g) a.request a.name (reply_to g a.command)) (granted_other (is_accepted (reply_in o.lines)) (granted_by o.state.frame a.command.act c.role)) a.by
 
   pub step_made : (s : Step) → IsToldStep g h s c d → filter is_made (told d) ≡ filter is_made (told c) ++ shape_for c.role es
   step_made s a = outcome_made a.outcome (map granted (newly g.machine.frame a.outcome.state.frame c.role)) (entry_of s ∷ []) (names_other (newly g.machine.frame a.outcome.state.frame c.role)) a.by
@@ -163,38 +163,38 @@ text_both : (es fs : List Entry) → shape_text (es ++ fs) ≡ shape_text es ++ 
 text_both es fs = ap (flat_map told_text) (shape_of-append es fs) ∙ flat_map-append told_text (shape_of es) (shape_of fs)
 
 -- what makes nothing of the shape adds no text
-unshaped : (q : Request) (name : Option Ask) (r : Reply) → is_shape q.act ≡ false → shape_text (entries_of q name r) ≡ []
-unshaped q name r x = by (is_shared q.act) (is_accepted r) (is_some name)
+unshaped : (position : Option ℕ) (q : Request) (name : Option Ask) (r : Reply) → is_shape q.act ≡ false → shape_text (entries_of position q name r) ≡ []
+unshaped position q name r x = by (is_shared q.act) (is_accepted r) (is_some name)
   where
-    by : (s y z : Bool) → shape_text (cond (s && (y || z)) (record { requests = cond y (q ∷ []) []; names = answering name r; position = None } ∷ []) []) ≡ []
+    by : (s y z : Bool) → shape_text (cond (s && (y || z)) (record { requests = cond y (q ∷ []) []; names = answering name r; position = position } ∷ []) []) ≡ []
     by false y z = refl
     by true false false = refl
     by true false true = refl
     by true true z = ap (λ t. flat_map told_text (map (λ (p : Request). made p.role p.line) (cond t (q ∷ []) []))) x
 
 -- nor does what is refused
-refused_text : (q : Request) (name : Option Ask) (r : Refusal) → shape_text (entries_of q name (refused r)) ≡ []
-refused_text q name r = by (is_shared q.act) (is_some name)
+refused_text : (position : Option ℕ) (q : Request) (name : Option Ask) (r : Refusal) → shape_text (entries_of position q name (refused r)) ≡ []
+refused_text position q name r = by (is_shared q.act) (is_some name)
   where
-    by : (s z : Bool) → shape_text (cond (s && (false || z)) (record { requests = []; names = answering name (refused r); position = None } ∷ []) []) ≡ []
+    by : (s z : Bool) → shape_text (cond (s && (false || z)) (record { requests = []; names = answering name (refused r); position = position } ∷ []) []) ≡ []
     by false z = refl
     by true false = refl
     by true true = refl
 
 module _ (g : Gate) (full : nat_lt most_shape (length (shape_text g.entries)) ≡ true) where
-  carried_text : (q : Request) (name : Option Ask) → shape_text (entries_of q name (carried_reply g q)) ≡ []
+  carried_text : (q : Request) (name : Option Ask) → shape_text (entries_of (next_position g) q name (carried_reply g q)) ≡ []
   carried_text q name = by (is_shape q.act) refl
     where
-      by : (b : Bool) → is_shape q.act ≡ b → shape_text (entries_of q name (carried_reply g q)) ≡ []
-      by false x = unshaped q name (carried_reply g q) x
+      by : (b : Bool) → is_shape q.act ≡ b → shape_text (entries_of (next_position g) q name (carried_reply g q)) ≡ []
+      by false x = unshaped (next_position g) q name (carried_reply g q) x
       by true x =
           let room : has_shape_room g q.act ≡ false = (λ i. not (x i && full i)) in
-          ap (λ b. shape_text (entries_of q name (cond b (if_some (seat_of g.seats q.role) (refused no_session) (λ n. reply_to g (in_session n q.act))) (refused limit)))) room ∙ refused_text q name limit
+          ap (λ b. shape_text (entries_of (next_position g) q name (cond b (if_some (seat_of g.seats q.role) (refused no_session) (λ n. reply_to g (in_session n q.act))) (refused limit)))) room ∙ refused_text (next_position g) q name limit
 
   decided_text : (q : Request) (name : Option Ask) → shape_text (decided_added g q name) ≡ []
-  decided_text q name = by (is_some g.head.log)
+  decided_text q name = by (is_elsewhere g name)
     where
-      by : (b : Bool) → shape_text (cond b [] (entries_of q name (carried_reply g q))) ≡ []
+      by : (b : Bool) → shape_text (cond b [] (entries_of (next_position g) q name (carried_reply g q))) ≡ []
       by true = refl
       by false = carried_text q name
 
@@ -266,6 +266,7 @@ ShapeIsBounded-event g e none full = by g.dead
     other synced n = refl
     other (handed m) n = refl
     other (arrived s) n = absurd (n s refl)
+    other led n = refl
     other forgave n = refl
     other failed n = refl
 

@@ -14,8 +14,8 @@ use Rattle.iv_clients.specs.Clients.{Client, Shown, Slots, all_shown, answered, 
 use Rattle.iv_records.specs.Journal.{Entry, said_by, shape_for, Request}
 use Rattle.iv_clients.specs.Tokens.{Token}
 use Rattle.iv_clients.proofs.Slots.{client_at-at_all, client_at-at_other_client, client_at-at_client, is_free-client_at, same-Some, client_at-set_None, client_at-set_other, not_None-Some}
-use Rattle.iv_gate.specs.Events.{Event, presented, message, gone, known, ticked, synced, handed, failed, happens, next, arrived, forgave}
-use Rattle.iv_gate.specs.Gate.{Gate, came, done_for, entered, hears, in_session, ran, reply_to, done_in, token_for, said, settles, told_of, went, entries_of, informs, at_text, replies_to, reply_told}
+use Rattle.iv_gate.specs.Events.{Event, presented, message, gone, known, ticked, synced, handed, failed, happens, next, arrived, forgave, led}
+use Rattle.iv_gate.specs.Gate.{Gate, came, done_for, entered, hears, in_session, ran, reply_to, done_in, token_for, said, settles, told_of, went, entries_of, informs, at_text, replies_to, reply_told, next_position}
 use Rattle.iv_gate.specs.Replies.{ByClient, heard_by}
 use Rattle.iv_gate.proofs.GrownTexts.{Grown, append-associative, all_shown-Grown}
 use Rattle.iv_gate.proofs.TextsAndDisk.{all_more}
@@ -212,15 +212,15 @@ done_reaches g m c text =
     (λ id act name n e shared seat. asked id (request_of c text act) name n) (λ id act a r e shared. (shown_reply id (request_of c text act) (Some a) (refused r)).clients)
   where
     -- the reply comes when its entry is accepted
-    shown_reply : (id : Option Data) (q : Request) (name : Option Ask) (r : Reply) → IsTelling (g.entries ++ entries_of q name r) g.clients (replies_to g m id q name r)
+    shown_reply : (id : Option Data) (q : Request) (name : Option Ask) (r : Reply) → IsTelling (g.entries ++ entries_of (next_position g) q name r) g.clients (replies_to g m id q name r)
     shown_reply id q name r =
-        let i = entered g (entries_of q name r) in
+        let i = entered g (entries_of (next_position g) q name r) in
         one_tells i.entries g.clients i m (told_one i.entries (reply_told i id name r)) (told_more i.entries (reply_told i id name r)) (record { entries = refl; clients = follow_start i.entries g.clients })
 
     asked : (id : Option Data) (q : Request) (name : Option Ask) (n : ℕ) → Reached g.clients (done_in g m id q name n)
     asked id q name n =
-        let k = in_session n q.act in let r = reply_to g k in let es = g.entries ++ entries_of q name r in let i = replies_to g m id q name r in
-        (informs_tells es g.clients (ran i k) (entries_of q name r) (ran_tells es g.clients i k (shown_reply id q name r))).clients
+        let k = in_session n q.act in let r = reply_to g k in let es = g.entries ++ entries_of (next_position g) q name r in let i = replies_to g m id q name r in
+        (informs_tells es g.clients (ran i k) (entries_of (next_position g) q name r) (ran_tells es g.clients i k (shown_reply id q name r))).clients
 
 answering : (es : List Entry) (ss : List Shown) → AllByRecursion (Shows es false) ss → AllByRecursion (Shows es true) (map (λ (s : Shown). record s { answers = true }) ss)
 answering es [] a = tt
@@ -356,6 +356,7 @@ happens_shows g ticked j c d h k s =
 happens_shows g synced j c d h k s = released_shows g.entries false c d (every_at released g.clients j c d h k) s
 happens_shows g (handed m) j c d h k s = handed_shows g.entries false g m j c d h k
 happens_shows g (arrived x) j c d h k s = takes_shows g x j c d h k
+happens_shows g led j c d h k s = same_client g.entries false g.clients j c d h k
 happens_shows g forgave j c d h k s = same_client g.entries false g.clients j c d h k
 happens_shows g failed j c d h k s = same_client g.entries false g.clients j c d h k
 

@@ -9,7 +9,7 @@ use Rattle.iv_clients.specs.Clients.{Client, Shown, Slots, answered, at_client, 
 use Rattle.iv_clients.specs.Feeds.{is_of_role, seat_of}
 use Rattle.iv_records.specs.Journal.{said_by, Entry}
 use Rattle.iv_clients.proofs.Slots.{client_at-at_client, same-Some, client_at-set_other, not_None-Some}
-use Rattle.iv_gate.specs.Events.{Event, presented, message, gone, known, ticked, synced, handed, failed, happens, next, arrived, forgave}
+use Rattle.iv_gate.specs.Events.{Event, presented, message, gone, known, ticked, synced, handed, failed, happens, next, arrived, forgave, led}
 use Rattle.iv_gate.specs.Gate.{Gate, all_rested, all_swept, begun_for, done_for, hears, token_for, said, seated, settles, went, with_session, at_text}
 use Rattle.iv_gate.specs.Replies.{IsClient, replies}
 use Rattle.iv_gate.proofs.SoundRequests.{IsHeard, IsSoundGate-done_for, IsSoundGate-seated}
@@ -158,6 +158,7 @@ happens_sound adds sounds g ticked even b = IsSoundGate-ticking g b
 happens_sound adds sounds g synced even b = IsSoundGate-on_disk g b
 happens_sound adds sounds g (handed m) even b = IsSoundGate-hands g m b
 happens_sound adds sounds g (arrived s) even b = IsSoundGate-takes sounds g s b
+happens_sound adds sounds g led even b = record { state = b.state; seats = b.seats; feeds = b.feeds; clients = b.clients }
 happens_sound adds sounds g forgave even b = record { state = b.state; seats = b.seats; feeds = b.feeds; clients = b.clients }
 happens_sound adds sounds g failed even b = record { state = b.state; seats = b.seats; feeds = b.feeds; clients = b.clients }
 

@@ -17,7 +17,7 @@ use Rattle.iv_clients.specs.Clients.{Client, at_client, client_at, closing, foll
 use Rattle.iv_clients.specs.Feeds.{Feed, Seat, ends_in, feed_for, has_room, is_of_role, is_reading, load, next_seat, room_for, seat_of}
 use Rattle.iv_records.specs.Journal.{Entry, said_by, Request, claim_said}
 use Rattle.iv_clients.proofs.Slots.{client_at-at_all, IsFrom-option_map, same-Some, not_None-Some}
-use Rattle.iv_gate.specs.Gate.{Gate, acts, begun_for, closes, done_for, entered, in_session, is_accepted, joins, ran, reads, reads_first, reply_in, reply_to, done_in, seated, subscribes, swept, tells, told_of, entries_of, shares, may_have, reply_told, replies_to}
+use Rattle.iv_gate.specs.Gate.{Gate, acts, begun_for, closes, done_for, entered, in_session, is_accepted, joins, ran, reads, reads_first, reply_in, reply_to, done_in, seated, subscribes, swept, tells, told_of, entries_of, shares, may_have, reply_told, replies_to, next_position}
 use Rattle.iv_gate.specs.Replies.{ActsAs, replies}
 use Rattle.iv_gate.proofs.SameFeeds.{and-both_true, IsSoundGate-joins, same-bytes_eq}
 use Rattle.iv_gate.proofs.NewSubscriptions.{IsAsker, AllByRecursion-pushed, IsQuiet-replied, IsSoundGate-subscribes}
@@ -45,12 +45,12 @@ quiet_aside _ (leaves id number) = record { weighs = λ own q. refl; goes_on = �
 quiet_aside _ (repeats id at answer) = record { weighs = λ own q. refl; goes_on = λ own. refl }
 
 replies_sound : (g : Gate) (m : ℕ) (id : Option Data) (q : Request) (name : Option Ask) (r : Reply) → IsSoundGate g → IsSoundGate (replies_to g m id q name r)
-replies_sound g m id q name r b = let h = entered g (entries_of q name r) in IsSoundGate-tells h m (reply_told h id name r) (quiet_told h id name r) (entered_sound g (entries_of q name r) b)
+replies_sound g m id q name r b = let h = entered g (entries_of (next_position g) q name r) in IsSoundGate-tells h m (reply_told h id name r) (quiet_told h id name r) (entered_sound g (entries_of (next_position g) q name r) b)
 
 requests_sound : Adds → Sounds → (g : Gate) (m : ℕ) (id : Option Data) (q : Request) (name : Option Ask) (n : ℕ) → closes_none q.act ≡ true → IsSoundGate g → IsSoundGate (done_in g m id q name n)
 requests_sound adds sounds g m id q name n h b =
     let k = in_session n q.act in let r = reply_to g k in let i = replies_to g m id q name r in
-    IsSoundGate-informs (ran i k) (entries_of q name r) (IsSoundGate-ran adds sounds i k h (replies_sound g m id q name r b))
+    IsSoundGate-informs (ran i k) (entries_of (next_position g) q name r) (IsSoundGate-ran adds sounds i k h (replies_sound g m id q name r b))
 
 shares_sound : Adds → Sounds → (g : Gate) (m : ℕ) (c : Client) (id : Option Data) (q : Request) (claim : Option Claim) → closes_none q.act ≡ true → IsSoundGate g → IsSoundGate (shares g m c id q claim)
 shares_sound adds sounds g m c id q claim h b = shares_so IsSoundGate g m id q (record {

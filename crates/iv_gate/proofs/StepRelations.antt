@@ -15,7 +15,7 @@ use Rattle.iv_clients.specs.Feeds.{Feed, Seat, feed_for, feed_of, is_of_role, is
 use Rattle.iv_records.specs.Journal.{Entry, Request, claim_said, is_shared, line_said, said_by}
 use Rattle.iv_records.specs.Names.{Claim}
 use Rattle.iv_clients.specs.Tokens.{Token}
-use Rattle.iv_gate.specs.Gate.{Gate, acts, all_rested, all_swept, at_text, begun_for, came, closes, columns_in, done_for, entered, feed_begun, hears, in_session, is_needed, joined, joined_by, joins, may_have, next_own, ran, reads, reads_first, replies_to, reply_to, done_in, rested, said, seated, settles, shares, shut, subscribes, swept, tells, token_for, went, with_session}
+use Rattle.iv_gate.specs.Gate.{Gate, acts, all_rested, all_swept, at_text, begun_for, came, closes, columns_in, done_for, entered, feed_begun, hears, in_session, is_needed, joined, joined_by, joins, may_have, next_own, ran, reads, reads_first, replies_to, reply_to, done_in, rested, said, seated, settles, shares, shut, subscribes, swept, tells, token_for, went, with_session, next_position}
 use Rattle.iv_gate.specs.Laws.{is_made}
 use Rattle.iv_gate.proofs.RequestFates.{IsAside, refers, leaves, repeats, shares_so}
 use Rattle.iv_gate.proofs.ShapeTexts.{cond-either}
@@ -146,7 +146,7 @@ module _ (m : ℕ) (G : Gate → Gate → Type 0) (kit : Steps m G) where
     step_refuses id q (Some a) r f = f a
     step_refuses id q None r f = subst F (sym same) (reach (tells g m (replied id (refused r))) (kit.tell g (replied id (refused r)) refl))
       where
-        nothing : (b : Bool) → cond {A = List Entry} (b && false) (record { requests = []; names = []; position = None } ∷ []) [] ≡ []
+        nothing : (b : Bool) → cond {A = List Entry} (b && false) (record { requests = []; names = []; position = next_position g } ∷ []) [] ≡ []
         nothing true = refl
         nothing false = refl
 

@@ -20,8 +20,8 @@ use Rattle.iv_steps.specs.Steps.{stepped}
 use Rattle.iv_clients.specs.Tokens.{Token, token_of}
 use Rattle.iv_clients.proofs.Slots.{client_at-at_all, client_at-at_other_client, client_at-at_client, not_client_at-replicate, same-Some, client_at-set_other, not_None-Some}
 use Rattle.iv_gate.specs.Arriving.{Step, entry_of, fact_of, fault_of, first_known, was_taken, landed, takes}
-use Rattle.iv_gate.specs.Events.{Event, presented, message, gone, known, ticked, synced, handed, arrived, forgave, failed, IsWell, happens, hands, knowing, next, on_disk, ticking}
-use Rattle.iv_gate.specs.Gate.{Gate, Head, at_text, hears, known_at, came, done_in, entered, entries_of, has_session, in_session, informs, ran, replies_to, reply_to, reply_told, said, tells, token_for, told_of, went, went_on}
+use Rattle.iv_gate.specs.Events.{Event, presented, message, gone, known, ticked, synced, handed, arrived, forgave, failed, IsWell, happens, hands, knowing, next, on_disk, ticking, led}
+use Rattle.iv_gate.specs.Gate.{Gate, Head, at_text, hears, known_at, came, done_in, entered, entries_of, has_session, in_session, informs, ran, replies_to, reply_to, reply_told, said, tells, token_for, told_of, went, went_on, next_position}
 use Rattle.iv_gate.specs.Laws.{IsFront, SentIsKept}
 use Rattle.iv_gate.specs.Restoring.{Restores, are_rising, gate_at_start}
 use Rattle.iv_gate.specs.Runs.{LeavesOnDisk, Runs, begins, goes_on, begins_again}
@@ -246,12 +246,12 @@ module _ (base : List Entry) where
 
   replied_held : (g : Gate) (m : ℕ) (id : Option Data) (q : Request) (name : Option Ask) (r : Reply) → IsHeld base g → IsHeld base (replies_to g m id q name r)
   replied_held g m id q name r b =
-      let h = entered g (entries_of q name r) in tells_held h m (reply_told h id name r) (more_held g (entries_of q name r) b)
+      let h = entered g (entries_of (next_position g) q name r) in tells_held h m (reply_told h id name r) (more_held g (entries_of (next_position g) q name r) b)
 
   requests_held : (g : Gate) (m : ℕ) (id : Option Data) (q : Request) (name : Option Ask) (n : ℕ) → IsHeld base g → IsHeld base (done_in g m id q name n)
   requests_held g m id q name n b =
       let k = in_session n q.act in let r = reply_to g k in let h = replies_to g m id q name r in
-      informs_held (ran h k) (entries_of q name r) (ran_held h k (replied_held g m id q name r b))
+      informs_held (ran h k) (entries_of (next_position g) q name r) (ran_held h k (replied_held g m id q name r b))
 
   -- a step is told
   landed_held : (g : Gate) (e : Entry) (o : Outcome) → IsHeld base g → IsHeld base (landed g e o)
@@ -378,6 +378,7 @@ happens_held g ticked b = ticked_held g b
 happens_held g synced b = synced_held g b
 happens_held g (handed m) b = handed_held g m b
 happens_held g (arrived s) b = takes_held [] g s b
+happens_held g led b = record { front = b.front; kept = b.kept; sent = b.sent; clients = b.clients }
 happens_held g forgave b = record { front = b.front; kept = b.kept; sent = b.sent; clients = b.clients }
 happens_held g failed b = record { front = b.front; kept = b.kept; sent = b.sent; clients = b.clients }
 
@@ -476,6 +477,7 @@ happens_booked texts g ticked w b k = IsBooked-same_entries g (ticking g) refl r
 happens_booked texts g synced w b k = IsBooked-same_entries g (on_disk g) refl refl k
 happens_booked texts g (handed m) w b k = IsBooked-same_entries g (hands g m) refl refl k
 happens_booked texts g (arrived s) w b k = takes_booked g s w.0 k
+happens_booked texts g led w b k = IsBooked-same_entries g (record g { leads = is_some g.head.log }) refl refl k
 happens_booked texts g forgave w b k = IsBooked-same_entries g (record g { forgiven = length g.entries }) refl refl k
 happens_booked texts g failed w b k = IsBooked-same_entries g (record g { dead = true }) refl refl k
 

@@ -14,7 +14,7 @@ use Rattle.iv_gate.specs.Gate.{Gate, came, said, went}
 
 -- a token is presented for number m; client m sends a message, and goes; other tokens are known from now on; all are told that the line is
 -- alive; the journal has all entries on disk (nothing happens between its write and that); what client m may be sent is handed to its
--- socket; a step of the log comes; names that were refused are forgiven; a call failed
+-- socket; a step of the log comes; the gateway leads the log from now on; names that were refused are forgiven; a call failed
 pub data Event : Type 0 where
   presented : (m : ℕ) → (token : List ℕ) → Event
   message : (m : ℕ) → (text : List ℕ) → Event
@@ -24,6 +24,7 @@ pub data Event : Type 0 where
   synced : Event
   handed : (m : ℕ) → Event
   arrived : (s : Step) → Event
+  led : Event
   forgave : Event
   failed : Event
 
@@ -50,6 +51,10 @@ on_disk g = record g { kept = length g.entries; clients = at_all released g.clie
 abbrev pub hands : Gate → ℕ → Gate
 hands g m = record g { clients = at_client m handing g.clients; sent = g.sent ++ if_some (client_at g.clients m) [] (λ c. c.sendable) }
 
+-- if it follows one
+abbrev pub leading : Gate → Gate
+leading g = record g { leads = is_some g.head.log }
+
 abbrev pub happens : Gate → Event → Gate
 happens g (presented m token) = came g m token
 happens g (message m text) = said g m text
@@ -59,6 +64,7 @@ happens g ticked = ticking g
 happens g synced = on_disk g
 happens g (handed m) = hands g m
 happens g (arrived s) = takes g s
+happens g led = leading g
 happens g forgave = record g { forgiven = length g.entries }
 happens g failed = record g { dead = true }
 

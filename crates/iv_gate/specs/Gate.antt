@@ -24,8 +24,8 @@ use Rattle.iv_clients.specs.Bounds.{most_subs}
 use Rattle.iv_clients.specs.Clients.{Client, Shown, Slots, at_all, at_client, client_at, closing, followed_by, following, fresh, has_role, is_followed, is_free, may_say, moved, own_lines, saying, settling, staying, telling, told_one}
 use Rattle.iv_clients.specs.Clients as clients
 use Rattle.iv_clients.specs.Feeds.{Feed, Seat, feed_for, feed_of, feeds_left, is_of_role, is_reading, next_seat, room_for, seat_of, without_feed, without_seat}
-use Rattle.iv_records.specs.Journal.{Entry, Request, claim_said, is_shape, is_shared, line_said, names_in, said_by, shape_for, shape_of}
-use Rattle.iv_records.specs.Names.{Claim, holder_of, limits, place_text}
+use Rattle.iv_records.specs.Journal.{Entry, Request, claim_said, is_shape, is_shared, line_said, names_in, position_of, said_by, shape_for, shape_of}
+use Rattle.iv_records.specs.Names.{Claim, holder_of, is_count, limits, place_text}
 use Rattle.iv_clients.specs.Tokens.{Token, token_of}
 
 -- a log that others keep, and its epoch: 32 digits that no other beginning of it has
@@ -46,7 +46,8 @@ abbrev pub place_at : Head → List ℕ → Place
 place_at h holder = unwrap_or (h.places holder) (record { epoch = h.epoch; count = 0 })
 
 -- `entries` are those of the journal, of which the first `kept` are on disk; the names that were refused in the first `forgiven` are
--- forgiven. Once it is `dead` nothing happens any more. `sent` is all text that was handed on, to whomever; the code has no memory of it.
+-- forgiven. If it `leads`, it decides the log that it follows. Once it is `dead` nothing happens any more. `sent` is all text that was handed
+-- on, to whomever; the code has no memory of it.
 pub record Gate : Type 0 where
   pub tokens : List Token
   pub machine : State
@@ -57,6 +58,7 @@ pub record Gate : Type 0 where
   pub entries : List Entry
   pub kept : ℕ
   pub forgiven : ℕ
+  pub leads : Bool
   pub dead : Bool
   pub sent : List Shown
 
@@ -253,10 +255,15 @@ abbrev pub answering : Option Ask → Reply → List Named
 answering None r = []
 answering (Some a) r = record { ask = a; refused = not (is_accepted r); answer = answer_text r } ∷ []
 
--- what the journal is to have of a request that changes what is shared: it, where it is accepted, and its name, if it has one
-abbrev pub entries_of : Request → Option Ask → Reply → List Entry
-entries_of q name r = if is_shared q.act && (is_accepted r || is_some name)
-    then record { requests = if is_accepted r then q ∷ [] else []; names = answering name r; position = None } ∷ [] else []
+-- where the log stands after what is decided next here: one further, if the gateway leads it; none is beyond 64 bits
+abbrev pub next_position : Gate → Option ℕ
+next_position g = let next = position_of g.head.position g.entries + 1 in if g.leads && is_count next then Some next else None
+
+-- what the journal is to have of a request that changes what is shared: it, where it is accepted, and its name, if it has one. If the gateway
+-- leads its log, that is a step of it
+abbrev pub entries_of : (position : Option ℕ) → Request → Option Ask → Reply → List Entry
+entries_of position q name r = if is_shared q.act && (is_accepted r || is_some name)
+    then record { requests = if is_accepted r then q ∷ [] else []; names = answering name r; position = position } ∷ [] else []
 
 abbrev pub entered : Gate → List Entry → Gate
 entered g es = record g { entries = g.entries ++ es }
@@ -272,12 +279,12 @@ informs g es = record g { clients = at_all (λ c. telling g.entries (shape_for c
 
 -- client m is told that its request is answered so
 abbrev pub replies_to : Gate → ℕ → Option Data → Request → Option Ask → Reply → Gate
-replies_to g m id q name r = let h = entered g (entries_of q name r) in tells h m (reply_told h id name r)
+replies_to g m id q name r = let h = entered g (entries_of (next_position g) q name r) in tells h m (reply_told h id name r)
 
 -- client m is told the reply, then everybody what changed, and then administrators the request, if it makes the shape
 abbrev pub done_in : Gate → ℕ → Option Data → Request → Option Ask → ℕ → Gate
 done_in g m id q name n = let k = in_session n q.act in let r = reply_to g k in
-    informs (ran (replies_to g m id q name r) k) (entries_of q name r)
+    informs (ran (replies_to g m id q name r) k) (entries_of (next_position g) q name r)
 
 -- ---- messages
 
@@ -302,17 +309,26 @@ carries g m id q name = if has_shape_room g q.act then if_some (seat_of g.seats 
 abbrev pub asked_by : Client → List ℕ → Claim → Ask
 asked_by c line k = record { holder = holder_of c.role c.user; name = k.name; at = k.at; digest = sha256 line }
 
--- while a log is followed, what is shared is decided there: a request is not done here, and of one with a name nobody here says whether it was
+-- it follows a log that others lead
+abbrev pub is_follower : Gate → Bool
+is_follower g = is_some g.head.log && not (is_some (next_position g))
+
+-- what is shared is decided by who leads the log; there too nobody decides what has no name: its refusal would be in no log
+abbrev pub is_elsewhere : Gate → Option Ask → Bool
+is_elsewhere g None = is_some g.head.log
+is_elsewhere g (Some a) = is_follower g
+
+-- then a request is not done here, and of one with a name nobody here says whether it was
 abbrev pub decided_elsewhere : Option Data → Option Ask → Told
 decided_elsewhere id None = denied id 100
 decided_elsewhere id (Some a) = undecided id 100
 
 abbrev pub decides : Gate → ℕ → Option Data → Request → Option Ask → Gate
-decides g m id q name = if is_some g.head.log then tells g m (decided_elsewhere id name) else carries g m id q name
+decides g m id q name = if is_elsewhere g name then tells g m (decided_elsewhere id name) else carries g m id q name
 
--- what is said of a name that has no answer here: this number; while a log is followed, which may still bring one, that it is decided there
+-- what is said of a name that has no answer here: this number; while others lead the log, which may still bring one, that it is decided there
 abbrev pub number_here : Gate → ℕ → ℕ
-number_here g number = if is_some g.head.log then 100 else number
+number_here g number = if is_follower g then 100 else number
 
 -- by its name it is done, or told its first answer again, or that it stays undecided whether it was: for ever by 102 and 103; after 104 it may be
 -- sent again

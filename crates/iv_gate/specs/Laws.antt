@@ -14,7 +14,7 @@ use Rattle.iv_once.specs.Laws.{times}
 use Rattle.iv_once.specs.Names.{Place}
 use Rattle.iv_steps.specs.Steps.{all_carried, shared}
 use Rattle.iv_clients.specs.Tokens.{Token}
-use Rattle.iv_gate.specs.Events.{Event, IsWell, arrived, failed, forgave, handed, known, message, next, synced, ticked}
+use Rattle.iv_gate.specs.Events.{Event, IsWell, arrived, failed, forgave, handed, known, led, message, next, synced, ticked}
 use Rattle.iv_gate.specs.Arriving.{entry_of, fact_of, fault_of, was_taken, newly}
 use Rattle.iv_gate.specs.Gate.{Gate, granted_by}
 use Rattle.iv_gate.specs.Replies.{AreReplied, ByClient, IsAnswered, IsClient, added_by, heard_by, names_by, refused_by, told_by}
@@ -68,12 +68,13 @@ AddsOnly g (arrived s) es = es ≡ (if was_taken g s || is_some (fault_of g s) t
 AddsOnly g (message m text) es = if_some (client_at g.clients m) false may_say ≡ false → es ≡ []
 AddsOnly g e es = es ≡ []
 
--- what an event makes of what tokens it knows, what is on disk, what was sent, what is forgiven, and whether it is dead
+-- what an event makes of what tokens it knows, what is on disk, what was sent, what is forgiven, whether it leads, and whether it is dead
 abbrev pub marked : Gate → Event → Gate
 marked g (known tokens) = record g { tokens = tokens }
 marked g synced = record g { kept = length g.entries }
 marked g (handed m) = record g { sent = g.sent ++ if_some (client_at g.clients m) [] (λ c. c.sendable) }
 marked g (arrived s) = record g { dead = is_some (fault_of g s) }
+marked g led = record g { leads = is_some g.head.log }
 marked g forgave = record g { forgiven = length g.entries }
 marked g failed = record g { dead = true }
 marked g e = g

@@ -17,7 +17,7 @@ use Rattle.iv_records.specs.Journal.{Entry, Request, claim_said, line_said, name
 use Rattle.iv_records.specs.Names.{Claim, limits, place_text}
 use Rattle.iv_once.specs.Names.{Ask, Named}
 use Rattle.iv_gate.specs.Events.{Event, message, next}
-use Rattle.iv_gate.specs.Gate.{Gate, answer_text, asked_by, columns_in, entries_of, has_shape_room, in_session, known_of, may_have, place_at, reply_in}
+use Rattle.iv_gate.specs.Gate.{Gate, answer_text, asked_by, columns_in, entries_of, has_shape_room, in_session, is_follower, known_of, may_have, next_position, place_at, reply_in}
 
 -- ---- clients
 
@@ -114,12 +114,12 @@ abbrev pub NoneAnswers : List Named → Ask → Type 0
 NoneAnswers es a = (answer : List ℕ) → IsAnswer es a answer → ⊥
 
 -- what bars a request with a name: its name is another request's; its place is so old that its answer may be forgotten; or its place is of
--- another epoch: then its answer may still come, if a log is followed
+-- another epoch: then its answer may still come, if others lead the log
 pub data IsBarred (g : Gate) (a : Ask) : ℕ → Type 0 where
   another : (e : Named) → Contains (remembered_by g a.holder) e → e.ask.name ≡ a.name → e.ask ≢ a → IsBarred g a 101
   late : a.at.count + limits.names < count_of g a.holder → IsBarred g a 102
-  foreign : g.head.log ≡ None → a.at.epoch ≢ (place_at g.head a.holder).epoch → IsBarred g a 103
-  foreign_yet : is_some g.head.log ≡ true → a.at.epoch ≢ (place_at g.head a.holder).epoch → IsBarred g a 100
+  foreign : is_follower g ≡ false → a.at.epoch ≢ (place_at g.head a.holder).epoch → IsBarred g a 103
+  foreign_yet : is_follower g ≡ true → a.at.epoch ≢ (place_at g.head a.holder).epoch → IsBarred g a 100
 
 -- it may be done: none of its holder's names answers it, and nothing bars it
 pub record MayBeDone (g : Gate) (a : Ask) : Type 0 where
@@ -129,10 +129,10 @@ pub record MayBeDone (g : Gate) (a : Ask) : Type 0 where
 -- why it has to wait: what is shared is decided elsewhere; or it is decided here, and its place is ahead, or too many of its holder's names were
 -- refused, or too many holders have names
 pub data HasToWait (g : Gate) (a : Ask) : ℕ → Type 0 where
-  elsewhere : is_some g.head.log ≡ true → HasToWait g a 100
-  ahead : g.head.log ≡ None → count_of g a.holder < a.at.count → HasToWait g a 104
-  refused_often : g.head.log ≡ None → limits.refusals ≤ refused_by g a.holder → HasToWait g a 104
-  many : g.head.log ≡ None → limits.holders ≤ (known_of g).holders → (known_of g).owns a.holder ≡ None → HasToWait g a 104
+  elsewhere : is_follower g ≡ true → HasToWait g a 100
+  ahead : is_follower g ≡ false → count_of g a.holder < a.at.count → HasToWait g a 104
+  refused_often : is_follower g ≡ false → limits.refusals ≤ refused_by g a.holder → HasToWait g a 104
+  many : is_follower g ≡ false → limits.holders ≤ (known_of g).holders → (known_of g).owns a.holder ≡ None → HasToWait g a 104
 
 -- where the names of a holder stand when as many more have an answer
 abbrev pub place_after : Gate → List ℕ → ℕ → List ℕ
@@ -142,7 +142,7 @@ place_after g holder more = place_text (record { epoch = (place_at g.head holder
 -- remembered, that is told again; if it is barred and no answer is remembered, nobody says whether it was done
 pub data IsNamedReply (g : Gate) (c : Client) (id : Option Data) (q : Request) (a : Ask) : Told → List Entry → Type 0 where
   is_done : (r : Reply) → MayBeDone g a → ((number : ℕ) → HasToWait g a number → ⊥) → IsSharedReply g c q.act r
-      → IsNamedReply g c id q a (answered id false (place_after g a.holder 1) (answer_text r)) (entries_of q (Some a) r)
+      → IsNamedReply g c id q a (answered id false (place_after g a.holder 1) (answer_text r)) (entries_of (next_position g) q (Some a) r)
   waits : (number : ℕ) → MayBeDone g a → HasToWait g a number → IsNamedReply g c id q a (undecided id number) []
   is_repeated : (answer : List ℕ) → IsAnswer (remembered_by g a.holder) a answer
       → IsNamedReply g c id q a (answered id true (place_after g a.holder 0) answer) []
@@ -150,10 +150,11 @@ pub data IsNamedReply (g : Gate) (c : Client) (id : Option Data) (q : Request) (
 
 -- ---- acts
 
--- the reply to a request that changes what is shared, and what that adds to the journal; while a log is followed it is not done here
+-- the reply to a request that changes what is shared, and what that adds to the journal; while a log is followed, also if it is led here, none is
+-- done that has no name
 abbrev pub IsReplyToShared : Gate → Client → Option Data → Request → Option Claim → Told → List Entry → Type 0
 IsReplyToShared g c id q None t es = ((is_some g.head.log ≡ true) × (t ≡ denied id 100) × (es ≡ []))
-    ⊎ ((r : Reply) × (g.head.log ≡ None) × IsSharedReply g c q.act r × (t ≡ replied id r) × (es ≡ entries_of q None r))
+    ⊎ ((r : Reply) × (g.head.log ≡ None) × IsSharedReply g c q.act r × (t ≡ replied id r) × (es ≡ entries_of (next_position g) q None r))
 IsReplyToShared g c id q (Some k) t es = IsNamedReply g c id q (asked_by c q.line k) t es
 
 -- the reply to a client's act

@@ -23,6 +23,7 @@ gate_at_start cap tokens most head sent = record {
   entries = [];
   kept = 0;
   forgiven = 0;
+  leads = false;
   dead = false;
   sent = sent;
 }

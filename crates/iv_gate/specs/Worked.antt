@@ -1,5 +1,5 @@
 -- Worked examples of the gateway: steps of a log, and requests with names.
-use Rattle.std.specs.Prelude.{ℕ, ◌^◌, ◌++◌, pos, Bool, true, false, List, [], ◌∷◌, codes, Option, Some, None, drop, length}
+use Rattle.std.specs.Prelude.{ℕ, ◌^◌, ◌++◌, pos, Bool, false, List, [], ◌∷◌, codes, Option, Some, None, drop, length, map}
 use Rattle.iv_rows.specs.Cell.{Cell, num}
 use Rattle.iv_rows.specs.Options.{if_some}
 use Rattle.iv_rows.specs.declared.value.Kind.TheVariants.{Int}
@@ -13,6 +13,7 @@ use Rattle.iv_records.specs.Names.{holder_of, place_text}
 use Rattle.iv_clients.specs.Tokens.{Token}
 use Rattle.iv_once.specs.Names.{Ask, verdict}
 use Rattle.iv_gate.specs.Arriving.{Step, takes}
+use Rattle.iv_gate.specs.Events.{leading}
 use Rattle.iv_gate.specs.Gate.{Gate, Log, answer_text, by_verdict, names_of, reads, with_session}
 use Rattle.iv_gate.specs.Restoring.{gate_at_start}
 
@@ -151,3 +152,23 @@ foreign_ask = record (asks 0 (codes "d")) { at = record { epoch = codes "f"; cou
 
 abbrev pub ahead_ask : Ask
 ahead_ask = asks 1 (codes "d")
+
+-- ---- leading
+
+-- the first gateway again, which leads its log from position 1 on
+abbrev pub leads : Gate
+leads = leading reads_notes
+
+abbrev pub led_on : Gate
+led_on = puts leads (asks 0 (codes "d")) 7
+
+-- ann, who may not revoke anything, asks that by the next name
+abbrev pub refused_ask : Ask
+refused_ask = record (asks 1 (codes "r")) { name = codes "o" }
+
+abbrev pub led_twice : Gate
+led_twice = by_verdict led_on 0 None (by_ann may_not_read) refused_ask (verdict (names_of led_on) refused_ask)
+
+-- the positions of steps, and how many requests each has
+abbrev pub steps_in : Gate → List (Option ℕ × ℕ)
+steps_in g = map (λ e. (e.position, length e.requests)) g.entries

@@ -24,7 +24,7 @@ use Rattle.iv_clients.specs.Kept.{Kept, Places, answering, kept, kept_slots}
 use Rattle.iv_records.specs.Names.{Claim}
 use Rattle.iv_clients.proofs.Slots.{client_at-at_client, same-Some}
 use Rattle.iv_gate.specs.Events.{message}
-use Rattle.iv_gate.specs.Gate.{Gate, acts, done_for, hears, in_session, is_heard, replies_to, reply_in, reply_to, said, shares}
+use Rattle.iv_gate.specs.Gate.{Gate, acts, done_for, hears, in_session, is_heard, replies_to, reply_in, reply_to, said, shares, is_elsewhere, next_position}
 use Rattle.iv_gate.specs.Gate.{asked_by, by_verdict, carries, decided_elsewhere, decides, done_in, entered, entries_of, has_shape_room, names_of, reply_told, settles, tells}
 use Rattle.iv_gate.specs.Laws.{LeavesMarks}
 use Rattle.iv_gate.proofs.GrownTexts.{Grown, Kit-Grown}
@@ -220,7 +220,7 @@ pub IsRun-replies_to : (g : Gate) (m : ℕ) (id : Option Data) (q : Request) (na
 IsRun-replies_to g m id q name n ls x l h =
     let s = (step g.machine (in_session n q.act)).state in
     let r = reply_to g (in_session n q.act) in
-    let es = entries_of q name (reply_to g (in_session n q.act)) in
+    let es = entries_of (next_position g) q name (reply_to g (in_session n q.act)) in
     record {
       lines = l;
       gate = subst (λ t. IsAlive (tells (entered (record g { machine = s }) es) m t) x) (told_the_same g s es id name r)
@@ -247,12 +247,12 @@ pub IsAlive-carries : (g : Gate) (m : ℕ) (id : Option Data) (q : Request) (nam
     → IsAlive (done_in g m id q name n) x → IsAlive (carries g m id q name) x
 IsAlive-carries g m id q name n x h e a = carries_by g m id q name (Some n) x h e a
 
--- no log is followed
-pub IsAlive-decides : (g : Gate) (m : ℕ) (id : Option Data) (q : Request) (name : Option Ask) (x : Gateway) → is_some g.head.log ≡ false
+-- it is decided here
+pub IsAlive-decides : (g : Gate) (m : ℕ) (id : Option Data) (q : Request) (name : Option Ask) (x : Gateway) → is_elsewhere g name ≡ false
     → IsAlive (carries g m id q name) x → IsAlive (decides g m id q name) x
 IsAlive-decides g m id q name x h a = subst (λ b. IsAlive (cond b (tells g m (decided_elsewhere id name)) (carries g m id q name)) x) (sym h) a
 
-pub IsAlive-decided_elsewhere : (g : Gate) (m : ℕ) (id : Option Data) (q : Request) (name : Option Ask) (x : Gateway) → is_some g.head.log ≡ true
+pub IsAlive-decided_elsewhere : (g : Gate) (m : ℕ) (id : Option Data) (q : Request) (name : Option Ask) (x : Gateway) → is_elsewhere g name ≡ true
     → IsAlive (tells g m (decided_elsewhere id name)) x → IsAlive (decides g m id q name) x
 IsAlive-decided_elsewhere g m id q name x h a = subst (λ b. IsAlive (cond b (tells g m (decided_elsewhere id name)) (carries g m id q name)) x) (sym h) a
 

@@ -30,7 +30,7 @@ use Rattle.iv_clients.proofs.Slots.{same-Some, not_None-Some}
 use Rattle.iv_gate.specs.Arriving.{fact_of, first_known, is_new, not_new, position}
 use Rattle.iv_gate.specs.Gate.{Gate, in_session, is_accepted, known_at, known_by, known_of, names_of, reply_in, shape_text, spent_in}
 use Rattle.iv_gate.specs.Restoring.{IsDamagedAt, LeadOn, Restores, are_rising}
-use Rattle.iv_gate.proofs.JournalDamage.{AllByRecursion-append_back, all_carried-append, facts_of-append, facts_of, journal_of-one, journal_of-push, led, lines_of, names_in-append, AllByRecursion-push, record_in-lines_of}
+use Rattle.iv_gate.proofs.JournalDamage.{AllByRecursion-append_back, all_carried-append, facts_of-append, facts_of, journal_of-one, journal_of-push, led_to, lines_of, names_in-append, AllByRecursion-push, record_in-lines_of}
 use Rattle.iv_gate.proofs.GrantsByCommands.{is_well_message-message_of}
 use Rattle.iv_gateway.specs.Replays.{AreNamesReplayed, IsNew, IsPassed, IsRecordReplayed, IsReplayed, IsReplaying, behind, is_later, part, with_name, with_request}
 use Rattle.iv_arrivals.specs.Entering.{shape_in}
@@ -153,6 +153,7 @@ AreKept-with_request g s es e q shape x b h =
       clients = b.clients;
       names = k.names;
       log = b.log;
+      leads = b.leads;
       position = k.position;
       settled = settled-IsAlive g s (es ++ e ∷ []) x b ∙ k.settled;
       forgiven = k.forgiven;
@@ -453,6 +454,7 @@ IsReplaying-scratch g es x y e w =
         clients = b.clients;
         names = b.names;
         log = b.log;
+        leads = b.leads;
         position = b.position;
         settled = b.settled;
         forgiven = b.forgiven;
@@ -537,7 +539,7 @@ HasRead-next g journal at count x y w r =
     both a b c d e h k l = omega (arith, h, k, l)
 
 pub Restores-HasRead : (g : Gate) (journal : List Line) (at : ℕ) (x : Gateway) → (w : HasRead g journal at x) → length journal ≤ at
-    → Restores g journal (led g w.entries w.gate.state)
+    → Restores g journal (led_to g w.entries w.gate.state)
 Restores-HasRead g journal at x w h = record {
   all = w.lines ∙ (ap (λ z. journal_of w.entries ++ z) (drop_all at journal h) ∙ append-nil (journal_of w.entries));
   leads = w.gate.leads;
@@ -557,7 +559,7 @@ pub IsDamagedAt-IsRecordReplayed : (g : Gate) (journal : List Line) (at : ℕ) (
     → IsRecordReplayed g w.entries (drop at journal) None y → IsDamagedAt g journal at
 IsDamagedAt-IsRecordReplayed g journal at x y w h r = record {
   entries = w.entries;
-  gate = led g w.entries w.gate.state;
+  gate = led_to g w.entries w.gate.state;
   rest = drop at journal;
   all = w.lines;
   leads = w.gate.leads;

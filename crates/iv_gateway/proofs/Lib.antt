@@ -11,3 +11,4 @@ pub mod AddedEntries
 pub mod JournalReplays
 pub mod NewSubscriptions
 pub mod Landed
+pub mod NextPositions

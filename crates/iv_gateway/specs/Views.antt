@@ -38,6 +38,7 @@ pub record IsAlive (g : Gate) (x : Gateway) : Type 0 where
   pub clients : x.clients ≡ kept_slots g.clients
   pub names : once.names_of x.names ≡ names_of g
   pub log : x.log ≡ g.head.log
+  pub leads : x.leads ≡ g.leads
   pub position : x.position ≡ position g
   pub settled : x.settled ≡ settled_at g
   pub forgiven : g.forgiven ≤ length g.entries

@@ -3,7 +3,7 @@
 ghost use Rattle.std.specs.Prelude.{◌≡◌, ◌++◌, option_map, [], ℕ, IfOk, OnErr, OnOk, false, is_some, take, true};
 ghost use Rattle.iv_rows.specs.Options.{if_some};
 ghost use Rattle.iv_clients.specs.Clients.{client_at, text_shown};
-ghost use Rattle.iv_gate.specs.Events.{failed, forgave, gone, handed, known, next, on_disk, presented, synced, ticked, ticking};
+ghost use Rattle.iv_gate.specs.Events.{failed, forgave, gone, handed, known, led, next, on_disk, presented, synced, ticked, ticking};
 ghost use Rattle.iv_gate.specs.Gate.{Gate, token_for};
 ghost use Rattle.iv_gateway.specs.Views.{IsAlive, IsGate};
 
@@ -121,6 +121,16 @@ impl Gateway {
                 self.dead = true;
                 Err(GatewayFault::Memory)
             }
+        }
+    }
+
+    /// The log that is followed is led from now on, if one is: requests with names are decided here, each as its next step. Who keeps the log
+    /// has to have each of them, before `settle` lets anyone be told.
+    pub fn lead(&mut self)
+        ensures { (g : Gate) → IsGate g self.old → IsGate (next g led) self.new }
+    {
+        if !self.dead {
+            self.leads = self.log.is_some();
         }
     }
 

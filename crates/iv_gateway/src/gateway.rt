@@ -64,7 +64,9 @@ pub struct Gateway {
     pub(crate) names: Names,
     /// The log that it follows, if it follows one.
     pub(crate) log: Option<Log>,
-    /// The place of the last step that it took.
+    /// Whether it leads that.
+    pub(crate) leads: bool,
+    /// The place of the last step that it took or made.
     pub(crate) position: u64,
     /// The place of the last step that the journal keeps.
     pub(crate) settled: u64,
@@ -106,6 +108,7 @@ impl Gateway {
             clients,
             names: head.names,
             log: head.log,
+            leads: false,
             position: head.position,
             settled: head.position,
             pending: Vec::new(alloc),

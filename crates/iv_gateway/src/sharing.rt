@@ -1,5 +1,5 @@
 //! What changes what is shared: a request is done once by its name, if it has one, and its client is told the reply before what it changes.
-ghost use Rattle.std.specs.Prelude.{◌≡◌, ℕ, OnOk, None, Some, Option, map, not, option_map, true};
+ghost use Rattle.std.specs.Prelude.{◌≡◌, ℕ, OnOk, None, Some, Option, if◌then◌else◌, map, not, option_map, true, unwrap_or};
 ghost use Rattle.iv_command.specs.Views.{act_of, line_of, refusal_of, reply_of};
 ghost use Rattle.iv_machine.specs.Act.{Act as ActSpec, Reply as ReplySpec, refused};
 ghost use Rattle.iv_machine.specs.Well.{is_well_act};
@@ -8,7 +8,7 @@ ghost use Rattle.iv_records.specs.Journal.{is_shared};
 ghost use Rattle.iv_clients.specs.Clients as spec;
 ghost use Rattle.iv_records.specs.Names.{place_text};
 ghost use Rattle.iv_once.specs.Names.{Ask, verdict};
-ghost use Rattle.iv_gate.specs.Gate.{Gate, answer_text, by_verdict, carries, decides, done_in, entered, entries_of, in_session, is_accepted, names_of, number_here, place_of, replies_to, reply_in, shares, tells};
+ghost use Rattle.iv_gate.specs.Gate.{Gate, answer_text, by_verdict, carries, decides, done_in, entered, entries_of, in_session, is_accepted, is_elsewhere, is_follower, names_of, next_position, number_here, place_of, replies_to, reply_in, shares, tells};
 ghost use Rattle.iv_notices.specs.Granting.{IsGranting};
 ghost use Rattle.iv_arrivals.specs.Speaking.{asked_id, request_of};
 ghost use Rattle.iv_arrivals.specs.Entering.{made_of};
@@ -16,7 +16,8 @@ ghost use Rattle.iv_gateway.specs.Views.{IsAlive, IsRun};
 
 use crate::gateway::Gateway;
 use iv_arrivals::{
-    Asked, answer_text, ask_of, first_reply, is_done, place_text, push_entry, push_name, push_shape,
+    Asked, answer_text, ask_of, first_reply, is_done, is_entered, place_text, push_entry,
+    push_name, push_shape,
 };
 use iv_clients::seat_of;
 use iv_command::{Act, Command, Line, Refusal, Reply};
@@ -65,7 +66,30 @@ impl Gateway {
         Ok(())
     }
 
-    /// The journal is to have a request that is accepted, and its name, if it has one.
+    /// Where the log stands after the next entry, if it is led here.
+    fn next_position(&self) -> Option<u64>
+        ensures { (g : Gate) → IsAlive g self.now → result ≡ next_position g }
+    {
+        if !self.leads {
+            return None;
+        }
+        self.position.checked_add(1)
+    }
+
+    /// Where it stands after an entry, if there is one.
+    fn position_with(&self, is_entered: bool, next: Option<u64>) -> u64
+        ensures { result ≡ (if is_entered then unwrap_or next self.now.position else self.now.position) }
+    {
+        if !is_entered {
+            return self.position;
+        }
+        match next {
+            None => self.position,
+            Some(position) => position,
+        }
+    }
+
+    /// The journal is to have a request that is accepted, and its name, if it has one. If the log is led here, that is its next step.
     fn enter_request(
         &mut self,
         asked: &Asked<'_>,
@@ -75,11 +99,14 @@ impl Gateway {
     ) -> Result<(), AllocError>
         ensures { OnOk result ((g : Gate) (act : ActSpec) (by : Option Ask) (r : ReplySpec) → IsAlive g self.old → is_shared act ≡ true
             → accepted ≡ is_accepted r → name ≡ option_map (λ a. record { ask = a; refused = not (is_accepted r); answer = answer_text r }) by
-            → made.now ≡ made_of asked.now act by r → IsAlive (entered g (entries_of (request_of asked.now act) by r)) self.new) }
+            → made.now ≡ made_of asked.now act by r → IsAlive (entered g (entries_of (next_position g) (request_of asked.now act) by r)) self.new) }
     {
-        push_entry(self.alloc, &mut self.pending, asked, &name, accepted)?;
+        let next = self.next_position();
+        let position = self.position_with(is_entered(accepted, &name), next);
+        push_entry(self.alloc, &mut self.pending, asked, &name, accepted, next)?;
         self.shape.extend_from_slice(made)?;
         push_name(&mut self.names, name)?;
+        self.position = position;
         Ok(())
     }
 
@@ -257,14 +284,34 @@ impl Gateway {
         }
     }
 
-    /// Has a request done, if no log is followed: else it is decided where that is kept.
+    /// Whether a log is followed that others lead.
+    fn is_follower(&self) -> bool
+        ensures { (g : Gate) → IsAlive g self.now → result ≡ is_follower g }
+    {
+        if self.log.is_none() {
+            return false;
+        }
+        self.next_position().is_none()
+    }
+
+    /// Whether what has this name, or none, is decided elsewhere.
+    fn is_elsewhere(&self, name: &Option<Ask>) -> bool
+        ensures { (g : Gate) → IsAlive g self.now → result ≡ is_elsewhere g name.now }
+    {
+        match name {
+            None => self.log.is_some(),
+            Some(_) => self.is_follower(),
+        }
+    }
+
+    /// Has a request done, if it is decided here: else it is told that others decide.
     fn decide(&mut self, asked: &Asked<'_>, name: Option<Ask>, act: Act) -> Result<(), AllocError>
         requires well { is_well_act (act_of act) ≡ true }
         requires shared { is_shared (act_of act) ≡ true }
         ensures { OnOk result ((g : Gate) → IsAlive g self.old
             → IsAlive (decides g asked.now.client (asked_id asked.now) (request_of asked.now (act_of act)) name) self.new) }
     {
-        if self.log.is_none() {
+        if !self.is_elsewhere(&name) {
             self.carry(asked, name, act)?;
             return Ok(());
         }
@@ -280,11 +327,11 @@ impl Gateway {
         }
     }
 
-    /// By which number a name without an answer here is left: while a log is followed, that it is decided there.
+    /// By which number a name without an answer here is left: while others lead the log, that they decide it.
     fn number_here(&self, number: u64) -> u64
         ensures { (g : Gate) → IsAlive g self.now → result ≡ number_here g number }
     {
-        if self.log.is_none() {
+        if !self.is_follower() {
             return number;
         }
         100

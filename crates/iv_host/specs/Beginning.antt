@@ -12,10 +12,14 @@ place_in o = record { epoch = o.epoch; count = o.count }
 abbrev pub log_of : Followed → Log
 log_of f = record { name = f.name; epoch = f.epoch }
 
--- names of holders that had some stand there, and those of others begin in the journal's epoch
+-- names of others begin in the epoch of the log that is followed, so at all who follow it in one; else in the journal's
+abbrev pub epoch_with : (epoch : List ℕ) → Begun → List ℕ
+epoch_with epoch b = if_some b.log epoch (λ f. f.epoch)
+
+-- names of holders that had some stand there
 abbrev pub head_with : (epoch : List ℕ) → Begun → Head
-head_with epoch b = let k = stood (nothing_known epoch) b.standings in record {
-  epoch = epoch;
+head_with epoch b = let k = stood (nothing_known (epoch_with epoch b)) b.standings in record {
+  epoch = epoch_with epoch b;
   places = λ holder. option_map place_in (k.owns holder);
   holders = k.holders;
   log = option_map log_of b.log;

@@ -26,6 +26,16 @@ fn log_of(followed: Option<Followed>) -> (Option<Log>, u64)
     }
 }
 
+/// The epoch in which names of those begin who had none: that of the log, if one is followed, else the journal's.
+fn epoch_with<'a>(epoch: &'a str, log: &'a Option<Followed>) -> &'a str
+    ensures { result.now ≡ if_some log.now epoch.now (λ f. f.epoch) }
+{
+    match log {
+        None => epoch,
+        Some(log) => log.epoch.as_str(),
+    }
+}
+
 /// What a gateway begins with whose journal has this epoch, and says this before its first entry.
 ///
 /// # Errors
@@ -34,7 +44,7 @@ pub fn head_of(alloc: Global, epoch: &str, begun: Begun) -> Result<Head, AllocEr
     ensures { IfOk result (λ x. IsHead (head_with epoch.now begun) x) }
 {
     let Begun { log, standings } = begun;
-    let names = names_in(alloc, epoch, &standings)?;
+    let names = names_in(alloc, epoch_with(epoch, &log), &standings)?;
     let (log, position) = log_of(log);
     Ok(Head {
         names,

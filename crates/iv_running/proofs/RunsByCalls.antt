@@ -4,7 +4,7 @@ use Rattle.std.proofs.Common.{◌≡◌, ℕ, Bool, true, false, cond, List, [],
 use Rattle.std.proofs.lemmas.Bool.{false≢true}
 use Rattle.iv_clients.specs.Clients.{Shown, is_free}
 use Rattle.iv_clients.specs.Tokens.{Token}
-use Rattle.iv_gate.specs.Events.{Event, IsWell, failed, forgave, next}
+use Rattle.iv_gate.specs.Events.{Event, IsWell, failed, forgave, led, next}
 use Rattle.iv_gate.specs.Gate.{Gate, Head}
 use Rattle.iv_gate.specs.Laws.{LeavesMarks, marked}
 use Rattle.iv_gate.specs.Restoring.{Restores, gate_at_start}
@@ -13,7 +13,7 @@ use Rattle.iv_gate.specs.Runs as run
 use Rattle.iv_gateway.specs.Replays as is
 use Rattle.iv_journal.specs.Journal.{Line}
 use Rattle.iv_peer.specs.Socket.{fresh, passing}
-use Rattle.iv_desk.specs.Front.{Front, FrontRuns, GoesOn, Happens, at_socket, begins, begun, by_event, fails, forgives, front_at_start, sends, socket_at, stays}
+use Rattle.iv_desk.specs.Front.{Front, FrontRuns, GoesOn, Happens, at_socket, begins, begun, by_event, fails, forgives, front_at_start, leads, sends, socket_at, stays}
 use Rattle.iv_desk.specs.Front.{then_closes, then_happens}
 use Rattle.iv_desk.specs.Desks.{IsCalledOut, IsDesk, IsHeard, IsHeardBy, IsRestored, at_each}
 use Rattle.iv_desk.specs.declared.desk.Desk.{Desk}
@@ -64,10 +64,19 @@ pub Leads-failed : (x y : Desk) → ((g : Gate) (e : Event) → g.dead ≡ true 
 Leads-failed x y rests h = step_on x y (by_event failed)
     (λ d e s. still_dead d (by_event failed d) x y e (ap (λ (g : Gate). g.dead) (rests d.gate failed e)) (h d s)) (λ d a. then_happens d (by_event failed d) stays a fails) (λ d s e. h d s)
 
--- names are forgiven, and a dead one stays dead
+-- an event that fails nowhere, and a dead one stays dead
+Leads-event : (x y : Desk) (e : Event) → ((g : Gate) (e : Event) → g.dead ≡ true → next g e ≡ g) → ((d : Front) → Happens d (by_event e d))
+    → ((d : Front) → IsDesk d x → IsDesk (by_event e d) y) → Leads x y
+Leads-event x y e rests happens h = step_on x y (by_event e)
+    (λ d k s. still_dead d (by_event e d) x y k (ap (λ (g : Gate). g.dead) (rests d.gate e k)) (h d s)) (λ d a. then_happens d (by_event e d) stays a (happens d)) (λ d s k. h d s)
+
+-- names are forgiven
 pub Leads-forgave : (x y : Desk) → ((g : Gate) (e : Event) → g.dead ≡ true → next g e ≡ g) → ((d : Front) → IsDesk d x → IsDesk (by_event forgave d) y) → Leads x y
-Leads-forgave x y rests h = step_on x y (by_event forgave)
-    (λ d e s. still_dead d (by_event forgave d) x y e (ap (λ (g : Gate). g.dead) (rests d.gate forgave e)) (h d s)) (λ d a. then_happens d (by_event forgave d) stays a forgives) (λ d s e. h d s)
+Leads-forgave x y rests h = Leads-event x y forgave rests (λ d. forgives) h
+
+-- the log is led
+pub Leads-led : (x y : Desk) → ((g : Gate) (e : Event) → g.dead ≡ true → next g e ≡ g) → ((d : Front) → IsDesk d x → IsDesk (by_event led d) y) → Leads x y
+Leads-led x y rests h = Leads-event x y led rests (λ d. leads) h
 
 -- where a dead one would have failed
 pub Leads-done : (x y : Desk) (f : Front → Front) → ((d : Front) → IsDesk d x → d.gate.dead ≡ true → ⊥) → ((d : Front) → d.gate.dead ≡ false → GoesOn d (f d))

@@ -1,10 +1,11 @@
 //! A gateway's desk that runs: it is brought back to where a journal's file leads, and each call leads it from a run to a run.
 //!
-//! `open_journal` and `come_back` make it, the functions of `calls` are all that is done with it, and `Fault` says why it does no more.
+//! `open_journal` and `come_back` make it, the functions of `calls` and `leading` are all that is done with it, and `Fault` says why it does no more.
 #![tactic(auto)]
 
 pub mod calls;
 mod fault;
+pub mod leading;
 mod logs;
 mod opening;
 mod said;

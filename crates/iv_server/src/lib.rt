@@ -3,6 +3,7 @@
 
 mod answering;
 pub mod laws;
+mod leading;
 mod reading;
 mod sending;
 mod server;

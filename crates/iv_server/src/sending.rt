@@ -204,6 +204,13 @@ impl Server {
         ensures { Leads desk.old desk.new }
     {
         self.send_asked(desk)?;
+        self.send_others(desk)
+    }
+
+    /// Sends to a part of those who asked nothing in this round, if it is time for them.
+    pub(crate) fn send_others(&mut self, desk: &mut Desk) -> Result<(), Fault>
+        ensures { Leads desk.old desk.new }
+    {
         let was_left = self.next > 0;
         if !was_left {
             if !self.may_sweep() {

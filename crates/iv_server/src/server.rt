@@ -300,7 +300,7 @@ impl Server {
     }
 
     /// What the poll tells.
-    fn note_all(&mut self, events: &Events) -> Result<(), Fault> {
+    pub(crate) fn note_all(&mut self, events: &Events) -> Result<(), Fault> {
         for event in events.iter() {
             self.note(event)?;
         }
@@ -385,7 +385,7 @@ impl Server {
     }
 
     /// Accepts who waits.
-    fn accept(
+    pub(crate) fn accept(
         &mut self,
         rt: &HostRuntime,
         desk: &mut Desk,

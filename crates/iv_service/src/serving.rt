@@ -2,6 +2,7 @@
 ghost use Rattle.iv_host.specs.Settings.{AreValid};
 ghost use Rattle.iv_running.specs.Running.{Leads};
 
+use crate::leading::serve_round;
 use iv_admission::{Admission, open_tokens};
 use iv_clients::Token;
 use iv_desk::Desk;
@@ -161,7 +162,9 @@ fn serve(
         each_tick(desk, &mut clock, now)?;
         each_minute(desk, &mut clock, now);
         let ends = hear_keeper(desk, server, following, poll, &events)?;
-        server.round(rt, desk, journal, poll, listener, &events)?;
+        serve_round(
+            rt, desk, server, journal, following, poll, listener, &events,
+        )?;
         tell_keeper(desk, following, poll)?;
         if ends {
             return Ok(());

@@ -1,11 +1,12 @@
 //! `talks_are_heard`, `faults_are_told`: what is heard of a keeper's bytes, however these are cut.
 use iv_door::{
-    Act, Fault, Log, Talk, push_fault, push_hello, push_on_disk, push_recalled, push_words,
+    Act, Fault, Log, Talk, push_fault, push_hello, push_leads, push_on_disk, push_recalled,
+    push_words,
 };
 use std::alloc::{AllocError, Global};
 
 /// What is said, and what is heard: to a gateway that follows no log, and to one that follows the example.
-const NEW: [(&str, &str); 6] = [
+const NEW: [(&str, &str); 10] = [
     (
         "{\"begin\":\"example\",\"epoch\":\"0123456789abcdef0123456789abcdef\"}
 {\"as\":\"admin\",\"do\":\"create_role\",\"name\":\"mia\"}
@@ -16,6 +17,36 @@ const NEW: [(&str, &str); 6] = [
 {\"open\":false}
 ",
         "begun brought brought ended 0 12 [\"as\":\"admin\",\"do\":\"create_role\",\"name\":\"mia\"}] [\"once\":\"x\"}] [\"step\":12}] opened ended 12 18446744073709551615 [\"step\":18446744073709551615}] shut ",
+    ),
+    (
+        "{\"begin\":\"example\",\"epoch\":\"0123456789abcdef0123456789abcdef\"}
+{\"from\":0,\"step\":12}
+{\"lead\":true}
+{\"kept\":13}
+{\"open\":true}
+{\"from\":13,\"step\":14}
+",
+        "begun ended 0 12 [\"step\":12}] led kept 13 opened line 6 comes at the wrong time",
+    ),
+    (
+        "{\"begin\":\"example\",\"epoch\":\"0123456789abcdef0123456789abcdef\"}
+{\"lead\":true}
+{\"lead\":true}
+",
+        "begun led line 3 comes at the wrong time",
+    ),
+    (
+        "{\"begin\":\"example\",\"epoch\":\"0123456789abcdef0123456789abcdef\"}
+{\"once\":\"x\"}
+{\"lead\":true}
+",
+        "begun brought line 3 comes at the wrong time",
+    ),
+    (
+        "{\"begin\":\"example\",\"epoch\":\"0123456789abcdef0123456789abcdef\"}
+{\"kept\":0}
+",
+        "begun line 2 comes at the wrong time",
     ),
     ("{\"recall\":true}\n", "no log is followed yet: begin one"),
     (
@@ -116,7 +147,13 @@ fn push_act(alloc: Global, out: &mut Vec<u8>, act: &Act) -> Result<(), AllocErro
         Act::Brought => "brought ",
         Act::Opened => "opened ",
         Act::Shut => "shut ",
+        Act::Led => "led ",
         Act::Ended(from, to, texts) => return push_step(alloc, out, *from, *to, texts),
+        Act::Kept(position) => {
+            let kept = format!(in alloc; "kept {position} ")?;
+            out.extend_from_slice(kept.as_bytes())?;
+            return Ok(());
+        }
     };
     out.extend_from_slice(word.as_bytes())?;
     Ok(())
@@ -197,11 +234,13 @@ fn told(alloc: Global) -> Result<Vec<u8>, AllocError> {
     push_hello(&mut out, 65_536, &Some(example(alloc)?), 12)?;
     push_on_disk(&mut out, 12)?;
     push_recalled(&mut out, 12)?;
+    push_fault(&mut out, &Fault::NotDecided(15, 12, 14))?;
+    push_leads(&mut out, 12)?;
     Ok(out)
 }
 
 const TOLD: &str =
-    "{\"fault\":\"step 14 is from 13, and the position is 12\"}{\"fault\":\"line 2 of step 14 is no entry\"}{\"fault\":\"entry 2 of step 14 is refused by 9\"}{\"fault\":\"name 1 of step 14 may have an answer already\"}{\"fault\":\"a step is too long\"}{\"door\":1,\"rows\":65536}{\"door\":1,\"rows\":65536,\"log\":\"example\",\"epoch\":\"0123456789abcdef0123456789abcdef\",\"position\":12}{\"on_disk\":12}{\"recalled\":12}";
+    "{\"fault\":\"step 14 is from 13, and the position is 12\"}{\"fault\":\"line 2 of step 14 is no entry\"}{\"fault\":\"entry 2 of step 14 is refused by 9\"}{\"fault\":\"name 1 of step 14 may have an answer already\"}{\"fault\":\"a step is too long\"}{\"door\":1,\"rows\":65536}{\"door\":1,\"rows\":65536,\"log\":\"example\",\"epoch\":\"0123456789abcdef0123456789abcdef\",\"position\":12}{\"on_disk\":12}{\"recalled\":12}{\"fault\":\"kept 15 is not from 12 to 14\"}{\"leads\":12}";
 
 /// Whether bytes are a text.
 fn is(bytes: Result<Vec<u8>, AllocError>, text: &str) -> bool {

@@ -1,9 +1,10 @@
 //! Laws of the journal and the disk. Each is the contract of a function that does nothing.
 ghost use Rattle.std.specs.Prelude.{ℕ, List};
-ghost use Rattle.iv_gate.specs.Events.{Event, IsWell};
+ghost use Rattle.iv_gate.specs.Events.{Event, IsWell, message};
 ghost use Rattle.iv_gate.specs.Gate.{Gate};
-ghost use Rattle.iv_gate.specs.Implied.{PositionsLast, PositionsRise};
+ghost use Rattle.iv_gate.specs.Implied.{AddsNext, PositionsLast, PositionsRise};
 ghost use Rattle.iv_gate.specs.Laws.{AreShown, CrashesAreSafe, LeadsBack, SentIsKept};
+ghost use Rattle.iv_gate.specs.Replies.{added_by};
 ghost use Rattle.iv_gate.specs.Restoring.{IsDecided};
 ghost use Rattle.iv_gate.specs.Runs.{Runs};
 ghost use Rattle.iv_journal.specs.Journal.{Line};
@@ -57,6 +58,11 @@ pub fn positions_rise()
     names_are_texts();
     told_texts_are_lines();
 }
+
+/// A client's message adds nothing, or one entry: if the log is led, its next step, one position further.
+pub fn messages_are_next_steps()
+    ensures { (g : Gate) (m : ℕ) (text : List ℕ) → AddsNext g (added_by g (message m text)) }
+{}
 
 /// Each journal either restores, to one gateway, or is damaged, at one place.
 pub fn journals_are_decided()

@@ -1,11 +1,11 @@
 use Rattle.std.proofs.Common.{refl}
 use Rattle.iv_gate.specs.Events.{forgave}
 use Rattle.iv_desk.specs.Front.{by_event}
-use Rattle.iv_desk.proofs.DeskStates.{IsDesk-forgave, IsBehind-IsDesk, IsBehind-by_event, IsDesk-IsBehind}
+use Rattle.iv_desk.proofs.DeskStates.{IsDesk-rests, IsBehind-IsDesk, IsBehind-by_event, IsDesk-IsBehind}
 use Rattle.iv_desk.proofs.desk.Desk.forgive.Goals as goal
 
 pub returns-then-self : goal.returns-then-self
-returns-then-self c = λ d b. IsDesk-forgave c.events_leave_their_marks.ensures.rests d c.args.self.now b c.if-self.true
+returns-then-self c = λ d b. IsDesk-rests c.events_leave_their_marks.ensures.rests forgave d c.args.self.now b c.if-self.true
 
 pub returns : goal.returns
 returns c = λ d b.

@@ -21,6 +21,7 @@ returns c =
         lines = (c.in-Some-checked_add.ensures.1 ∙ ap (λ t. t.lines + 1) c.self.view_is) i;
         log = (c.self.view_is i).log;
         follows = (c.self.view_is i).follows;
+        leads = (c.self.view_is i).leads;
         texts = (c.self.view_is i).texts;
         size = (c.self.view_is i).size;
       },

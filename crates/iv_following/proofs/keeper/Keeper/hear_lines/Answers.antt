@@ -9,10 +9,10 @@ lines-init c = record { leads = λ d h. h; heeds = none_yet; same = refl }
 pub lines-preserved : goal.lines-preserved
 lines-preserved c = record {
   leads = λ d h. c.in_ok-hear_line.ensures.leads d (c.lines.invariant.leads d h);
-  heeds = heeds_on c.args.means.now.log c.lines.means.log c.args.self.now.talk _ _ c.args.desk.now _ _ _ _ _ _ c.lines.invariant.same c.lines.invariant.heeds c.in_ok-hear_line.ensures.heard;
+  heeds = heeds_on c.args.means.now.log c.lines.means.log c.args.self.now.talk _ _ _ _ _ _ c.lines.invariant.same c.lines.invariant.heeds c.in_ok-hear_line.ensures.heard;
   same = c.in_ok-hear_line.ensures.same ∙ c.lines.invariant.same;
 }
 
 pub returns-then-not-branch-clause-heeds : goal.returns-then-not-branch-clause-heeds
 returns-then-not-branch-clause-heeds c =
-    heeds_on c.args.means.now.log c.lines.means.log c.args.self.now.talk _ _ c.args.desk.now _ _ _ _ _ _ c.lines.invariant.same c.lines.invariant.heeds c.in_ok-hear_line.ensures.heard
+    heeds_on c.args.means.now.log c.lines.means.log c.args.self.now.talk _ _ _ _ _ _ c.lines.invariant.same c.lines.invariant.heeds c.in_ok-hear_line.ensures.heard

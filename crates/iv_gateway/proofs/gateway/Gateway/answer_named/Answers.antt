@@ -2,14 +2,14 @@ use Rattle.std.proofs.Common.{◌≡◌, ◌∙◌, false, not, Some, rules, sub
 use Rattle.iv_command.specs.Views.{reply_of}
 use Rattle.iv_message.specs.Told.{answered}
 use Rattle.iv_records.specs.Names.{place_text}
-use Rattle.iv_gate.specs.Gate.{Gate, answer_text, entered, entries_of, place_of, tells}
+use Rattle.iv_gate.specs.Gate.{Gate, answer_text, entered, entries_of, place_of, tells, next_position}
 use Rattle.iv_arrivals.specs.Speaking.{asked_id, request_of}
 use Rattle.iv_gateway.specs.Views.{IsAlive}
 use Rattle.iv_gateway.proofs.gateway.Gateway.answer_named.Goals as goal
 
 pub returns : goal.returns
 returns c = λ g act b s t.
-    let h : Gate = entered g (entries_of (request_of c.args.asked.now act) (Some c.args.ask) (reply_of c.args.reply.now)) in
+    let h : Gate = entered g (entries_of (next_position g) (request_of c.args.asked.now act) (Some c.args.ask) (reply_of c.args.reply.now)) in
     let waits = c.in_ok-enter_request.ensures g act (Some c.args.ask) (reply_of c.args.reply.now) b s c.is_done-is_accepted.ensures
     (λ i. Some (record { ask = c.args.ask; refused = not (c.is_done-is_accepted.ensures i); answer = c.in_ok-answer.ensures i })) t in
     let holder : c.as_str.result.now ≡ c.args.ask.holder = search rules in

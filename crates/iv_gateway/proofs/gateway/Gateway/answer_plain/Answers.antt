@@ -2,7 +2,7 @@ use Rattle.std.proofs.Common.{◌≡◌, None, option_map, refl, rules, subst, a
 use Rattle.iv_command.specs.Views.{reply_of}
 use Rattle.iv_message.specs.Seen.{id_data}
 use Rattle.iv_message.specs.Told.{replied}
-use Rattle.iv_gate.specs.Gate.{Gate, entered, entries_of, tells}
+use Rattle.iv_gate.specs.Gate.{Gate, entered, entries_of, tells, next_position}
 use Rattle.iv_arrivals.specs.Speaking.{asked_id, request_of}
 use Rattle.iv_gateway.specs.Views.{IsAlive}
 use Rattle.iv_gateway.proofs.gateway.Gateway.answer_plain.Goals as goal
@@ -10,7 +10,7 @@ use Rattle.iv_gateway.proofs.gateway.Gateway.answer_plain.Goals as goal
 pub returns : goal.returns
 returns c = λ g act b s t.
     let r = reply_of c.args.reply.now in
-    let h : Gate = entered g (entries_of (request_of c.args.asked.now act) None (reply_of c.args.reply.now)) in
+    let h : Gate = entered g (entries_of (next_position g) (request_of c.args.asked.now act) None (reply_of c.args.reply.now)) in
     let client : c.asked.inside.client ≡ c.args.asked.now.client = search rules in
     let same : c.asked.inside.id.now ≡ c.args.asked.now.id = search rules in
     let id : option_map id_data c.asked.inside.id.now ≡ asked_id c.args.asked.now = ap (option_map id_data) same in

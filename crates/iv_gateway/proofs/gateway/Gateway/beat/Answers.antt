@@ -13,6 +13,7 @@ returns c = λ g b. record {
   feeds = b.feeds;
   names = b.names;
   log = b.log;
+  leads = b.leads;
   position = b.position;
   settled = b.settled;
   forgiven = b.forgiven;

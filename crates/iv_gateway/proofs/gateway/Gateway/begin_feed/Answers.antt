@@ -15,4 +15,4 @@ returns-in_ok-insert-in-Subscribed c = λ g r b e.
     (string_bytes c.args.rel) c.in-Subscribed.number r
     _
     (ap opening_of e ∙ (sym c.opening_in.ensures ∙ c.in-Subscribed.is))
-    (record { tokens = a.tokens; machine = a.machine; seats = a.seats; clients = a.clients; names = a.names; log = a.log; position = a.position; settled = a.settled; forgiven = a.forgiven; pending = a.pending; shape = a.shape; feeds = search rules })
+    (record { tokens = a.tokens; machine = a.machine; seats = a.seats; clients = a.clients; names = a.names; log = a.log; leads = a.leads; position = a.position; settled = a.settled; forgiven = a.forgiven; pending = a.pending; shape = a.shape; feeds = search rules })

@@ -17,6 +17,7 @@ returns-in-Ok-clause-carried c = λ g b.
         clients = b.clients;
         names = b.names;
         log = b.log;
+        leads = b.leads;
         position = b.position;
         settled = b.settled;
         forgiven = b.forgiven;

@@ -24,6 +24,7 @@ returns-in_ok-sweep-in-Some c = λ g x b e.
       feeds = b.feeds;
       names = b.names;
       log = b.log;
+      leads = b.leads;
       position = b.position;
       settled = b.settled;
       forgiven = b.forgiven;

@@ -6,19 +6,19 @@ use Rattle.iv_gateway.specs.Views.{IsAlive}
 use Rattle.iv_gateway.proofs.HeardMessages.{IsAlive-decides, IsAlive-decided_elsewhere}
 use Rattle.iv_gateway.proofs.gateway.Gateway.decide.Goals as goal
 
-pub returns-then-is_none : goal.returns-then-is_none
-returns-then-is_none c = λ g b.
+pub returns-then-not-is_elsewhere : goal.returns-then-not-is_elsewhere
+returns-then-not-is_elsewhere c = λ g b.
     IsAlive-decides g c.args.asked.now.client (asked_id c.args.asked.now) (request_of c.args.asked.now (act_of c.args.act)) c.args.name _
-    (ap is_some (sym b.log) ∙ (c.is_none.ensures ∙ ap not c.if-is_none.true)) (c.in_ok-carry.ensures g b)
+    (sym (c.is_elsewhere.ensures g b) ∙ c.if-not-is_elsewhere.true) (c.in_ok-carry.ensures g b)
 
 pub returns-in-None : goal.returns-in-None
 returns-in-None c = λ g b.
     IsAlive-decided_elsewhere g c.args.asked.now.client (asked_id c.args.asked.now) (request_of c.args.asked.now (act_of c.args.act)) c.args.name _
-    (ap is_some (sym b.log) ∙ (c.is_none.ensures ∙ ap not c.if-is_none.false))
+    (sym (c.is_elsewhere.ensures g b) ∙ c.if-not-is_elsewhere.false)
     (subst (λ n. IsAlive (tells g c.args.asked.now.client (decided_elsewhere (asked_id c.args.asked.now) n)) c.deny.new.self) (sym c.in-None.is) (c.in_ok-deny-in-None.ensures g b))
 
 pub returns : goal.returns
 returns c = λ g b.
     IsAlive-decided_elsewhere g c.args.asked.now.client (asked_id c.args.asked.now) (request_of c.args.asked.now (act_of c.args.act)) c.args.name _
-    (ap is_some (sym b.log) ∙ (c.is_none.ensures ∙ ap not c.if-is_none.false))
+    (sym (c.is_elsewhere.ensures g b) ∙ c.if-not-is_elsewhere.false)
     (subst (λ n. IsAlive (tells g c.args.asked.now.client (decided_elsewhere (asked_id c.args.asked.now) n)) c.leave.new.self) (sym c.in-Some.is) (c.in_ok-leave-in-Some.ensures g b))

@@ -62,6 +62,7 @@ returns-clause-entered c = λ g b.
         clients = b.clients;
         names = k.names;
         log = b.log;
+        leads = b.leads;
         position = ap (λ (z : Step). z.to) v ∙ k.position;
         settled = k.settled;
         forgiven = k.forgiven;

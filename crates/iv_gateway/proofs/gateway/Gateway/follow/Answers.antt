@@ -29,6 +29,7 @@ returns c = λ g b.
       feeds = told.feeds;
       names = told.names;
       log = told.log;
+      leads = told.leads;
       position = told.position;
       settled = told.settled;
       forgiven = told.forgiven;

@@ -17,6 +17,7 @@ returns-then-not-self c = λ g b.
       clients = a.clients;
       names = names_of-forgiven g _ _ a.names c.forgive.ensures;
       log = a.log;
+      leads = a.leads;
       position = a.position;
       settled = a.settled;
       forgiven = omega arith;

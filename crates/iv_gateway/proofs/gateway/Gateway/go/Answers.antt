@@ -25,6 +25,7 @@ returns-in_ok-settle_told-in-Some c = λ g b.
       feeds = b.feeds;
       names = b.names;
       log = b.log;
+      leads = b.leads;
       position = b.position;
       settled = b.settled;
       forgiven = b.forgiven;

@@ -21,6 +21,7 @@ returns c = λ g k b none.
       seats = b.gate.seats;
       names = b.gate.names;
       log = b.gate.log;
+      leads = b.gate.leads;
       position = b.gate.position;
       settled = b.gate.settled;
       forgiven = b.gate.forgiven;

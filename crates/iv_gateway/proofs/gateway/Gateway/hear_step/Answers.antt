@@ -36,6 +36,7 @@ returns c = λ g o b l n.
           ∙ kept_slots-granted g.entries g.feeds o.lines more g.clients places b.clients));
       names = b.names;
       log = b.log;
+      leads = b.leads;
       position = b.position;
       settled = b.settled;
       forgiven = b.forgiven;

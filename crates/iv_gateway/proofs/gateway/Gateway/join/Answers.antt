@@ -26,6 +26,7 @@ returns-in_ok-shut-in-Some c = λ g b.
       feeds = b.feeds;
       names = b.names;
       log = b.log;
+      leads = b.leads;
       position = b.position;
       settled = b.settled;
       forgiven = b.forgiven;

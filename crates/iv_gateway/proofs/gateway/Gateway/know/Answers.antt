@@ -19,6 +19,7 @@ returns-then-not-self c = λ g b.
       feeds = a.feeds;
       names = a.names;
       log = a.log;
+      leads = a.leads;
       position = a.position;
       settled = a.settled;
       forgiven = a.forgiven;

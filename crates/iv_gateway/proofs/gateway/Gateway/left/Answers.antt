@@ -8,4 +8,4 @@ returns-in-Ok-clause-gate c = λ g b.
     let lives = sym b.dead ∙ c.if-self.false in
     let a = c.in-Ok.ensures g (b.alive lives) in
     IsGate-IsAlive g (gone c.args.client) _ lives refl (dead-went g c.args.client)
-    (record { tokens = a.tokens; machine = a.machine; seats = a.seats; feeds = a.feeds; clients = a.clients; names = a.names; log = a.log; position = a.position; settled = a.settled; forgiven = a.forgiven; pending = a.pending; shape = a.shape })
+    (record { tokens = a.tokens; machine = a.machine; seats = a.seats; feeds = a.feeds; clients = a.clients; names = a.names; log = a.log; leads = a.leads; position = a.position; settled = a.settled; forgiven = a.forgiven; pending = a.pending; shape = a.shape })

@@ -13,6 +13,7 @@ returns c = λ cap h b i. record {
     clients = c.in_ok-clients.ensures ∙ kept_slots-replicate c.args.most;
     names = i.names;
     log = i.log;
+    leads = refl;
     position = i.position;
     settled = i.position;
     forgiven = omega arith;

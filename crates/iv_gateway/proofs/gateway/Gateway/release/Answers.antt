@@ -15,6 +15,7 @@ returns c = λ g b. record {
   feeds = b.feeds;
   names = b.names;
   log = b.log;
+  leads = b.leads;
   position = b.position;
   settled = b.position ∙ sym (ap (position_of g.head.position) (take-length g.entries));
   forgiven = b.forgiven;

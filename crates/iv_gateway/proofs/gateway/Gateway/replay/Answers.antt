@@ -3,7 +3,7 @@ use Rattle.std.proofs.lemmas.List.{take_rest}
 use Rattle.iv_journal.specs.Journal.{Line}
 use Rattle.iv_once.specs.Views.{names_of}
 use Rattle.iv_gate.specs.Restoring.{IsDamagedAt}
-use Rattle.iv_gate.proofs.JournalDamage.{led}
+use Rattle.iv_gate.proofs.JournalDamage.{led_to}
 use Rattle.iv_gateway.specs.Replays.{IsRecordReplayed, behind}
 use Rattle.iv_gateway.proofs.JournalReplays.{names_of-forgiven, HasRead-start, Restores-HasRead, HasRead-next, IsDamagedAt-IsRecordReplayed}
 use Rattle.iv_gateway.proofs.gateway.Gateway.replay.Goals as goal
@@ -31,7 +31,7 @@ pub returns-clause-replayed : goal.returns-clause-replayed
 returns-clause-replayed c = λ g n b.
     let w = c.lines.invariant.leads g n b in
     let a = w.gate.gate in record {
-      now = led g w.entries w.gate.state;
+      now = led_to g w.entries w.gate.state;
       restores = Restores-HasRead g c.args.journal.now c.lines.at c.lines.self w (omega arith);
       gate = record {
         tokens = a.tokens;
@@ -41,6 +41,7 @@ returns-clause-replayed c = λ g n b.
         clients = a.clients;
         names = names_of-forgiven (behind g w.gate.state w.entries) _ (names_of c.lines.self.names) a.names c.forgive.ensures;
         log = a.log;
+        leads = a.leads;
         position = a.position;
         settled = a.settled;
         forgiven = omega arith;

@@ -25,6 +25,7 @@ returns c = λ g s es e b.
         clients = b.clients;
         names = k.names;
         log = b.log;
+        leads = b.leads;
         position = k.position;
         settled = settled-IsAlive g s _ c.args.self.now b ∙ k.settled;
         forgiven = k.forgiven;

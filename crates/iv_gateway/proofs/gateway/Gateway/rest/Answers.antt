@@ -18,6 +18,7 @@ returns c = λ g b.
       clients = b.clients;
       names = b.names;
       log = b.log;
+      leads = b.leads;
       position = b.position;
       settled = b.settled;
       forgiven = b.forgiven;

@@ -19,6 +19,7 @@ returns-in-Ok-clause-restored c = λ g n b.
           clients = a.clients;
           names = a.names;
           log = a.log;
+          leads = a.leads;
           position = a.position;
           settled = a.settled;
           forgiven = a.forgiven;

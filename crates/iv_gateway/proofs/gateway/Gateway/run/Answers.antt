@@ -11,6 +11,7 @@ returns-in-Ok c = λ g b. record {
     clients = b.clients;
     names = b.names;
     log = b.log;
+    leads = b.leads;
     position = b.position;
     settled = b.settled;
     forgiven = b.forgiven;

@@ -10,7 +10,7 @@ returns-in-Ok-clause-gate c = λ g b.
     let a = (c.in-Ok.ensures g (b.alive lives)).1 in
     IsGate-IsAlive g (message c.args.client c.args.text.now) _ lives refl
     (dead-said g c.args.client c.args.text.now lives (c.events_leave_their_marks.ensures.marks g (message c.args.client c.args.text.now) tt lives))
-    (record { tokens = a.tokens; machine = a.machine; seats = a.seats; feeds = a.feeds; clients = a.clients; names = a.names; log = a.log; position = a.position; settled = a.settled; forgiven = a.forgiven; pending = a.pending; shape = a.shape })
+    (record { tokens = a.tokens; machine = a.machine; seats = a.seats; feeds = a.feeds; clients = a.clients; names = a.names; log = a.log; leads = a.leads; position = a.position; settled = a.settled; forgiven = a.forgiven; pending = a.pending; shape = a.shape })
 
 pub returns-in-Ok-clause-heard : goal.returns-in-Ok-clause-heard
 returns-in-Ok-clause-heard c = λ g b. (c.in-Ok.ensures g (b.alive (sym b.dead ∙ c.if-self.false))).0

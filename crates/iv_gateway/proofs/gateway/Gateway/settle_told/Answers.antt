@@ -11,6 +11,7 @@ returns c = λ g b. record {
   feeds = b.feeds;
   names = b.names;
   log = b.log;
+  leads = b.leads;
   position = b.position;
   settled = b.settled;
   forgiven = b.forgiven;

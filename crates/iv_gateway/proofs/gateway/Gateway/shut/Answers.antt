@@ -17,6 +17,7 @@ returns c = λ g f b s k.
       clients = b.clients;
       names = b.names;
       log = b.log;
+      leads = b.leads;
       position = b.position;
       settled = b.settled;
       forgiven = b.forgiven;

@@ -21,6 +21,7 @@ returns-clause-gate c = λ g b.
       feeds = a.feeds;
       names = a.names;
       log = a.log;
+      leads = a.leads;
       position = a.position;
       settled = a.settled;
       forgiven = a.forgiven;

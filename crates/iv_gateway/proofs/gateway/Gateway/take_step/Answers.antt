@@ -18,6 +18,7 @@ returns-in-Ok-clause-gate c = λ g b.
       clients = a.clients;
       names = a.names;
       log = a.log;
+      leads = a.leads;
       position = a.position;
       settled = a.settled;
       forgiven = a.forgiven;

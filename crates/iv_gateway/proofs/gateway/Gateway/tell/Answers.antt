@@ -10,6 +10,7 @@ returns c = λ g t b e. record {
   feeds = b.feeds;
   names = b.names;
   log = b.log;
+  leads = b.leads;
   position = b.position;
   settled = b.settled;
   forgiven = b.forgiven;

@@ -1,0 +1,81 @@
+//! What the keeper of a log that is led is told in a round, and that the gateway is over once that keeper has gone.
+ghost use Rattle.std.specs.Prelude.{◌≡◌, ◌^◌, ◌-◌, is_some};
+ghost use Rattle.iv_rows.specs.Options.{if_some};
+
+use crate::following::Following;
+use crate::guest::{Guest, Stage};
+use crate::telling::Told;
+use iv_desk::Desk;
+use iv_running::Fault;
+
+/// What the keeper is told, if one is there.
+fn told_to(guest: &mut Option<Guest>) -> Option<&mut Told> {
+    match guest {
+        Some(guest) => match &mut guest.stage {
+            Stage::Known(keeper) => Some(&mut keeper.told),
+            Stage::Unknown(_, _) => None,
+        },
+        None => None,
+    }
+}
+
+impl Following {
+    /// Whether the log is led.
+    pub fn leads(&self) -> bool
+        ensures { result ≡ is_some self.now.means.lead }
+    {
+        self.means.lead.is_some()
+    }
+
+    /// Up to where what the gateway has decided is in the log: the greatest number if it leads none.
+    pub fn kept(&self) -> u64
+        ensures { result ≡ if_some self.now.means.lead (2 ^ 64 - 1) (λ a. a.kept) }
+    {
+        match &self.means.lead {
+            None => u64::MAX,
+            Some(lead) => lead.kept,
+        }
+    }
+
+    /// The keeper is told from where the gateway leads, if it was not. All up to there is on disk by then.
+    ///
+    /// # Errors
+    /// `Memory` if a growth of memory was refused.
+    pub fn say_lead(&mut self, desk: &Desk) -> Result<(), Fault> {
+        match told_to(&mut self.guest) {
+            None => Ok(()),
+            Some(told) => match told.lead(desk) {
+                Ok(()) => Ok(()),
+                Err(error) => Err(Fault::from(error)),
+            },
+        }
+    }
+
+    /// The keeper is told what the gateway has decided, if it was not.
+    ///
+    /// # Errors
+    /// `Memory` if a growth of memory was refused.
+    pub fn say_steps(&mut self, desk: &Desk) -> Result<(), Fault> {
+        let Some(lead) = &mut self.means.lead else {
+            return Ok(());
+        };
+        match told_to(&mut self.guest) {
+            None => Ok(()),
+            Some(told) => match told.decide(lead, desk) {
+                Ok(()) => Ok(()),
+                Err(error) => Err(Fault::from(error)),
+            },
+        }
+    }
+
+    /// Who leads is over once its keeper has gone: what was decided and not kept is in no file, and nobody was told.
+    pub(crate) fn is_over(&self) -> Result<(), Fault> {
+        if !self.leads() || self.has_keeper() {
+            return Ok(());
+        }
+        let _ = eprintln!(self.means.rt;
+            "gateway: the log: its keeper has gone, and the gateway led it: start again, and follow"
+        );
+        Err(Fault::Log)
+    }
+}

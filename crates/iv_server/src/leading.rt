@@ -1,0 +1,79 @@
+//! The parts of a round in which the log is led: what its keeper has yet to keep is neither written nor told, and no more is read meanwhile.
+ghost use Rattle.iv_running.specs.Running.{Leads};
+
+use crate::server::Server;
+use iv_desk::Desk;
+use iv_host::FileJournal;
+use iv_running::Fault;
+use iv_running::leading::settle_kept;
+use mio::net::TcpListener;
+use mio::{Events, Poll};
+use std::mem;
+
+impl Server {
+    /// Takes in what the poll tells, and accepts who waits.
+    ///
+    /// # Errors
+    /// `Memory` if a growth of memory was refused; so it is of each of these functions.
+    pub fn take_in(
+        &mut self,
+        rt: &HostRuntime,
+        desk: &mut Desk,
+        poll: &Poll,
+        listener: &TcpListener,
+        events: &Events,
+    ) -> Result<(), Fault>
+        ensures { Leads desk.old desk.new }
+    {
+        self.again = false;
+        self.note_all(events)?;
+        self.accept(rt, desk, poll, listener)
+    }
+
+    /// Has the journal keep what was decided, if the log has it all, up to a position; then clients are offered what they may be sent.
+    ///
+    /// # Errors
+    /// `Journal` if the journal could not be written.
+    pub fn keep(
+        &mut self,
+        desk: &mut Desk,
+        journal: &mut FileJournal,
+        kept: u64,
+    ) -> Result<(), Fault>
+        ensures { Leads desk.old desk.new }
+    {
+        if desk.position() > kept {
+            return Ok(());
+        }
+        journal.note(mem::replace(&mut self.shares, Vec::new(self.alloc)));
+        match settle_kept(desk, journal, kept) {
+            Ok(_) => Ok(()),
+            Err(fault) => Err(fault),
+        }
+    }
+
+    /// Reads what clients say, of whom nobody waits for what was decided.
+    pub fn read_on(
+        &mut self,
+        rt: &HostRuntime,
+        desk: &mut Desk,
+        journal: &FileJournal,
+    ) -> Result<(), Fault>
+        ensures { Leads desk.old desk.new }
+    {
+        self.read_all(rt, desk, journal)?;
+        self.send_before(desk)
+    }
+
+    /// Sends what may be sent, first to those who asked, once what they asked is kept; and lets go who is gone.
+    pub fn send_on(&mut self, rt: &HostRuntime, desk: &mut Desk) -> Result<(), Fault>
+        ensures { Leads desk.old desk.new }
+    {
+        if desk.entered().is_empty() {
+            self.send_all(desk)?;
+        } else {
+            self.send_others(desk)?;
+        }
+        self.drop_all(rt, desk)
+    }
+}

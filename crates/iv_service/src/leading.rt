@@ -1,0 +1,72 @@
+//! `serve_round`: a round of the sockets, also where the log is led.
+ghost use Rattle.iv_running.specs.Running.{Leads};
+
+use iv_desk::Desk;
+use iv_following::Following;
+use iv_host::FileJournal;
+use iv_running::Fault;
+use iv_server::Server;
+use mio::net::TcpListener;
+use mio::{Events, Poll};
+
+/// What clients say is decided, and the keeper is told it, if it has all that was decided before.
+fn decide(
+    rt: &HostRuntime,
+    desk: &mut Desk,
+    server: &mut Server,
+    journal: &mut FileJournal,
+    following: &mut Following,
+) -> Result<(), Fault>
+    ensures { Leads desk.old desk.new }
+{
+    if !desk.entered().is_empty() {
+        return Ok(());
+    }
+    following.say_lead(desk)?;
+    server.read_on(rt, desk, journal)?;
+    following.say_steps(desk)?;
+    server.keep(desk, journal, following.kept())
+}
+
+/// A round in which the log is led: what the log has is written and told, then clients are read, and what they decide is told to the keeper.
+fn lead_round(
+    rt: &HostRuntime,
+    desk: &mut Desk,
+    server: &mut Server,
+    journal: &mut FileJournal,
+    following: &mut Following,
+    poll: &Poll,
+    listener: &TcpListener,
+    events: &Events,
+) -> Result<(), Fault>
+    ensures { Leads desk.old desk.new }
+{
+    server.take_in(rt, desk, poll, listener, events)?;
+    server.keep(desk, journal, following.kept())?;
+    decide(rt, desk, server, journal, following)?;
+    server.send_on(rt, desk)
+}
+
+/// A round of the sockets.
+///
+/// # Errors
+/// `Memory` if a growth of memory was refused, `Journal` if the journal could not be written.
+pub(crate) fn serve_round(
+    rt: &HostRuntime,
+    desk: &mut Desk,
+    server: &mut Server,
+    journal: &mut FileJournal,
+    following: &mut Option<Following>,
+    poll: &Poll,
+    listener: &TcpListener,
+    events: &Events,
+) -> Result<(), Fault>
+    ensures { Leads desk.old desk.new }
+{
+    if let Some(following) = following {
+        if following.leads() {
+            return lead_round(rt, desk, server, journal, following, poll, listener, events);
+        }
+    }
+    server.round(rt, desk, journal, poll, listener, events)
+}
