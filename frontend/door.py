@@ -50,6 +50,7 @@ class Door:
     def __init__(self, given: IO[bytes], taken: IO[bytes]):
         self.given, self.taken = given, taken
         self.on_disk = 0
+        self.heard = 0.0  # when it said that last
         self.part: list[bytes] = []  # of a step that the gateway decides
         self.why = ""  # the other side has ended
         self.said: queue.Queue[bytes] = queue.Queue(AHEAD)
@@ -77,7 +78,7 @@ class Door:
 
     def keep(self, position: int) -> None:
         with self.changed:
-            self.on_disk = position
+            self.on_disk, self.heard = position, time.monotonic()
             self.changed.notify()
 
     def say(self, text: bytes) -> None:
@@ -157,7 +158,7 @@ class Door:
         return steps
 
     def has(self, position: int) -> None:
-        """All that the gateway has decided up to there is in the log."""
+        """All that the gateway has decided up to there is in the log. It answers by what is on its disk."""
         self.say(b'{"kept":%d}' % position)
         self.flush()
 

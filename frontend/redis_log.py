@@ -29,6 +29,7 @@ from status import State, serve
 
 BLOCK = 250  # milliseconds that it waits for a step, before it looks for the lease
 AGAIN = 0.2  # seconds until a Redis that is away is asked again
+SILENT = 12  # times as long as a lease, after which a gateway that says nothing does not lead
 COMPARED = 100  # steps of which a gateway that comes is asked whether it holds them
 MOST_LINES, MOST_BYTES = 1_000_000, 200_000_000  # of a step that brings a snapshot: a gateway takes somewhat more
 
@@ -148,14 +149,19 @@ class Keeper:
             raise Damaged(f"the gateway is to lead behind step {self.log.position}, and says {said[:200]!r}")
         log(f"leads behind step {self.log.position}, by the lease {self.log.lease.decode()}")
         self.show()
-        self.leads, renewed = True, time.monotonic()
+        self.leads, renewed, asked = True, time.monotonic(), 0.0
         while True:
             if decided := self.door.decided(self.log.position, pause, PIECE):
                 self.ask(lambda: self.log.append(decided))
                 self.door.has(self.log.position)
-            if time.monotonic() > renewed + pause:
+            if (now := time.monotonic()) > renewed + pause:
+                if self.door.heard > asked:
+                    asked = now
+                    self.door.has(self.log.position)
+                elif now > asked + SILENT * self.log.seconds:
+                    raise Lost(f"the gateway has said nothing for {now - asked:.0f} seconds, so its lease is given back")
                 self.ask(self.log.renew)
-                renewed = time.monotonic()
+                renewed = now
 
     def sow(self, records: list[list[bytes]]) -> None:
         """A log begins with these, or goes on with them if it was begun so."""

@@ -100,6 +100,23 @@ def test_who_ends_in_peace_gives_the_lease_back(store: Store) -> None:
         party.equal()
 
 
+def test_a_gateway_that_hangs_leads_no_more(store: Store) -> None:
+    """Its keeper gives the lease back. One that has nothing to do says so."""
+    with partied(store, 2, 1, 0.5) as party:
+        first = party.leader()
+        second, = (it for it in party.candidates if it is not first)
+        time.sleep(8)
+        assert store.client.get("desk:number") == b"1" and not first.statuses
+        assert first.strike("gateway", signal.SIGSTOP)
+        until(second.leads, "nobody leads")
+        wire = second.enter("ann")
+        assert answer(wire, by_name(wire.place, insert(1, "ann")))["answer"] == {"ok": True}
+        assert first.strike("gateway", signal.SIGCONT) and "has said nothing for" in first.said()
+        until(lambda: first.statuses["keeper 6"], f"its keeper does not end: {first.said()}")
+        comes(first)
+        party.equal()
+
+
 def test_a_leader_that_was_stopped_tells_nobody(store: Store) -> None:
     """Another one leads when it goes on. What it has decided is not in the log, and it has refused nobody what the other may have accepted."""
     tells_nobody(store, lambda it, is_cut: os.kill(it.keeper_pid(), signal.SIGSTOP if is_cut else signal.SIGCONT), store.url)
