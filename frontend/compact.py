@@ -1,18 +1,17 @@
 #!/usr/bin/python3
 """Writes a journal anew: the requests that make its roles, relations, rights and policies, and then the rows as they are now.
 
-    frontend/compact.py [--rows N] [--copy] JOURNAL [VIEWD]
+    frontend/compact.py [--rows N] [--copy] [--steps N] JOURNAL [VIEWD]
 
 viewd has no dump, so it is told the journal and the administrator subscribes to each table. What was written is read
 back by another viewd before it takes the journal's place. If anything differs, the journal stays as it was.
 
 A file, the journal of ./gateway, is written anew while no gateway writes it, and has no more who wrote what and when: a copy of the
 old one keeps that. The last 64 names of each holder stay, with their answers. A copy that is to go on in the place of a journal that had more gets
-another epoch by --copy. Of a stream, redis://HOST:PORT/NAME, the lines are kept as a snapshot of the place to which it was read, gateways
-that start begin there, and what is older is dropped; gateways run meanwhile.
+another epoch by --copy. Of a log, redis://HOST:PORT/NAME, the lines are kept as a snapshot of the step to which it was read, gateways
+that have none of it begin there, and steps are dropped that are older; gateways run meanwhile. It has all names, which are a fifth of a kilobyte each.
 """
 import argparse
-import asyncio
 import contextlib
 import fcntl
 import json
@@ -24,7 +23,7 @@ from collections.abc import Callable, Iterable, Iterator
 from typing import Any
 
 import audit
-from journal import BODY, Anew, Damaged, Request, Shape, by_role, entry_of, replay, to_text
+from journal import BODY, Damaged, Request, Shape, by_role, entry_of, replay, to_text
 
 ENTRIES = 1000  # of a write
 
@@ -146,33 +145,37 @@ def compact(path: pathlib.Path, words: list[str | pathlib.Path], is_copy: bool) 
         return f"{path}: {size_of(path)} instead of {was}"
 
 
-async def snapshot(url: str, words: list[str | pathlib.Path]) -> str:
-    """Reads to the end that the stream has now."""
-    from stream import Stream  # (a file needs no Redis)
-    stream = Stream(url)
-    accepted: list[tuple[str, Request]] = []
-    end = await stream.last()
-    while stream.lines < end:
-        accepted += [(it.role, it.request) for it in await stream.read() if it.request is not None]
-    if not accepted:
-        raise Damaged(f"{stream.where} is empty")
-    before = Viewd(words).state(accepted)
-    made = [line.rstrip(b"\n") for line in lines(*before)]
-    if Viewd(words).state([entry_of(line, "a line of the snapshot") for line in made]) != before:
-        raise Damaged(f"the snapshot leads to another state, so {stream.where} stays")
-    done = await stream.put_snapshot(made)
-    await stream.close()
-    return f"{stream.where}: " + (f"{len(made)} lines lead to the state of {stream.lines}" if done else f"there is a snapshot at {stream.lines} or later")
+def snapshot(url: str, words: list[str | pathlib.Path], rest: int) -> str:
+    """Reads to the end that the log has now. Raises Damaged."""
+    from redis_stream import Away, Log, Trimmed, Unfit  # (a file needs no Redis)
+    try:
+        log = Log(url)
+        if not log.begun() or not (end := log.last()):
+            raise Damaged(f"{log.where} is empty")
+        said = log.snapshot()
+        while log.position < end:
+            said += [line for _, lines in log.more() for line in lines]
+        names = [it for it in said if it.startswith(b'{"once":')]
+        before = Viewd(words).state(accepted(said, log.where))
+        made = [it.rstrip(b"\n") for it in lines(*before)]
+        if Viewd(words).state(accepted(made, log.where)) != before:
+            raise Damaged(f"the snapshot leads to another state, so {log.where} stays")
+        done = log.put_snapshot(made + names, rest)
+    except (Away, Unfit, Trimmed, ValueError) as why:
+        raise Damaged(str(why)) from None
+    if not done:
+        return f"{log.where}: there is a snapshot of this step, or of a later one"
+    return f"{log.where}: {len(made)} lines lead to the state of step {log.position}, and {len(names)} are names"
+
+
+def accepted(lines: Iterable[bytes], where: str) -> Iterator[tuple[str, Request]]:
+    """Role and request of each entry among the lines of steps."""
+    return (entry_of(it, f"{where}: an entry") for it in lines if not it.startswith(b'{"once":'))
 
 
 def main(given: argparse.Namespace) -> str:
     words = replay(given.viewd, given.rows)
-    if "://" not in given.journal:
-        return compact(pathlib.Path(given.journal), words, given.copy)
-    try:
-        return asyncio.run(snapshot(given.journal, words))
-    except Anew as why:
-        raise Damaged(f"{why}: try again") from None
+    return snapshot(given.journal, words, given.steps) if "://" in given.journal else compact(pathlib.Path(given.journal), words, given.copy)
 
 
 if __name__ == "__main__":
@@ -180,6 +183,7 @@ if __name__ == "__main__":
     words = argparse.ArgumentParser(description=__doc__, formatter_class=argparse.RawDescriptionHelpFormatter)
     words.add_argument("--rows", type=int, help="the row limit of viewd, if not its own: at least the one under which the journal was written")
     words.add_argument("--copy", action="store_true", help="another epoch: for a copy that goes on in the place of a journal that had more")
+    words.add_argument("--steps", type=int, default=10_000, help="of a log that stay before its snapshot (10,000): who is less far behind needs none")
     words.add_argument("journal", metavar="JOURNAL")
     words.add_argument("viewd", metavar="VIEWD", nargs="?", default=here.parent / "viewd", type=pathlib.Path)
     try:

@@ -50,6 +50,8 @@ class Door:
     def __init__(self, given: IO[bytes], taken: IO[bytes]):
         self.given, self.taken = given, taken
         self.on_disk = 0
+        self.heard = 0.0  # when it said that last
+        self.part: list[bytes] = []  # of a step that the gateway decides
         self.why = ""  # the other side has ended
         self.said: queue.Queue[bytes] = queue.Queue(AHEAD)
         self.changed = threading.Condition()
@@ -76,7 +78,7 @@ class Door:
 
     def keep(self, position: int) -> None:
         with self.changed:
-            self.on_disk = position
+            self.on_disk, self.heard = position, time.monotonic()
             self.changed.notify()
 
     def say(self, text: bytes) -> None:
@@ -97,8 +99,12 @@ class Door:
             self.changed.wait_for(lambda: bool(self.why), 1)
         raise Ended(self.why or "the gateway has ended")
 
-    def hear(self) -> bytes:
-        text = self.said.get()
+    def hear(self, seconds: float | None = None) -> bytes:
+        """Its next line; empty if none comes so long. Raises Ended."""
+        try:
+            text = self.said.get(timeout=seconds)
+        except queue.Empty:
+            return b""
         if not text:
             raise Ended(self.why)
         return text
@@ -131,6 +137,30 @@ class Door:
         for it in lines:
             self.say(it)
         self.say(b'{"from":%d,"step":%d}' % (start, end))
+
+    def lead(self) -> None:
+        """All that the log has was brought: the gateway decides from here on."""
+        self.say(b'{"lead":true}')
+        self.flush()
+
+    def decided(self, position: int, seconds: float, most: int) -> list[list[bytes]]:
+        """Up to so many steps that a gateway has decided behind a position: waits so long for the first. Raises Ended."""
+        steps, end = list[list[bytes]](), time.monotonic() + seconds
+        while len(steps) < most and (text := self.hear(0 if steps else max(0, end - time.monotonic()))):
+            if not text.startswith(b'{"from":'):
+                self.part.append(text)
+                continue
+            at = position + len(steps)
+            if text != b'{"from":%d,"step":%d}' % (at, at + 1):
+                raise Ended(f"the gateway leads behind step {at}, and says {text[:200]!r}")
+            steps.append(self.part)
+            self.part = []
+        return steps
+
+    def has(self, position: int) -> None:
+        """All that the gateway has decided up to there is in the log. It answers by what is on its disk."""
+        self.say(b'{"kept":%d}' % position)
+        self.flush()
 
     def open(self, is_open: bool) -> None:
         """Whether clients may come in."""

@@ -1,24 +1,21 @@
 """What is in a journal: the accepted requests that changed what is shared, one a line, in viewd's order; and the shape that they make.
 
 A line is the request without its session and with the role that made it: `{"as":"mia","do":"write","entries":[..]}`.
-A viewd that begins empty and is told these lines is in the state that they lead to, and refuses none of them. A stream of Redis has them (stream.py), and
-the file of the program `./gateway`, there after digests and notes (audit.py).
+A viewd that begins empty and is told these lines is in the state that they lead to, and refuses none of them. The journal of ./gateway has them behind digests
+and notes (audit.py), and the steps of a log as they are.
 
 The key is `as`, which no request has: viewd refuses by 2 what has it. `role`, which it was, is a key of `grant_role` too. A line
-is measured with the longest role and the longest session, so it fits in any other viewd behind the same journal. It has no checksum,
-which would make it no request. The shape has the query of a view and not its columns, which viewd does not tell.
+is measured with the longest role and the longest session, so it fits in any other viewd behind the same journal.
 """
 import dataclasses
 import json
-import os
 import pathlib
 from collections.abc import Iterator
-from typing import Any, NamedTuple
+from typing import Any
 
 LINE = 65_536  # bytes of a line without its newline: viewd ends after a longer one
 # What is left of a line for a request, whoever tells it: by the longest number of a session, or the longest role.
 BODY = LINE - max(len('{"session":4294967295,}'), len('{"as":"",}') + 63)
-SLOW = float(os.environ.get("VIEWD_SLOW", 1))  # how many times as long as usual who is asked may be silent: tests set it, as no slow host is to fail them
 PRIVILEGES = ("select", "insert", "update", "delete")
 SHARED = frozenset(("create_role", "create_table", "create_view", "grant", "revoke", "grant_role", "revoke_role", "row_security",
                     "create_policy", "drop_policy", "write"))
@@ -40,13 +37,8 @@ def to_text(value: object) -> bytes:
     return json.dumps(value, ensure_ascii=False, separators=(",", ":")).encode()
 
 
-def by_session(session: int, body: bytes) -> bytes:
-    """A request for viewd. Its body is its text without the braces."""
-    return b'{"session":%d,%s}\n' % (session, body)
-
-
 def by_role(role: str, body: bytes) -> bytes:
-    """The same request as a line of the journal."""
+    """A request as a line of the journal. Its body is its text without the braces."""
     return b'{"as":"%s",%s}\n' % (role.encode(), body)
 
 
@@ -88,17 +80,6 @@ class Shape:
         if not held and role != self.relations[on]["owner"]:
             del self.grants[on][role]
 
-    def reached(self, role: str) -> set[str]:
-        """The role, and each role that it is a member of, through any number of steps."""
-        reached, news = {role}, {role}
-        while news:
-            news = {above for above, member in self.members if member in news} - reached
-            reached |= news
-        return reached
-
-    def tables(self) -> list[str]:
-        return [name for name, made in self.relations.items() if made["do"] == "create_table"]
-
     def requests(self) -> Iterator[Request]:
         """Requests of the administrator that bring an empty viewd to this shape."""
         yield from ({"do": "create_role", "name": name} for name in self.roles[1:])
@@ -113,20 +94,6 @@ class Shape:
                     yield {"do": "grant", "on": name, "privileges": new, "to": role}
         yield from ({"do": "row_security", "on": on} | both for on, both in self.row_security.items())
         yield from self.policies
-
-
-class Entry(NamedTuple):
-    """An accepted request, as it is read. One without a request is a name alone, of a request that a snapshot has."""
-
-    role: str
-    request: Request | None
-    place: int | None = None  # how many there are with it, since the beginning; none within a snapshot
-    digest: str = ""  # of all lines up to this one
-    name: str = ""  # by which the same request is known when it is sent again
-
-
-class Anew(Exception):
-    """What viewd has applied is not what the journal has from here on: another viewd is to be told it from its beginning."""
 
 
 def entry_of(line: bytes, where: str) -> tuple[str, Request]:

@@ -43,6 +43,10 @@ KEEPER = """#!/bin/sh
 # has a gateway follow the journal of another one: viewd-keeper --help
 exec /usr/bin/python3 "$(dirname "$(readlink -f "$0")")/../lib/viewd/frontend/keeper.py" "$@"
 """
+REDIS_LOG = """#!/bin/sh
+# has gateways on several machines serve one log in Redis: viewd-redis-log --help
+exec /usr/bin/python3 "$(dirname "$(readlink -f "$0")")/../lib/viewd/frontend/redis_log.py" "$@"
+"""
 POSTGRESQL = """#!/bin/sh
 # viewd beside a PostgreSQL: viewd-postgresql --help
 for module in psycopg2 pglast; do
@@ -51,7 +55,7 @@ done
 exec /usr/bin/python3 "$(dirname "$(readlink -f "$0")")/../lib/viewd/postgresql/program.py" "$@"
 """
 # programs in Python; what is beside them that they import comes with them
-PROGRAMS = ["frontend/compact.py", "frontend/keeper.py", "postgresql/program.py"]
+PROGRAMS = ["frontend/compact.py", "frontend/keeper.py", "frontend/redis_log.py", "postgresql/program.py"]
 
 
 def with_modules(path: pathlib.Path) -> list[pathlib.Path]:
@@ -80,6 +84,7 @@ def copied(root: pathlib.Path) -> None:
     put(root, "usr/bin/viewd-client", CLIENT.encode(), PROGRAM)
     put(root, "usr/bin/viewd-compact", COMPACT.encode(), PROGRAM)
     put(root, "usr/bin/viewd-keeper", KEEPER.encode(), PROGRAM)
+    put(root, "usr/bin/viewd-redis-log", REDIS_LOG.encode(), PROGRAM)
     put(root, "usr/bin/viewd-postgresql", POSTGRESQL.encode(), PROGRAM)
 
 
@@ -106,6 +111,9 @@ def pages(viewd: pathlib.Path, gateway: pathlib.Path) -> list[Page]:
              ["`viewd-gateway`(8)", *also]),
         Page("viewd-keeper", 1, "has a gateway follow the journal of another one", [said(TOP / "frontend/keeper.py", "--help")],
              [("what it says", chapter(document["LOG"], "Lines")), ("steps", chapter(document["LOG"], "Steps"))], ["`viewd-gateway`(8)", *also]),
+        Page("viewd-redis-log", 1, "has gateways on several machines serve one log in Redis", [said(TOP / "frontend/redis_log.py", "--help")],
+             [(heading.lower(), chapter(operating, heading)) for heading in ("What happens when a part dies", "What is promised", "What is not")],
+             ["`viewd-gateway`(8)", "`viewd-keeper`(1)", *also]),
         Page("viewd-postgresql", 1, "viewd beside a PostgreSQL that stays as it is", [said(TOP / "viewd-postgresql", "--help")],
              [("run", chapter(document["POSTGRESQL"], "Run")), ("what is refused", chapter(document["POSTGRESQL"], "What is refused"))],
              ["`viewd-gateway`(8)", *also])]

@@ -6,6 +6,7 @@ import multiprocessing
 import os
 import re
 import resource
+import secrets
 import select
 import socket
 import struct
@@ -13,6 +14,7 @@ import time
 from multiprocessing.connection import Connection
 
 CAME = re.compile(rb"\[1,\[(\d+),")
+PLACE = re.compile(rb'"at":"([0-9a-f]{32}\.\d+)"')
 UNDER_WAY = 64  # tokens, and then subscriptions, of a process that are not answered yet
 QUIET = 10.0  # seconds without a row, after which those that are missing are lost
 WINDOW = 32  # writes without a reply
@@ -44,14 +46,20 @@ def begin(port: int, token: str) -> socket.socket:
     return it
 
 
-def came(it: socket.socket) -> socket.socket:
-    """Waits until it was let in, and told so."""
+def greeted(it: socket.socket) -> bytes:
+    """What it is told once it was let in."""
     got = b""
     while b'{"settled":true}' not in got:
         more = it.recv(1 << 16)
         if not more:
             raise SystemExit(f"bench: a client was not let in: {got!r}")
         got += more
+    return got
+
+
+def came(it: socket.socket) -> socket.socket:
+    """Waits until it was let in, and told so."""
+    greeted(it)
     return it
 
 
@@ -197,15 +205,26 @@ class Crowd:
 
 
 class Writer:
-    """Who writes. The numbers of its rows rise; so many rows are there at a time."""
+    """Who writes, by names if that is asked for. The numbers of its rows rise; so many rows are there at a time."""
 
-    def __init__(self, port: int, token: str, kept: int) -> None:
-        self.socket, self.kept, self.next, self.rest = came(begin(port, token)), kept, 1_000_000, b""
+    def __init__(self, port: int, token: str, kept: int, is_named: bool = False) -> None:
+        self.socket, self.kept, self.next, self.rest, self.is_named, self.place = begin(port, token), kept, 1_000_000, b"", is_named, b""
+        self.learn(greeted(self.socket))
+
+    def learn(self, told: bytes) -> None:
+        """Where its names stand by now."""
+        if found := PLACE.findall(told):
+            self.place = found[-1]
+
+    def framed(self, request: bytes) -> bytes:
+        if not self.is_named:
+            return frame(request)
+        return frame(b'{"once":"%s","at":"%s",%s' % (secrets.token_urlsafe(16).encode(), self.place, request[1:]))
 
     def ask(self, *requests: bytes) -> None:
         """Requests that have to be accepted, one after another."""
         for it in requests:
-            self.socket.sendall(frame(it))
+            self.socket.sendall(self.framed(it))
             while not self.replies(60.0):
                 pass
 
@@ -216,8 +235,9 @@ class Writer:
         data = self.rest + self.socket.recv(1 << 16)
         cut = data.rfind(b"}") + 1
         data, self.rest = data[:cut], data[cut:]
-        if b'"error"' in data or not cut and not self.rest:
+        if b'"error"' in data or b'"undecided"' in data or not cut and not self.rest:
             raise SystemExit(f"bench: a request was refused: {data!r}")
+        self.learn(data)
         return data.count(b'"ok":true')
 
     @staticmethod
@@ -242,7 +262,7 @@ class Writer:
                 number = b"%d" % self.next
                 due[number] = start + len(due) / rate if rate else now
                 waiting.append(number)
-                texts.append(frame(b'{"do":"write","entries":[%s,%s]}' % (self.entry("insert", self.next), self.entry("delete", self.next - self.kept))))
+                texts.append(self.framed(b'{"do":"write","entries":[%s,%s]}' % (self.entry("insert", self.next), self.entry("delete", self.next - self.kept))))
                 self.next += 1
             self.socket.sendall(b"".join(texts))
             is_full = not rate or len(waiting) == WINDOW or now >= start + seconds

@@ -39,7 +39,7 @@ def has_door() -> bool:
 class Follower(Gateway):
     """A gateway that follows: its keeper starts it, or reaches it by a port. What is dead is started again; one that has followed another journal begins anew."""
 
-    def __init__(self, leader: Gateway, by_port: bool):
+    def __init__(self, leader: Gateway | None, by_port: bool):
         super().__init__(words=("--rows", "1048576"), start=False)
         self.leader, self.by_port = leader, by_port
         self.keeper: subprocess.Popen[bytes] | None = None
@@ -49,9 +49,14 @@ class Follower(Gateway):
         self.begins = 0
         self.is_ended = self.rests = False
 
+    def log(self) -> list[Any]:
+        """Its keeper and the log."""
+        assert self.leader
+        return [KEEPER, self.leader.journal]
+
     def command(self) -> list[Any]:
         words = [FOLLOWER, *super().command()[1:]]
-        return [*words, "--log", str(self.door), "--log-secret-file", self.secret] if self.by_port else [KEEPER, self.leader.journal, "--", *words]
+        return [*words, "--log", str(self.door), "--log-secret-file", self.secret] if self.by_port else [*self.log(), "--", *words]
 
     def mend(self) -> None:
         """Starts what has ended."""
@@ -64,7 +69,7 @@ class Follower(Gateway):
                 self.count("keeper", self.keeper.returncode)
             self.logs.append(self.folder / f"log.{len(self.logs)}")
             with self.logs[-1].open("wb") as log:
-                self.keeper = subprocess.Popen([KEEPER, self.leader.journal, "--port", str(self.door), "--secret-file", self.secret], stdin=subprocess.DEVNULL, stderr=log)
+                self.keeper = subprocess.Popen([*self.log(), "--port", str(self.door), "--secret-file", self.secret], stdin=subprocess.DEVNULL, stderr=log)
 
     def count(self, part: str, status: int) -> None:
         self.statuses[f"{part} {status}"] += 1
@@ -104,12 +109,12 @@ class Follower(Gateway):
         time.sleep(0.1)
         until(lambda: "keeper" not in self.pids() or self.strike("keeper") and False, "a keeper stays")
 
-    def strike(self, part: str) -> bool:
+    def strike(self, part: str, by: int = signal.SIGKILL) -> bool:
         """Kills a part. Whether it was there."""
         pid = self.pids().get(part)
         with contextlib.suppress(ProcessLookupError):
             if pid is not None:
-                os.kill(pid, signal.SIGKILL)
+                os.kill(pid, by)
                 return True
         return False
 
@@ -236,9 +241,9 @@ class Chronicle:
             case {"do": "revoke", "to": to, "privileges": named} if "select" in named:
                 self.grants.discard(to)
             case {"do": "write", "entries": entries}:
-                for entry in entries:
-                    row = tuple(entry["insert"])
-                    self.all += (more := entry.get("copies", 1) * mark(row))
+                for entry in (it for it in entries if it["on"] == "notes"):
+                    row, sign = (tuple(entry["insert"]), 1) if "insert" in entry else (tuple(entry["delete"]), -1)
+                    self.all += (more := sign * entry.get("copies", 1) * mark(row))
                     self.own += more if row[1] == "mia" else 0
 
     def add(self) -> None:

@@ -61,10 +61,10 @@ def folders() -> list[str]:
         found.append("postgresql")
     else:
         print("types: postgresql did not run; apt-get install -y python3-psycopg2 python3-pglast python3-typeshed")
-    if has("aiohttp", "redis", "pytest", "selenium"):
+    if has("redis", "pytest", "selenium"):
         found.append("frontend")
     else:
-        print("types: frontend did not run; apt-get install -y python3-aiohttp python3-redis python3-pytest python3-selenium")
+        print("types: frontend did not run; apt-get install -y python3-redis python3-pytest python3-selenium")
     return found
 
 
