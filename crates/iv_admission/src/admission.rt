@@ -54,7 +54,7 @@ fn is_beyond(judged: &Judged) -> bool
     }
 }
 
-/// The tokens that are known at a second, of which none was handed on.
+/// The tokens that are known at a second; none was handed on yet.
 fn first_handed(
     alloc: Global,
     known: &mut KnownTokens,

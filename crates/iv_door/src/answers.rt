@@ -32,7 +32,7 @@ pub enum Fault {
     NotAccepted(u64, u64, u64),
     /// This name of the step to a position may have an answer already.
     NotNew(u64, u64),
-    /// The first position is said to be kept, and it is not from the second, which was, to the third, of which the keeper was told.
+    /// The first position is said to be kept, and it is not from the second, which was, to the third, which the keeper was told.
     NotDecided(u64, u64, u64),
     /// A growth of memory was refused.
     Memory,

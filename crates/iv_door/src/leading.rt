@@ -28,7 +28,7 @@ fn push_text(out: &mut Vec<u8>, from: u64, text: &[u8]) -> Result<(), AllocError
     Ok(())
 }
 
-/// Appends a line of a record, of which the last one ends a step from a position on. Where the log stands after it.
+/// Appends a line of a record; its last one ends a step from a position on. Where the log stands after it.
 fn push_line(out: &mut Vec<u8>, from: u64, line: &OwnedLine) -> Result<u64, AllocError>
     ensures line { OnOk result (out.new.items ≡ out.old.items ++ line_from from line.now) }
     ensures position { IfOk result (λ n. n ≡ (if line.now.is_last then from + 1 else from)) }

@@ -174,7 +174,7 @@ fn leave(readers: &[RoleReader], held: &mut [Option<Held>], at: CircuitId)
     keep_read(held, at, is_read_at(readers, at));
 }
 
-/// So many flags, of which none is set.
+/// So many flags, none of them set.
 fn unset(alloc: Global, many: usize) -> Result<Vec<bool>, AllocError>
     ensures long { IfOk result (λ flags. length flags.items ≡ many) }
     ensures unset { IfOk result (λ flags. (i : ℕ) → get_or flags.items i false ≡ false) }
@@ -205,7 +205,7 @@ fn drop_free(held: &mut [Option<Held>], flags: &[bool])
     }
 }
 
-/// Drops the circuits that no role reads, by flags of which none is set yet.
+/// Drops the circuits that no role reads, by flags that are not set yet.
 fn drop_unread(readers: &[RoleReader], held: &mut [Option<Held>], flags: &mut [bool])
     requires long { length flags.old ≡ length held.old }
     requires unset { (i : ℕ) → get_or flags.old i false ≡ false }

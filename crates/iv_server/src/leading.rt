@@ -52,7 +52,7 @@ impl Server {
         }
     }
 
-    /// Reads what clients say, of whom nobody waits for what was decided.
+    /// Reads what clients say, while nobody waits for what was decided.
     pub fn read_on(
         &mut self,
         rt: &HostRuntime,
