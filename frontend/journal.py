@@ -37,8 +37,13 @@ def to_text(value: object) -> bytes:
     return json.dumps(value, ensure_ascii=False, separators=(",", ":")).encode()
 
 
+def by_session(session: int, body: bytes) -> bytes:
+    """A request for viewd. Its body is its text without the braces."""
+    return b'{"session":%d,%s}\n' % (session, body)
+
+
 def by_role(role: str, body: bytes) -> bytes:
-    """A request as a line of the journal. Its body is its text without the braces."""
+    """The same request as a line of the journal."""
     return b'{"as":"%s",%s}\n' % (role.encode(), body)
 
 

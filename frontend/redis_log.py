@@ -63,6 +63,7 @@ class Keeper:
     def __init__(self, log: Log, door: Door, may_lead: bool, seed: Leader | None = None):
         self.log, self.door, self.may_lead, self.seed = log, door, may_lead, seed
         self.is_open = self.is_away = self.leads = False
+        self.rows = 0  # of a table that the gateway can hold
 
     def state(self) -> State:
         return State(leads=self.leads, open=self.is_open, away=self.is_away, position=self.log.position, on_disk=self.door.on_disk)
@@ -89,6 +90,9 @@ class Keeper:
         epoch = secrets.token_hex(16) if self.may_lead else ""
         while not self.ask(lambda: self.log.begun(self.seed.epoch if self.seed else epoch)):
             time.sleep(AGAIN)
+        self.rows = held.rows
+        if self.rows < (rows := self.ask(self.log.rows)):
+            raise Unfit(f"the gateway has --rows {self.rows}, and {self.log.where} was led by one with {rows}")
         if held.log:
             if (held.log, held.epoch) != (self.log.name, self.log.epoch):
                 raise Another(f"the gateway follows {held.log} of epoch {held.epoch}, and {self.log.where} is of {self.log.epoch}")
@@ -141,6 +145,7 @@ class Keeper:
             self.bring(steps)
         if self.seed:
             self.sow([it for it in self.seed.more() if it])
+        self.ask(lambda: self.log.set_rows(self.rows))
         self.door.lead()
         pause = self.log.seconds / 4
         while not (said := self.door.hear(pause)):

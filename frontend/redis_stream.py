@@ -4,7 +4,8 @@ Step N is the entry `N-0` of the stream NAME: `lines`, as a keeper brings them, 
 another. The lease is a key with a keeper and a number that grows, which passes by itself if it is not renewed. An append asks for it within Redis, in one step
 with itself: so what comes after the lease has passed is refused, whatever its keeper believes and whatever its clock says.
 
-Beside the stream are the keys NAME:epoch, NAME:lease, NAME:number (of the last lease), NAME:snapshot (where the last one is) and NAME:snapshot:N (its lines).
+Beside the stream are the keys NAME:epoch, NAME:lease, NAME:number (of the last lease), NAME:rows (that gateways can hold), NAME:snapshot (where the last one
+is) and NAME:snapshot:N (its lines).
 """
 import contextlib
 import hashlib
@@ -172,6 +173,13 @@ class Log:
             self.ask(lambda: self.redis.set(self.key("epoch"), epoch, nx=True))
         self.epoch = (self.ask(lambda: self.redis.get(self.key("epoch"))) or b"").decode()
         return self.epoch != ""
+
+    def rows(self) -> int:
+        """How many rows of a table who led it last could hold: none of its gateways may hold fewer."""
+        return int(self.ask(lambda: self.redis.get(self.key("rows"))) or 0)
+
+    def set_rows(self, rows: int) -> None:
+        self.ask(lambda: self.redis.set(self.key("rows"), rows))
 
     # Reading.
 

@@ -212,6 +212,12 @@ def test_a_log_begins_with_a_journal(store: Store, here: pathlib.Path) -> None:
     machine.end()
 
 
+def test_who_holds_fewer_rows_does_not_follow(store: Store) -> None:
+    with partied(store, 1, 1) as party:
+        ends(Machine(store.url, rows=1024), 1, f"the gateway has --rows 1024, and redis://127.0.0.1:{store.port}/desk was led by one with 1048576")
+        party.equal()
+
+
 def test_who_leads_is_told_to_proxies(store: Store) -> None:
     ports = [free_port() for _ in range(2)]
     with partied(store, 1, 1) as party:
