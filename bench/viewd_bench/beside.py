@@ -120,7 +120,11 @@ class Beside:
 
     def postgresql(self) -> float:
         """Seconds of its processor."""
-        return of(self.server.server.pid, True) + sum(map(of, children(self.server.server.pid)))
+        used = of(self.server.server.pid, True)
+        for it in children(self.server.server.pid):
+            with contextlib.suppress(OSError):  # it has ended meanwhile
+                used += of(it)
+        return used
 
     def pgbench(self, script: str, clients: int, *words: str) -> tuple[int, float]:
         """How many transactions it made, and the mean time of one in milliseconds, without what it came too late by."""
