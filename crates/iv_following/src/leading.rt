@@ -68,7 +68,7 @@ impl Told {
     ///
     /// # Errors
     /// `AllocError` if a growth of memory was refused.
-    fn lead(&mut self, desk: &Desk) -> Result<(), AllocError>
+    pub(crate) fn lead(&mut self, desk: &Desk) -> Result<(), AllocError>
         ensures told { OnOk result ((d : Front) → IsDesk d desk.now → d.gate.dead ≡ false → self.new.out.items ≡ self.old.out.items ++ (if self.old.leads
             then (if self.old.owes then on_disk (settled_at d.gate) ++ 10 ∷ [] else []) ++ (answer.leads (settled_at d.gate) ++ 10 ∷ []) else [])) }
     {
@@ -86,7 +86,7 @@ impl Told {
     ///
     /// # Errors
     /// `AllocError` if a growth of memory was refused.
-    fn decide(&mut self, lead: &mut Lead, desk: &Desk) -> Result<(), AllocError>
+    pub(crate) fn decide(&mut self, lead: &mut Lead, desk: &Desk) -> Result<(), AllocError>
         ensures told { OnOk result ((d : Front) → IsDesk d desk.now → d.gate.dead ≡ false
             → self.new.out.items ≡ self.old.out.items ++ steps_told d.gate lead.old) }
         ensures lead { OnOk result ((d : Front) → IsDesk d desk.now → d.gate.dead ≡ false → lead.new ≡ record lead.old { told = position d.gate }) }
