@@ -5,7 +5,7 @@ use Rattle.iv_once.specs.Names.{Known, Own, begun}
 use Rattle.iv_once.specs.Runs.{nothing_known}
 use Rattle.iv_gate.specs.Gate.{known_at}
 use Rattle.iv_head.specs.Begun.{Begun, Standing, stood}
-use Rattle.iv_host.specs.Beginning.{head_with, place_in}
+use Rattle.iv_host.specs.Beginning.{epoch_with, head_with, place_in}
 
 -- what a head keeps of what is known of a holder
 abbrev kept_of : Option Own → Option Own
@@ -31,9 +31,9 @@ stood_epoch : (k : Known) (ss : List Standing) → (stood k ss).epoch ≡ k.epoc
 stood_epoch k [] = refl
 stood_epoch k (s ∷ ss) = stood_epoch (begun k s.holder s.at.epoch s.at.count) ss
 
-pub stood-nothing_known : (epoch : List ℕ) (b : Begun) → stood (nothing_known epoch) b.standings ≡ known_at (head_with epoch b)
+pub stood-nothing_known : (epoch : List ℕ) (b : Begun) → stood (nothing_known (epoch_with epoch b)) b.standings ≡ known_at (head_with epoch b)
 stood-nothing_known epoch b = λ i. record {
-  epoch = stood_epoch (nothing_known epoch) b.standings i;
-  owns = λ holder. stood_kept (nothing_known epoch) b.standings (λ h. refl) holder i;
-  holders = (stood (nothing_known epoch) b.standings).holders;
+  epoch = stood_epoch (nothing_known (epoch_with epoch b)) b.standings i;
+  owns = λ holder. stood_kept (nothing_known (epoch_with epoch b)) b.standings (λ h. refl) holder i;
+  holders = (stood (nothing_known (epoch_with epoch b)) b.standings).holders;
 }
