@@ -94,9 +94,12 @@ def test_who_ends_in_peace_gives_the_lease_back(store: Store) -> None:
         first.process.terminate()
         assert first.process.wait(PATIENCE) == 143
         until(second.leads, "nobody leads")
-        second.strike("gateway")  # whose keeper ends by itself
+        second.rests = True  # else it may be there again before the first one is
+        assert second.strike("gateway") and second.process.wait(PATIENCE) == 4
         first.rests = False
         until(first.leads, "nobody leads")
+        second.rests = False
+        comes(second)
         party.equal()
 
 
