@@ -11,7 +11,7 @@ use Rattle.sha2.proofs.Facts256.{length-sha256}
 use Rattle.serde_json.specs.Data.{Data}
 use Rattle.iv_rows.specs.Names.{is_name}
 use Rattle.iv_rows.specs.Options.{if_some}
-use Rattle.iv_machine.specs.Act.{Act, begin, finish, create_role, create_table, create_view, grant, revoke, grant_role, revoke_role, row_security, create_policy, drop_policy, subscribe, unsubscribe, write, Refusal, Reply}
+use Rattle.iv_machine.specs.Act.{Act, begin, finish, subscribe, unsubscribe, Refusal, Reply}
 use Rattle.iv_message.specs.Lines.{IsLine, is_clean}
 use Rattle.iv_message.specs.Message.{Message, no_json, too_long, no_object, no_request, request}
 use Rattle.iv_message.specs.Told.{Told, replied, told_text}
@@ -29,7 +29,7 @@ use Rattle.iv_gate.proofs.NameVerdicts.{is_new-verdict, first_known-append}
 use Rattle.iv_gate.proofs.JournalDamage.{both_so, names_in-append}
 use Rattle.iv_gate.proofs.OwnReplies.{act_added, carried_reply, decided_added, said_added, shared_added, verdict_added}
 use Rattle.iv_gate.proofs.JournalRequests.{IsRequest-said_by}
-use Rattle.iv_gate.proofs.StepRelations.{Keeps, Steps, came_keeps, request_of, went_keeps}
+use Rattle.iv_gate.proofs.StepRelations.{HasEntries, entries_kit, came_keeps, request_of, went_keeps}
 
 -- ---- one list of entries after another
 
@@ -226,18 +226,7 @@ module _ (texts : Texts) (g : Gate) (c : Client) (text : List ℕ) (name : is_na
   act_more id finish h = nothing_more g
   act_more id (subscribe rel) h = nothing_more g
   act_more id (unsubscribe own) h = nothing_more g
-  act_more id (create_role n) h = shared_more (request_of c text (create_role n)) refl (IsRequest-said_by c.role text id (create_role n) name refl h)
-  act_more id (create_table n owner columns) h = shared_more (request_of c text (create_table n owner columns)) refl (IsRequest-said_by c.role text id (create_table n owner columns) name refl h)
-  act_more id (create_view n owner query) h = shared_more (request_of c text (create_view n owner query)) refl (IsRequest-said_by c.role text id (create_view n owner query) name refl h)
-  act_more id (grant rel privileges to) h = shared_more (request_of c text (grant rel privileges to)) refl (IsRequest-said_by c.role text id (grant rel privileges to) name refl h)
-  act_more id (revoke rel privileges to) h = shared_more (request_of c text (revoke rel privileges to)) refl (IsRequest-said_by c.role text id (revoke rel privileges to) name refl h)
-  act_more id (grant_role group to) h = shared_more (request_of c text (grant_role group to)) refl (IsRequest-said_by c.role text id (grant_role group to) name refl h)
-  act_more id (revoke_role group to) h = shared_more (request_of c text (revoke_role group to)) refl (IsRequest-said_by c.role text id (revoke_role group to) name refl h)
-  act_more id (row_security rel enable force) h = shared_more (request_of c text (row_security rel enable force)) refl (IsRequest-said_by c.role text id (row_security rel enable force) name refl h)
-  act_more id (create_policy p) h = shared_more (request_of c text (create_policy p)) refl (IsRequest-said_by c.role text id (create_policy p) name refl h)
-  act_more id (drop_policy rel n) h =
-      shared_more (request_of c text (drop_policy rel n)) refl (IsRequest-said_by c.role text id (drop_policy rel n) name refl h)
-  act_more id (write entries) h = shared_more (request_of c text (write entries)) refl (IsRequest-said_by c.role text id (write entries) name refl h)
+  act_more id act h = shared_more (request_of c text act) refl (IsRequest-said_by c.role text id act name refl h)
 
   pub said_more : (m : Message) → said_by text ≡ m → MayAdd g (said_added g c text m)
   said_more no_json h = nothing_more g
@@ -261,28 +250,11 @@ MayAdd-entry_of g s w n p = record {
 
 -- ---- what adds nothing
 
-abbrev Unadded : Gate → Gate → Type 0
-Unadded g h = h.entries ≡ g.entries
-
-unadded_kit : (g : Gate) (m : ℕ) → Steps m (Keeps (Unadded g))
-unadded_kit g m = record {
-  same = λ h x. x;
-  chain = λ h i j x y z. y (x z);
-  run = λ h k e x. x;
-  settle = λ h x. x;
-  tell = λ h t e x. x;
-  seat = λ h seats x. x;
-  feed = λ h feeds x. x;
-  follow = λ h k x. x;
-  move = λ h t k x. x;
-  close = λ h own x. x;
-}
-
 pub entries-came : (g : Gate) (m : ℕ) (token : List ℕ) → (came g m token).entries ≡ g.entries
-entries-came g m token = came_keeps (Unadded g) (unadded_kit g) g m token (λ h t e x. x) refl
+entries-came g m token = came_keeps (HasEntries g.entries) (entries_kit g.entries) g m token (λ h t e x. x) refl
 
 pub entries-went : (g : Gate) (m : ℕ) → (went g m).entries ≡ g.entries
-entries-went g m = went_keeps (Unadded g) (unadded_kit g) g m (λ x. x) refl
+entries-went g m = went_keeps (HasEntries g.entries) (entries_kit g.entries) g m (λ x. x) refl
 
 -- ---- what a step that is taken has
 

@@ -1,6 +1,6 @@
 -- Each client is welcomed and answered, and what it closes or is told to end is over.
 use Rattle.std.proofs.Common.{◌≡◌, ℕ, zero, suc, ◌+◌, ◌⊎◌, inl, inr, Bool, true, false, cond, ◌||◌, List, [], ◌∷◌, ◌++◌, length, drop, Option, Some, None, option_map, refl, ap, ◌∙◌, sym, subst, append-nil, arith}
-use Rattle.std.specs.Prelude.{◌==◌, ◌&&◌, Contains, filter, find, nat_lt, slice_get, codes, is_some}
+use Rattle.std.specs.Prelude.{◌==◌, ◌&&◌, Contains, filter, find, nat_lt, slice_get, codes}
 use Rattle.std.specs.List.{list_any}
 use Rattle.std.proofs.lemmas.Bool.{false≢true, eqb-true}
 use Rattle.std.proofs.lemmas.List.{length-append}
@@ -9,7 +9,7 @@ use Rattle.serde_json.specs.Data.{Data}
 use Rattle.iv_rows.specs.Columns.{Column}
 use Rattle.iv_rows.specs.Options.{if_some}
 use Rattle.iv_access.specs.Rights.{Name}
-use Rattle.iv_machine.specs.Act.{Act, begin, finish, create_role, create_table, create_view, grant, revoke, grant_role, revoke_role, row_security, create_policy, drop_policy, subscribe, unsubscribe, write, Reply, done, subscribed, refused, too_many, unknown_subscription}
+use Rattle.iv_machine.specs.Act.{Act, begin, finish, subscribe, unsubscribe, Reply, done, subscribed, refused, too_many, unknown_subscription}
 use Rattle.iv_machine.specs.State.{State}
 use Rattle.iv_message.specs.Message.{Message, no_json, too_long, no_object, no_request, request, unknown}
 use Rattle.iv_message.specs.Told.{Told, welcome, replied, opened, settled, placed, unasked}
@@ -252,17 +252,7 @@ act_is g c id text (begin role) = refl
 act_is g c id text finish = refl
 act_is g c id text (subscribe rel) = read_is g c id rel
 act_is g c id text (unsubscribe own) = refl
-act_is g c id text (create_role name) = shared_is g c id (request_of c text (create_role name)) (claim_said text)
-act_is g c id text (create_table name owner columns) = shared_is g c id (request_of c text (create_table name owner columns)) (claim_said text)
-act_is g c id text (create_view name owner query) = shared_is g c id (request_of c text (create_view name owner query)) (claim_said text)
-act_is g c id text (grant rel privileges to) = shared_is g c id (request_of c text (grant rel privileges to)) (claim_said text)
-act_is g c id text (revoke rel privileges to) = shared_is g c id (request_of c text (revoke rel privileges to)) (claim_said text)
-act_is g c id text (grant_role group to) = shared_is g c id (request_of c text (grant_role group to)) (claim_said text)
-act_is g c id text (revoke_role group to) = shared_is g c id (request_of c text (revoke_role group to)) (claim_said text)
-act_is g c id text (row_security rel enable force) = shared_is g c id (request_of c text (row_security rel enable force)) (claim_said text)
-act_is g c id text (create_policy p) = shared_is g c id (request_of c text (create_policy p)) (claim_said text)
-act_is g c id text (drop_policy rel name) = shared_is g c id (request_of c text (drop_policy rel name)) (claim_said text)
-act_is g c id text (write entries) = shared_is g c id (request_of c text (write entries)) (claim_said text)
+act_is g c id text act = shared_is g c id (request_of c text act) (claim_said text)
 
 -- what a message is replied is a reply
 pub is_reply-said_reply : (g : Gate) (c : Client) (text : List ℕ) (s : Message) → is_reply (said_reply g c text s) ≡ true

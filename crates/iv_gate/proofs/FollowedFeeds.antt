@@ -6,8 +6,7 @@ use Rattle.std.proofs.lemmas.Bool.{false≢true, eqb-true, or_left, or_right}
 use Rattle.serde_json.specs.Data.{Data}
 use Rattle.iv_rows.specs.Options.{if_some}
 use Rattle.iv_access.specs.Rights.{Name}
-use Rattle.iv_machine.specs.Act.{Act, begin, finish, create_role, create_table, create_view, grant, revoke, grant_role, revoke_role, row_security, create_policy, drop_policy, subscribe, unsubscribe, write, Command, Refusal, Reply, done, subscribed, refused, too_many, unknown_subscription}
-use Rattle.iv_machine.specs.Changing.{after}
+use Rattle.iv_machine.specs.Act.{Act, begin, finish, subscribe, unsubscribe, Command, Refusal, Reply, done, subscribed, refused, too_many, unknown_subscription}
 use Rattle.iv_machine.specs.Machine.{step, Outcome}
 use Rattle.iv_machine.specs.Refusing.{refusal}
 use Rattle.iv_machine.specs.State.{State, Subscription, subscription_of}
@@ -434,17 +433,7 @@ using_acts adds sounds g m c id text finish d given t w r s o b a = using_tells 
 using_acts adds sounds g m c id text (subscribe rel) d given t w r s o b a =
     using_reads adds sounds g m c id rel d t (IsAsker-IsHeard g m c id text rel d w r) b a
 using_acts adds sounds g m c id text (unsubscribe own) d given t w r s o b a = using_closes g m c id own given (λ x e. ap (λ (y : Client). y.subs) (same-Some x d (sym e ∙ t)) ∙ s) o a
-using_acts adds sounds g m c id text (create_role name) d given t w r s o b a = using_shares g m c id (request_of c text (create_role name)) (claim_said text) a
-using_acts adds sounds g m c id text (create_table name owner columns) d given t w r s o b a = using_shares g m c id (request_of c text (create_table name owner columns)) (claim_said text) a
-using_acts adds sounds g m c id text (create_view name owner query) d given t w r s o b a = using_shares g m c id (request_of c text (create_view name owner query)) (claim_said text) a
-using_acts adds sounds g m c id text (grant rel privileges to) d given t w r s o b a = using_shares g m c id (request_of c text (grant rel privileges to)) (claim_said text) a
-using_acts adds sounds g m c id text (revoke rel privileges to) d given t w r s o b a = using_shares g m c id (request_of c text (revoke rel privileges to)) (claim_said text) a
-using_acts adds sounds g m c id text (grant_role group to) d given t w r s o b a = using_shares g m c id (request_of c text (grant_role group to)) (claim_said text) a
-using_acts adds sounds g m c id text (revoke_role group to) d given t w r s o b a = using_shares g m c id (request_of c text (revoke_role group to)) (claim_said text) a
-using_acts adds sounds g m c id text (row_security rel enable force) d given t w r s o b a = using_shares g m c id (request_of c text (row_security rel enable force)) (claim_said text) a
-using_acts adds sounds g m c id text (create_policy p) d given t w r s o b a = using_shares g m c id (request_of c text (create_policy p)) (claim_said text) a
-using_acts adds sounds g m c id text (drop_policy rel name) d given t w r s o b a = using_shares g m c id (request_of c text (drop_policy rel name)) (claim_said text) a
-using_acts adds sounds g m c id text (write entries) d given t w r s o b a = using_shares g m c id (request_of c text (write entries)) (claim_said text) a
+using_acts adds sounds g m c id text act d given t w r s o b a = using_shares g m c id (request_of c text act) (claim_said text) a
 
 using_done : Adds → Sounds → (g : Gate) (m : ℕ) (c : Client) (text : List ℕ) (x : Message) (d : Client) (given : ℕ) → client_at g.clients m ≡ Some d → said_by text ≡ x → IsHeard g m c text d → d.subs ≡ c.subs → AreOwn given c.subs
     → IsSoundGate g → IsUsing none_but g → IsUsing none_but (done_for g m c text x)

@@ -1,6 +1,6 @@
 -- An event tells a client only of grants that its role has.
 use Rattle.std.proofs.Common.{◌≡◌, ℕ, ◌+◌, Bool, true, false, cond, List, [], ◌∷◌, ◌++◌, map, set, Option, Some, None, refl, ap, ◌∙◌, sym, subst, append-nil}
-use Rattle.std.specs.Prelude.{◌==◌, filter, flat_map, option_and_then, ◌&&◌, is_some, not, option_map}
+use Rattle.std.specs.Prelude.{◌==◌, filter, flat_map, option_and_then, is_some, option_map}
 use Rattle.std.specs.List.{AllByRecursion}
 use Rattle.std.proofs.lemmas.Bool.{false≢true}
 use Rattle.iv_rows.specs.Options.{if_some}

@@ -10,7 +10,7 @@ use Rattle.serde_json.specs.Data.{Data}
 use Rattle.iv_rows.specs.Options.{if_some}
 use Rattle.iv_access.specs.Privileges.{role_of}
 use Rattle.iv_access.specs.Rights.{Name}
-use Rattle.iv_machine.specs.Act.{Act, begin, finish, create_role, create_table, create_view, grant, revoke, grant_role, revoke_role, row_security, create_policy, drop_policy, subscribe, unsubscribe, write, Refusal, Reply, done, subscribed, refused, no_session, session_in_use, too_many, unknown_role, limit}
+use Rattle.iv_machine.specs.Act.{Act, begin, finish, subscribe, unsubscribe, Refusal, Reply, done, subscribed, refused, no_session, session_in_use, too_many, unknown_role, limit}
 use Rattle.iv_machine.specs.Changing.{after}
 use Rattle.iv_machine.specs.Given.{count_to}
 use Rattle.iv_machine.specs.Machine.{outcome, settled, step}
@@ -359,17 +359,7 @@ module _ (sounds : Sounds) (g : Gate) (new : AreNew g) (slots : Slots) (c : Clie
   act_true id text finish = (refl, refl)
   act_true id text (subscribe rel) = (refl, read_true sounds g c id rel seat b k)
   act_true id text (unsubscribe own) = (refl, refl)
-  act_true id text (create_role name) = other_true id text (create_role name) refl
-  act_true id text (create_table name owner columns) = other_true id text (create_table name owner columns) refl
-  act_true id text (create_view name owner query) = other_true id text (create_view name owner query) refl
-  act_true id text (grant rel privileges to) = other_true id text (grant rel privileges to) refl
-  act_true id text (revoke rel privileges to) = other_true id text (revoke rel privileges to) refl
-  act_true id text (grant_role group to) = other_true id text (grant_role group to) refl
-  act_true id text (revoke_role group to) = other_true id text (revoke_role group to) refl
-  act_true id text (row_security rel enable force) = other_true id text (row_security rel enable force) refl
-  act_true id text (create_policy p) = other_true id text (create_policy p) refl
-  act_true id text (drop_policy rel name) = other_true id text (drop_policy rel name) refl
-  act_true id text (write entries) = other_true id text (write entries) refl
+  act_true id text act = other_true id text act refl
 
   pub said_true : (text : List ℕ) (s : Message) → IsReplyTo g c text s (said_reply (record g { clients = slots }) c text s) (said_added (record g { clients = slots }) c text s)
   said_true text no_json = (refl, refl)

@@ -6,7 +6,7 @@ use Rattle.std.proofs.lemmas.Bool.{ltb-true}
 use Rattle.serde_json.specs.Data.{Data}
 use Rattle.iv_rows.specs.Options.{if_some}
 use Rattle.iv_access.specs.Rights.{Name}
-use Rattle.iv_machine.specs.Act.{Act, begin, finish, create_role, create_table, create_view, grant, revoke, grant_role, revoke_role, row_security, create_policy, drop_policy, subscribe, unsubscribe, write, Refusal, Reply, done, subscribed, refused, too_many, unknown_subscription}
+use Rattle.iv_machine.specs.Act.{Act, begin, finish, subscribe, unsubscribe, Refusal, Reply, done, subscribed, refused, too_many, unknown_subscription}
 use Rattle.iv_machine.specs.Machine.{outcome}
 use Rattle.iv_machine.specs.Refusing.{refusal}
 use Rattle.iv_machine.specs.Sound.{IsSoundState}
@@ -350,17 +350,7 @@ module _ (sounds : Sounds) (g : Gate) (m : ℕ) (c : Client) where
   acts_done id text finish b said = telling_done g m c (fault 2) refl refl refl
   acts_done id text (subscribe rel) b said = reads_done id rel b
   acts_done id text (unsubscribe own) b said = closes_done id own b
-  acts_done id text (create_role name) b said = shares_done id (request_of c text (create_role name)) (claim_said text) refl said
-  acts_done id text (create_table name owner columns) b said = shares_done id (request_of c text (create_table name owner columns)) (claim_said text) refl said
-  acts_done id text (create_view name owner query) b said = shares_done id (request_of c text (create_view name owner query)) (claim_said text) refl said
-  acts_done id text (grant rel privileges to) b said = shares_done id (request_of c text (grant rel privileges to)) (claim_said text) refl said
-  acts_done id text (revoke rel privileges to) b said = shares_done id (request_of c text (revoke rel privileges to)) (claim_said text) refl said
-  acts_done id text (grant_role group to) b said = shares_done id (request_of c text (grant_role group to)) (claim_said text) refl said
-  acts_done id text (revoke_role group to) b said = shares_done id (request_of c text (revoke_role group to)) (claim_said text) refl said
-  acts_done id text (row_security rel enable force) b said = shares_done id (request_of c text (row_security rel enable force)) (claim_said text) refl said
-  acts_done id text (create_policy p) b said = shares_done id (request_of c text (create_policy p)) (claim_said text) refl said
-  acts_done id text (drop_policy rel name) b said = shares_done id (request_of c text (drop_policy rel name)) (claim_said text) refl said
-  acts_done id text (write entries) b said = shares_done id (request_of c text (write entries)) (claim_said text) refl said
+  acts_done id text act b said = shares_done id (request_of c text act) (claim_said text) refl said
 
   pub all_done : (text : List ℕ) (s : Message) → IsSoundState g.machine → said_by text ≡ s → IsDone g m c (done_for g m c text s)
   all_done text no_json b e = telling_done g m c (fault 1) refl refl refl

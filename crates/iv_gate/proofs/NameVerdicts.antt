@@ -1,6 +1,6 @@
 -- Of names that were new each at its turn, none is there twice with one place; and the verdict on a name, as it is told.
-use Rattle.std.proofs.Common.{◌≡◌, ℕ, zero, suc, ◌+◌, ◌<◌, ◌≤◌, Bool, true, false, cond, not, List, [], ◌∷◌, take, length, Option, Some, None, is_some, refl, ap, ◌∙◌, sym, subst, arith, ◌||◌, inl, inr}
-use Rattle.std.specs.Prelude.{◌&&◌, ◌++◌, bytes_eq, count_by, filter, nat_le, nat_lt, unwrap_or, option_map, Contains, drop, ◌⊎◌}
+use Rattle.std.proofs.Common.{◌≡◌, ℕ, zero, suc, ◌+◌, ◌<◌, ◌≤◌, Bool, true, false, cond, not, List, [], ◌∷◌, take, length, Option, Some, None, is_some, refl, ap, ◌∙◌, sym, subst, arith}
+use Rattle.std.specs.Prelude.{◌&&◌, ◌++◌, bytes_eq, count_by, filter, nat_le, nat_lt, unwrap_or, option_map}
 use Rattle.std.proofs.lemmas.Bool.Decides.{nat_tests}
 use Rattle.iv_records.specs.Journal.{names_in}
 use Rattle.iv_records.specs.Names.{limits, place_text}

@@ -1,6 +1,6 @@
 -- What is told of a name is what the laws let be told: it may be done, has to wait, has its answer, or is barred.
-use Rattle.std.proofs.Common.{◌≡◌, ◌⊎◌, inl, inr, ℕ, zero, suc, ◌+◌, ◌<◌, ◌≤◌, Bool, true, false, cond, not, ◌||◌, List, [], ◌∷◌, ◌++◌, take, length, Option, Some, None, is_some, refl, ap, ◌∙◌, sym, subst, arith, append-nil}
-use Rattle.std.specs.Prelude.{◌&&◌, ◌≢◌, Contains, bytes_eq, drop, filter, nat_le, nat_lt, reverse, unwrap_or}
+use Rattle.std.proofs.Common.{◌≡◌, ◌⊎◌, inl, inr, ℕ, zero, suc, ◌+◌, ◌<◌, ◌≤◌, Bool, true, false, cond, not, ◌||◌, List, [], ◌∷◌, ◌++◌, take, Option, Some, None, is_some, refl, ap, ◌∙◌, sym, subst, arith, append-nil}
+use Rattle.std.specs.Prelude.{◌&&◌, ◌≢◌, Contains, bytes_eq, drop, filter, nat_le, nat_lt, reverse}
 use Rattle.std.specs.List.{AllByRecursion}
 use Rattle.std.proofs.lemmas.Bool.{ltb-true, false≢true}
 use Rattle.std.proofs.lemmas.List.{reverse-append}
@@ -8,7 +8,7 @@ use Rattle.std.proofs.lemmas.List.Elements.{All-contains, All-from_recursion, Co
 use Rattle.iv_records.specs.Journal.{names_in}
 use Rattle.iv_records.specs.Names.{limits}
 use Rattle.iv_once.specs.Laws.{Among}
-use Rattle.iv_once.specs.Names.{Ask, Known, Named, Own, find_named, is_over, is_place, learned, named, own_of, spent_by, with_entry}
+use Rattle.iv_once.specs.Names.{Ask, Known, Named, Own, find_named, is_over, is_place, learned, named, own_of, spent_by}
 use Rattle.iv_once.proofs.HolderEntries.{Among-find_named}
 use Rattle.iv_once.proofs.Lists.{Among-append, Among-take, and-both_true, append-associative, bytes_eq-itself, is_place-itself, le-nat_le, le-nat_lt_false, lt-nat_le_false, not_None-Some, same-Some, same-bytes_eq, same-is_place, take-take_more}
 use Rattle.iv_gate.specs.Arriving.{first_known, is_new, not_new}

@@ -12,7 +12,7 @@ use Rattle.iv_access.specs.Rights.{Name}
 use Rattle.iv_access.specs.declared.privilege.Privilege.{Privilege}
 use Rattle.iv_access.specs.declared.privilege.Privilege.TheVariants.{Select, Insert, Update, Delete}
 use Rattle.iv_machine.specs.State.{Frame}
-use Rattle.iv_message.specs.Told.{Told, granted}
+use Rattle.iv_message.specs.Told.{granted}
 use Rattle.iv_gate.specs.Arriving.{gains}
 use Rattle.iv_gate.specs.Gate.{each_privilege, has_on, has_some}
 use Rattle.iv_gate.proofs.FollowedNumbers.{AllByRecursion-Contains}

@@ -1,6 +1,6 @@
 -- What a message adds is one entry at most, at the next position.
-use Rattle.std.proofs.Common.{◌≡◌, ◌⊎◌, inl, inr, ℕ, Bool, true, false, cond, List, [], ◌∷◌, ◌++◌, length, Option, Some, None, is_some, refl, ap, ◌∙◌, sym, subst, append-nil}
-use Rattle.std.specs.Prelude.{◌&&◌, drop}
+use Rattle.std.proofs.Common.{◌≡◌, inl, inr, ℕ, Bool, true, false, cond, List, [], ◌∷◌, ◌++◌, length, Option, Some, None, refl, ap, ◌∙◌, sym, subst, append-nil}
+use Rattle.std.specs.Prelude.{drop}
 use Rattle.iv_rows.specs.Options.{if_some}
 use Rattle.iv_machine.specs.Act.{Act, begin, finish, create_role, create_table, create_view, grant, revoke, grant_role, revoke_role, row_security, create_policy, drop_policy, subscribe, unsubscribe, write, Reply}
 use Rattle.iv_message.specs.Message.{Message, no_json, too_long, no_object, no_request, request}
@@ -8,7 +8,7 @@ use Rattle.iv_clients.specs.Clients.{Client, client_at, may_say}
 use Rattle.iv_records.specs.Journal.{Entry, Request, claim_said, said_by}
 use Rattle.iv_records.specs.Names.{Claim}
 use Rattle.iv_once.specs.Names.{Ask, Verdict, carry, again, another, late, foreign, ahead, over, verdict}
-use Rattle.iv_gate.specs.Events.{message, next}
+use Rattle.iv_gate.specs.Events.{message}
 use Rattle.iv_gate.specs.Gate.{Gate, answering, asked_by, entries_of, hears, is_accepted, is_elsewhere, may_have, names_of, next_position, said}
 use Rattle.iv_gate.specs.Implied.{AddsNext}
 use Rattle.iv_gate.specs.Replies.{added_by}

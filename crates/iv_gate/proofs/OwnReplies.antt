@@ -6,7 +6,7 @@ use Rattle.serde_json.specs.Data.{Data}
 use Rattle.iv_rows.specs.Columns.{Column}
 use Rattle.iv_rows.specs.Options.{if_some}
 use Rattle.iv_access.specs.Rights.{Name}
-use Rattle.iv_machine.specs.Act.{Act, begin, finish, create_role, create_table, create_view, grant, revoke, grant_role, revoke_role, row_security, create_policy, drop_policy, subscribe, unsubscribe, write, Command, Reply, done, subscribed, refused, no_session, too_many, unknown_subscription, limit}
+use Rattle.iv_machine.specs.Act.{Act, begin, finish, subscribe, unsubscribe, Command, Reply, done, subscribed, refused, no_session, too_many, unknown_subscription, limit}
 use Rattle.iv_machine.specs.Machine.{step}
 use Rattle.iv_message.specs.Message.{Message, no_json, too_long, no_object, no_request, request, unknown}
 use Rattle.iv_message.specs.Told.{Told, replied, opened, fault, unasked, undecided}
@@ -29,7 +29,7 @@ use Rattle.iv_gate.proofs.ClientFacts.{Later, to_done, to_settles, to_then}
 use Rattle.iv_gate.proofs.ShapeTexts.{all_made}
 use Rattle.iv_once.specs.Names.{Ask, verdict, Verdict, carry, again, another, late, foreign, ahead, over}
 use Rattle.iv_records.specs.Names.{Claim, place_text}
-use Rattle.iv_gate.proofs.StepRelations.{Steps, request_of, step_closes, step_reads}
+use Rattle.iv_gate.proofs.StepRelations.{HasEntries, Keeps, entries_kit, request_of, step_closes, step_reads}
 
 -- ---- its own message
 
@@ -333,23 +333,25 @@ abbrev pub said_added : Gate → Client → List ℕ → Message → List Entry
 said_added g c text (request id act) = cond (may_have (claim_said text) act) (act_added g c text act) []
 said_added g c text _ = []
 
--- what reads and closes adds nothing
-abbrev Unentered : Gate → Gate → Type 0
-Unentered g h = h.entries ≡ g.entries
+-- that is nothing, or what a request adds that changes what is shared
+module _ (P : List Entry → Type 0) (g : Gate) (c : Client) (text : List ℕ) (none : P []) (some : (q : Request) → P (shared_added g c q (claim_said text))) where
+  act_so : (act : Act) → P (act_added g c text act)
+  act_so (begin role) = none
+  act_so finish = none
+  act_so (subscribe rel) = none
+  act_so (unsubscribe own) = none
+  act_so act = some (request_of c text act)
 
-unentered_kit : (m : ℕ) → Steps m Unentered
-unentered_kit m = record {
-  same = λ g. refl;
-  chain = λ g h i x y. y ∙ x;
-  run = λ g k e. refl;
-  settle = λ g. refl;
-  tell = λ g t e. refl;
-  seat = λ g seats. refl;
-  feed = λ g feeds. refl;
-  follow = λ g k. refl;
-  move = λ g t k. refl;
-  close = λ g own. refl;
-}
+  pub added_so : (s : Message) → P (said_added g c text s)
+  added_so no_json = none
+  added_so too_long = none
+  added_so no_object = none
+  added_so (no_request id why) = none
+  added_so (request id act) = by (may_have (claim_said text) act)
+    where
+      by : (b : Bool) → P (cond b (act_added g c text act) [])
+      by true = act_so act
+      by false = none
 
 nothing_added : (g h : Gate) → h.entries ≡ g.entries → h.entries ≡ g.entries ++ []
 nothing_added g h e = e ∙ sym (append-nil g.entries)
@@ -382,19 +384,9 @@ module _ (g : Gate) (m : ℕ) (c : Client) (id : Option Data) where
   adds_act : (text : List ℕ) (act : Act) → (acts g m c id text act).entries ≡ g.entries ++ act_added g c text act
   adds_act text (begin role) = sym (append-nil g.entries)
   adds_act text finish = sym (append-nil g.entries)
-  adds_act text (subscribe rel) = nothing_added g (reads g m c id rel) (step_reads m Unentered (unentered_kit m) g c id rel)
-  adds_act text (unsubscribe own) = nothing_added g (closes g m c id own) (step_closes m Unentered (unentered_kit m) g c id own)
-  adds_act text (create_role name) = adds_shared (request_of c text (create_role name)) (claim_said text)
-  adds_act text (create_table name owner columns) = adds_shared (request_of c text (create_table name owner columns)) (claim_said text)
-  adds_act text (create_view name owner query) = adds_shared (request_of c text (create_view name owner query)) (claim_said text)
-  adds_act text (grant rel privileges to) = adds_shared (request_of c text (grant rel privileges to)) (claim_said text)
-  adds_act text (revoke rel privileges to) = adds_shared (request_of c text (revoke rel privileges to)) (claim_said text)
-  adds_act text (grant_role group to) = adds_shared (request_of c text (grant_role group to)) (claim_said text)
-  adds_act text (revoke_role group to) = adds_shared (request_of c text (revoke_role group to)) (claim_said text)
-  adds_act text (row_security rel enable force) = adds_shared (request_of c text (row_security rel enable force)) (claim_said text)
-  adds_act text (create_policy p) = adds_shared (request_of c text (create_policy p)) (claim_said text)
-  adds_act text (drop_policy rel name) = adds_shared (request_of c text (drop_policy rel name)) (claim_said text)
-  adds_act text (write entries) = adds_shared (request_of c text (write entries)) (claim_said text)
+  adds_act text (subscribe rel) = nothing_added g (reads g m c id rel) (step_reads m (Keeps (HasEntries g.entries)) (entries_kit g.entries m) g c id rel refl)
+  adds_act text (unsubscribe own) = nothing_added g (closes g m c id own) (step_closes m (Keeps (HasEntries g.entries)) (entries_kit g.entries m) g c id own refl)
+  adds_act text act = adds_shared (request_of c text act) (claim_said text)
 
 pub entries-done_for : (g : Gate) (m : ℕ) (c : Client) (text : List ℕ) (s : Message) → (done_for g m c text s).entries ≡ g.entries ++ said_added g c text s
 entries-done_for g m c text no_json = sym (append-nil g.entries)
@@ -550,17 +542,7 @@ module _ (g : Gate) (m : ℕ) (c : Client) (text : List ℕ) where
   answers_acts id finish e = answers_plain g (request id finish) (fault 2) m (saying text c) refl e
   answers_acts id (subscribe rel) e = answers_reads (request id (subscribe rel)) id rel e
   answers_acts id (unsubscribe own) e = answers_closes id own e
-  answers_acts id (create_role name) e = answers_shared (request id (create_role name)) id (request_of c text (create_role name)) (claim_said text) e
-  answers_acts id (create_table name owner columns) e = answers_shared (request id (create_table name owner columns)) id (request_of c text (create_table name owner columns)) (claim_said text) e
-  answers_acts id (create_view name owner query) e = answers_shared (request id (create_view name owner query)) id (request_of c text (create_view name owner query)) (claim_said text) e
-  answers_acts id (grant rel privileges to) e = answers_shared (request id (grant rel privileges to)) id (request_of c text (grant rel privileges to)) (claim_said text) e
-  answers_acts id (revoke rel privileges to) e = answers_shared (request id (revoke rel privileges to)) id (request_of c text (revoke rel privileges to)) (claim_said text) e
-  answers_acts id (grant_role group to) e = answers_shared (request id (grant_role group to)) id (request_of c text (grant_role group to)) (claim_said text) e
-  answers_acts id (revoke_role group to) e = answers_shared (request id (revoke_role group to)) id (request_of c text (revoke_role group to)) (claim_said text) e
-  answers_acts id (row_security rel enable force) e = answers_shared (request id (row_security rel enable force)) id (request_of c text (row_security rel enable force)) (claim_said text) e
-  answers_acts id (create_policy p) e = answers_shared (request id (create_policy p)) id (request_of c text (create_policy p)) (claim_said text) e
-  answers_acts id (drop_policy rel name) e = answers_shared (request id (drop_policy rel name)) id (request_of c text (drop_policy rel name)) (claim_said text) e
-  answers_acts id (write entries) e = answers_shared (request id (write entries)) id (request_of c text (write entries)) (claim_said text) e
+  answers_acts id act e = answers_shared (request id act) id (request_of c text act) (claim_said text) e
 
   answers_done : (s : Message) → client_at g.clients m ≡ Some (saying text c) → Answers g s (said_reply g c text s) m (saying text c) (done_for g m c text s).clients
   answers_done no_json e = answers_plain g no_json (fault 1) m (saying text c) refl e

@@ -6,8 +6,8 @@ use Rattle.std.proofs.lemmas.List.{drop-append-le, length-append}
 use Rattle.std.proofs.lemmas.List.Concat.{flat_map-append}
 use Rattle.std.proofs.lemmas.List.Sums.{sum_by-append}
 use Rattle.iv_rows.specs.Options.{if_some}
-use Rattle.iv_machine.specs.Act.{Act, begin, finish, create_role, create_table, create_view, grant, revoke, grant_role, revoke_role, row_security, create_policy, drop_policy, subscribe, unsubscribe, write, Reply}
-use Rattle.iv_message.specs.Message.{Message, no_json, too_long, no_object, no_request, request}
+use Rattle.iv_machine.specs.Act.{Reply}
+use Rattle.iv_message.specs.Message.{Message}
 use Rattle.iv_clients.specs.Clients.{Client, Shown, client_at, may_say}
 use Rattle.iv_records.specs.Journal.{Entry, Request, claim_said, names_in, said_by}
 use Rattle.iv_records.specs.Names.{Claim, limits}
@@ -17,14 +17,13 @@ use Rattle.iv_once.specs.Names.{Ask, Named, Verdict, is_over, spent_by, verdict}
 use Rattle.iv_once.proofs.Lists.{lt-nat_le_false, same-bytes_eq}
 use Rattle.iv_gate.specs.Arriving.{Step, fault_of, takes}
 use Rattle.iv_gate.specs.Events.{Event, presented, message, gone, known, ticked, synced, handed, arrived, forgave, failed, happens, next, led}
-use Rattle.iv_gate.specs.Gate.{Gate, Head, Log, answering, asked_by, entries_of, hears, is_accepted, may_have, names_of, said, spent_in, token_for, next_position, is_elsewhere}
+use Rattle.iv_gate.specs.Gate.{Gate, Head, Log, answering, asked_by, entries_of, hears, is_accepted, names_of, said, spent_in, token_for, next_position, is_elsewhere}
 use Rattle.iv_gate.specs.Replies.{refused_by}
 use Rattle.iv_gate.specs.Restoring.{Restores, gate_at_start}
 use Rattle.iv_gate.specs.Runs.{Runs, begins, goes_on, begins_again}
 use Rattle.iv_gate.proofs.NameVerdicts.{Reason, has_to_wait, is_again, is_ahead, is_another, is_carried, is_foreign, is_late, Reason-verdict, spent_by-count_by}
-use Rattle.iv_gate.proofs.OwnReplies.{act_added, entries-done_for, asked, carried_reply, decided_added, said_added, shared_added, verdict_added}
-use Rattle.iv_gate.proofs.EventSigns.{Sign, marks, sign, IsHeardSign-hears}
-use Rattle.iv_gate.proofs.StepRelations.{request_of}
+use Rattle.iv_gate.proofs.OwnReplies.{added_so, entries-done_for, asked, carried_reply, decided_added, said_added, shared_added, verdict_added}
+use Rattle.iv_gate.proofs.EventSigns.{Sign, marks, IsHeardSign-hears}
 use Rattle.iv_gate.proofs.NumberSums.{or-both_false}
 use Rattle.iv_gate.proofs.EventMarks.{came_as, sign-came_as, sign-takes, taken_by, sign-went}
 
@@ -130,33 +129,8 @@ module _ (g : Gate) (s : IsSpent (view g)) where
       never a e = cc
   shared_room c q (Some k) = let a = asked_by c q.line k in verdict_room q a (verdict (names_of g) a) (Reason-verdict (names_of g) a)
 
-  act_room : (c : Client) (text : List ℕ) (act : Act) → HasRoom (view g) (act_added g c text act)
-  act_room c text (begin role) = none_more (view g) s
-  act_room c text finish = none_more (view g) s
-  act_room c text (subscribe rel) = none_more (view g) s
-  act_room c text (unsubscribe own) = none_more (view g) s
-  act_room c text (create_role name) = shared_room c (request_of c text (create_role name)) (claim_said text)
-  act_room c text (create_table name owner columns) = shared_room c (request_of c text (create_table name owner columns)) (claim_said text)
-  act_room c text (create_view name owner query) = shared_room c (request_of c text (create_view name owner query)) (claim_said text)
-  act_room c text (grant rel privileges to) = shared_room c (request_of c text (grant rel privileges to)) (claim_said text)
-  act_room c text (revoke rel privileges to) = shared_room c (request_of c text (revoke rel privileges to)) (claim_said text)
-  act_room c text (grant_role group to) = shared_room c (request_of c text (grant_role group to)) (claim_said text)
-  act_room c text (revoke_role group to) = shared_room c (request_of c text (revoke_role group to)) (claim_said text)
-  act_room c text (row_security rel enable force) = shared_room c (request_of c text (row_security rel enable force)) (claim_said text)
-  act_room c text (create_policy p) = shared_room c (request_of c text (create_policy p)) (claim_said text)
-  act_room c text (drop_policy rel name) = shared_room c (request_of c text (drop_policy rel name)) (claim_said text)
-  act_room c text (write entries) = shared_room c (request_of c text (write entries)) (claim_said text)
-
   said_room : (c : Client) (text : List ℕ) (m : Message) → HasRoom (view g) (said_added g c text m)
-  said_room c text no_json = none_more (view g) s
-  said_room c text too_long = none_more (view g) s
-  said_room c text no_object = none_more (view g) s
-  said_room c text (no_request id why) = none_more (view g) s
-  said_room c text (request id act) = by (may_have (claim_said text) act)
-    where
-      by : (b : Bool) → HasRoom (view g) (cond b (act_added g c text act) [])
-      by true = act_room c text act
-      by false = none_more (view g) s
+  said_room c text m = added_so (HasRoom (view g)) g c text (none_more (view g) s) (λ q. shared_room c q (claim_said text)) m
 
 hears_spent : (g : Gate) (m : ℕ) (c : Client) (text : List ℕ) → IsSpent (view g) → IsSpent (view (hears g m c text))
 hears_spent g m c text s =

@@ -90,17 +90,7 @@ plain_changed s n (begin name) h = record { cap = refl; rights = refl; catalog =
 plain_changed s n finish h = record { cap = refl; rights = refl; catalog = refl; rows = refl }
 plain_changed s n (subscribe rel) h = record { cap = refl; rights = refl; catalog = refl; rows = refl }
 plain_changed s n (unsubscribe k) h = record { cap = refl; rights = refl; catalog = refl; rows = refl }
-plain_changed s n (create_role name) h = absurd (false≢true (sym h))
-plain_changed s n (create_table name owner columns) h = absurd (false≢true (sym h))
-plain_changed s n (create_view name owner query) h = absurd (false≢true (sym h))
-plain_changed s n (grant rel privileges to) h = absurd (false≢true (sym h))
-plain_changed s n (revoke rel privileges to) h = absurd (false≢true (sym h))
-plain_changed s n (grant_role group to) h = absurd (false≢true (sym h))
-plain_changed s n (revoke_role group to) h = absurd (false≢true (sym h))
-plain_changed s n (row_security rel enable force) h = absurd (false≢true (sym h))
-plain_changed s n (create_policy p) h = absurd (false≢true (sym h))
-plain_changed s n (drop_policy rel name) h = absurd (false≢true (sym h))
-plain_changed s n (write entries) h = absurd (false≢true (sym h))
+plain_changed s n _ h = absurd (false≢true (sym h))
 
 pub SameShared-step : (s : State) (k : Command) → is_shared k.act ≡ false → SameShared (step s k).state s
 SameShared-step s k h = by (refusal s k.session k.act)
@@ -128,17 +118,7 @@ frame_tests cap R C ss es last later T n role (begin name) x h = absurd (false�
 frame_tests cap R C ss es last later T n role finish x h = absurd (false≢true x)
 frame_tests cap R C ss es last later T n role (subscribe rel) x h = absurd (false≢true x)
 frame_tests cap R C ss es last later T n role (unsubscribe k) x h = absurd (false≢true x)
-frame_tests cap R C ss es last later T n role (create_role name) x h = h
-frame_tests cap R C ss es last later T n role (create_table name owner columns) x h = h
-frame_tests cap R C ss es last later T n role (create_view name owner query) x h = h
-frame_tests cap R C ss es last later T n role (grant rel privileges to) x h = h
-frame_tests cap R C ss es last later T n role (revoke rel privileges to) x h = h
-frame_tests cap R C ss es last later T n role (grant_role group to) x h = h
-frame_tests cap R C ss es last later T n role (revoke_role group to) x h = h
-frame_tests cap R C ss es last later T n role (row_security rel enable force) x h = h
-frame_tests cap R C ss es last later T n role (create_policy p) x h = h
-frame_tests cap R C ss es last later T n role (drop_policy rel name) x h = h
-frame_tests cap R C ss es last later T n role (write entries) x h = h
+frame_tests cap R C ss es last later T n role _ x h = h
 
 -- those that look at rows are fewer
 rows_tests : (cap : ℕ) (R : Rights) (C : List CatalogEntry) (ss : List Session) (es : List Subscription) (last later : ℕ) (T : Lists) (n role : ℕ) (act : Act)
@@ -177,17 +157,7 @@ left_is_shared cap R C ss es last T n role (begin name) x = absurd (false≢true
 left_is_shared cap R C ss es last T n role finish x = absurd (false≢true x)
 left_is_shared cap R C ss es last T n role (subscribe rel) x = absurd (false≢true x)
 left_is_shared cap R C ss es last T n role (unsubscribe k) x = absurd (false≢true x)
-left_is_shared cap R C ss es last T n role (create_role name) x = refl
-left_is_shared cap R C ss es last T n role (create_table name owner columns) x = refl
-left_is_shared cap R C ss es last T n role (create_view name owner query) x = refl
-left_is_shared cap R C ss es last T n role (grant rel privileges to) x = refl
-left_is_shared cap R C ss es last T n role (revoke rel privileges to) x = refl
-left_is_shared cap R C ss es last T n role (grant_role group to) x = refl
-left_is_shared cap R C ss es last T n role (revoke_role group to) x = refl
-left_is_shared cap R C ss es last T n role (row_security rel enable force) x = refl
-left_is_shared cap R C ss es last T n role (create_policy p) x = refl
-left_is_shared cap R C ss es last T n role (drop_policy rel name) x = refl
-left_is_shared cap R C ss es last T n role (write entries) x = refl
+left_is_shared cap R C ss es last T n role _ x = refl
 
 -- the session can be finished
 pub refusal-finish : (cap : ℕ) (R : Rights) (C : List CatalogEntry) (role last : ℕ) (T : Lists) (act : Act) → is_shared act ≡ true
@@ -196,17 +166,7 @@ refusal-finish cap R C role last T (begin name) x = absurd (false≢true x)
 refusal-finish cap R C role last T finish x = absurd (false≢true x)
 refusal-finish cap R C role last T (subscribe rel) x = absurd (false≢true x)
 refusal-finish cap R C role last T (unsubscribe k) x = absurd (false≢true x)
-refusal-finish cap R C role last T (create_role name) x = refl
-refusal-finish cap R C role last T (create_table name owner columns) x = refl
-refusal-finish cap R C role last T (create_view name owner query) x = refl
-refusal-finish cap R C role last T (grant rel privileges to) x = refl
-refusal-finish cap R C role last T (revoke rel privileges to) x = refl
-refusal-finish cap R C role last T (grant_role group to) x = refl
-refusal-finish cap R C role last T (revoke_role group to) x = refl
-refusal-finish cap R C role last T (row_security rel enable force) x = refl
-refusal-finish cap R C role last T (create_policy p) x = refl
-refusal-finish cap R C role last T (drop_policy rel name) x = refl
-refusal-finish cap R C role last T (write entries) x = refl
+refusal-finish cap R C role last T _ x = refl
 
 -- and nobody is left
 pub left-shared : (cap : ℕ) (R : Rights) (C : List CatalogEntry) (role : ℕ) (T : Lists) (act : Act) → is_shared act ≡ true → left cap R C role 0 T act ≡ shared (left cap R C role 0 T act)

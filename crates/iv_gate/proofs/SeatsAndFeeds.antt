@@ -6,7 +6,7 @@ use Rattle.std.proofs.lemmas.Bool.{false≢true, eqb-true, ltb-true, or_right}
 use Rattle.serde_json.specs.Data.{Data}
 use Rattle.iv_rows.specs.Options.{if_some}
 use Rattle.iv_access.specs.Rights.{Name}
-use Rattle.iv_machine.specs.Act.{Act, begin, finish, create_role, create_table, create_view, grant, revoke, grant_role, revoke_role, row_security, create_policy, drop_policy, subscribe, unsubscribe, write, Command, Line, Refusal, subscribed, refused, no_session, unknown_subscription}
+use Rattle.iv_machine.specs.Act.{Act, begin, finish, subscribe, unsubscribe, Command, Line, Refusal, subscribed, refused, no_session, unknown_subscription}
 use Rattle.iv_machine.specs.Changing.{after, after_sessions, after_subscriptions, insert_subscription, opened_by}
 use Rattle.iv_machine.specs.Machine.{ending_by, line_for, outcome, settled, step, ending, Outcome}
 use Rattle.iv_machine.specs.Reached.{AreGiven, AreNumbersUnique, AreUnique}
@@ -102,19 +102,7 @@ keeps_sessions _ = true
 sessions_same : (f : Frame) (n : ℕ) (act : Act) → keeps_sessions act ≡ true → after_sessions f n act ≡ f.sessions
 sessions_same f n (begin role) h = absurd (false≢true h)
 sessions_same f n finish h = absurd (false≢true h)
-sessions_same f n (create_role name) h = refl
-sessions_same f n (create_table name owner columns) h = refl
-sessions_same f n (create_view name owner query) h = refl
-sessions_same f n (grant rel privileges to) h = refl
-sessions_same f n (revoke rel privileges to) h = refl
-sessions_same f n (grant_role group to) h = refl
-sessions_same f n (revoke_role group to) h = refl
-sessions_same f n (row_security rel enable force) h = refl
-sessions_same f n (create_policy p) h = refl
-sessions_same f n (drop_policy rel name) h = refl
-sessions_same f n (subscribe rel) h = refl
-sessions_same f n (unsubscribe k) h = refl
-sessions_same f n (write entries) h = refl
+sessions_same f n _ h = refl
 
 sessions_by : (s : State) (k : Command) (o : Option Refusal) → keeps_sessions k.act ≡ true → (outcome s k o).state.frame.sessions ≡ s.frame.sessions
 sessions_by s k (Some r) h = refl
@@ -132,38 +120,15 @@ is_plain (unsubscribe k) = false
 is_plain _ = true
 
 pub subscriptions_same : (f : Frame) (n : ℕ) (act : Act) → is_plain act ≡ true → after_subscriptions f n act ≡ f.subscriptions
-subscriptions_same f n (begin role) h = refl
 subscriptions_same f n finish h = absurd (false≢true h)
-subscriptions_same f n (create_role name) h = refl
-subscriptions_same f n (create_table name owner columns) h = refl
-subscriptions_same f n (create_view name owner query) h = refl
-subscriptions_same f n (grant rel privileges to) h = refl
-subscriptions_same f n (revoke rel privileges to) h = refl
-subscriptions_same f n (grant_role group to) h = refl
-subscriptions_same f n (revoke_role group to) h = refl
-subscriptions_same f n (row_security rel enable force) h = refl
-subscriptions_same f n (create_policy p) h = refl
-subscriptions_same f n (drop_policy rel name) h = refl
 subscriptions_same f n (subscribe rel) h = absurd (false≢true h)
 subscriptions_same f n (unsubscribe k) h = absurd (false≢true h)
-subscriptions_same f n (write entries) h = refl
+subscriptions_same f n _ h = refl
 
 pub plain_keeps : (act : Act) → is_plain act ≡ true → keeps_sessions act ≡ true
 plain_keeps (begin role) h = absurd (false≢true h)
 plain_keeps finish h = absurd (false≢true h)
-plain_keeps (create_role name) h = refl
-plain_keeps (create_table name owner columns) h = refl
-plain_keeps (create_view name owner query) h = refl
-plain_keeps (grant rel privileges to) h = refl
-plain_keeps (revoke rel privileges to) h = refl
-plain_keeps (grant_role group to) h = refl
-plain_keeps (revoke_role group to) h = refl
-plain_keeps (row_security rel enable force) h = refl
-plain_keeps (create_policy p) h = refl
-plain_keeps (drop_policy rel name) h = refl
-plain_keeps (subscribe rel) h = refl
-plain_keeps (unsubscribe k) h = refl
-plain_keeps (write entries) h = refl
+plain_keeps _ h = refl
 
 -- ---- roles of clients
 

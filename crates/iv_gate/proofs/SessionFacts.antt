@@ -4,7 +4,7 @@ use Rattle.std.specs.Prelude.{◌==◌, ◌&&◌, nat_lt, codes}
 use Rattle.serde_json.specs.Data.{Data}
 use Rattle.iv_rows.specs.Options.{if_some}
 use Rattle.iv_access.specs.Rights.{Name}
-use Rattle.iv_machine.specs.Act.{Act, begin, finish, create_role, create_table, create_view, grant, revoke, grant_role, revoke_role, row_security, create_policy, drop_policy, subscribe, unsubscribe, write, Command, Reply, done, subscribed, refused, too_many, unknown_subscription}
+use Rattle.iv_machine.specs.Act.{Act, begin, finish, subscribe, unsubscribe, Command, Reply, done, subscribed, refused, too_many, unknown_subscription}
 use Rattle.iv_machine.specs.Machine.{step}
 use Rattle.iv_machine.specs.State.{State}
 use Rattle.iv_message.specs.Message.{Message, no_json, too_long, no_object, no_request, request, unknown}
@@ -109,17 +109,7 @@ module _ (J : State → List Seat → Type 0) (kit : Sits J) where
   at_acts g m c id text finish a = a
   at_acts g m c id text (subscribe rel) a = at_reads g m c id rel a
   at_acts g m c id text (unsubscribe own) a = at_closes g m c id own a
-  at_acts g m c id text (create_role name) a = at_shares g m c id (request_of c text (create_role name)) (claim_said text) refl a
-  at_acts g m c id text (create_table name owner columns) a = at_shares g m c id (request_of c text (create_table name owner columns)) (claim_said text) refl a
-  at_acts g m c id text (create_view name owner query) a = at_shares g m c id (request_of c text (create_view name owner query)) (claim_said text) refl a
-  at_acts g m c id text (grant rel privileges to) a = at_shares g m c id (request_of c text (grant rel privileges to)) (claim_said text) refl a
-  at_acts g m c id text (revoke rel privileges to) a = at_shares g m c id (request_of c text (revoke rel privileges to)) (claim_said text) refl a
-  at_acts g m c id text (grant_role group to) a = at_shares g m c id (request_of c text (grant_role group to)) (claim_said text) refl a
-  at_acts g m c id text (revoke_role group to) a = at_shares g m c id (request_of c text (revoke_role group to)) (claim_said text) refl a
-  at_acts g m c id text (row_security rel enable force) a = at_shares g m c id (request_of c text (row_security rel enable force)) (claim_said text) refl a
-  at_acts g m c id text (create_policy p) a = at_shares g m c id (request_of c text (create_policy p)) (claim_said text) refl a
-  at_acts g m c id text (drop_policy rel name) a = at_shares g m c id (request_of c text (drop_policy rel name)) (claim_said text) refl a
-  at_acts g m c id text (write entries) a = at_shares g m c id (request_of c text (write entries)) (claim_said text) refl a
+  at_acts g m c id text act a = at_shares g m c id (request_of c text act) (claim_said text) refl a
 
   pub at_done : (g : Gate) (m : ℕ) (c : Client) (text : List ℕ) (s : Message) → At g → At (done_for g m c text s)
   at_done g m c text no_json a = a

@@ -7,7 +7,7 @@ use Rattle.std.proofs.lemmas.Slice.Eq.{bytes_eq-Decides}
 use Rattle.serde_json.specs.Data.{Data}
 use Rattle.iv_rows.specs.Options.{if_some}
 use Rattle.iv_access.specs.Rights.{Name}
-use Rattle.iv_machine.specs.Act.{Act, begin, finish, create_role, create_table, create_view, grant, revoke, grant_role, revoke_role, row_security, create_policy, drop_policy, subscribe, unsubscribe, write, Command, Reply, done, subscribed, refused, too_many, unknown_subscription}
+use Rattle.iv_machine.specs.Act.{Act, begin, finish, subscribe, unsubscribe, Command, Reply, done, subscribed, refused, too_many, unknown_subscription}
 use Rattle.iv_machine.specs.Machine.{step, Outcome}
 use Rattle.iv_machine.specs.State.{State, start}
 use Rattle.iv_message.specs.Message.{Message, no_json, too_long, no_object, no_request, request, unknown}
@@ -218,17 +218,7 @@ kept_acts adds sounds g m c id text (begin role) said same s b = kept_tells g m 
 kept_acts adds sounds g m c id text finish said same s b = kept_tells g m (fault 2) b
 kept_acts adds sounds g m c id text (subscribe rel) said same s b = kept_reads adds sounds g m c id rel (λ d t. IsAsker-IsHeard g m c id text rel d said (same d t)) s b
 kept_acts adds sounds g m c id text (unsubscribe own) said same s b = kept_closes g m c id own s b
-kept_acts adds sounds g m c id text (create_role name) said same s b = kept_shares g m c id (request_of c text (create_role name)) (claim_said text) refl s b
-kept_acts adds sounds g m c id text (create_table name owner columns) said same s b = kept_shares g m c id (request_of c text (create_table name owner columns)) (claim_said text) refl s b
-kept_acts adds sounds g m c id text (create_view name owner query) said same s b = kept_shares g m c id (request_of c text (create_view name owner query)) (claim_said text) refl s b
-kept_acts adds sounds g m c id text (grant rel privileges to) said same s b = kept_shares g m c id (request_of c text (grant rel privileges to)) (claim_said text) refl s b
-kept_acts adds sounds g m c id text (revoke rel privileges to) said same s b = kept_shares g m c id (request_of c text (revoke rel privileges to)) (claim_said text) refl s b
-kept_acts adds sounds g m c id text (grant_role group to) said same s b = kept_shares g m c id (request_of c text (grant_role group to)) (claim_said text) refl s b
-kept_acts adds sounds g m c id text (revoke_role group to) said same s b = kept_shares g m c id (request_of c text (revoke_role group to)) (claim_said text) refl s b
-kept_acts adds sounds g m c id text (row_security rel enable force) said same s b = kept_shares g m c id (request_of c text (row_security rel enable force)) (claim_said text) refl s b
-kept_acts adds sounds g m c id text (create_policy p) said same s b = kept_shares g m c id (request_of c text (create_policy p)) (claim_said text) refl s b
-kept_acts adds sounds g m c id text (drop_policy rel name) said same s b = kept_shares g m c id (request_of c text (drop_policy rel name)) (claim_said text) refl s b
-kept_acts adds sounds g m c id text (write entries) said same s b = kept_shares g m c id (request_of c text (write entries)) (claim_said text) refl s b
+kept_acts adds sounds g m c id text act said same s b = kept_shares g m c id (request_of c text act) (claim_said text) refl s b
 
 -- whatever a client says
 pub kept_done : Adds → Sounds → (g : Gate) (m : ℕ) (c : Client) (text : List ℕ) (said : Message) → said_by text ≡ said → ((d : Client) → client_at g.clients m ≡ Some d → IsHeard g m c text d)

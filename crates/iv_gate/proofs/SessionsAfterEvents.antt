@@ -4,7 +4,7 @@ use Rattle.std.specs.Prelude.{◌==◌, ◌&&◌, filter, find, nat_lt, codes, i
 use Rattle.serde_json.specs.Data.{Data}
 use Rattle.iv_rows.specs.Options.{if_some}
 use Rattle.iv_access.specs.Rights.{Name}
-use Rattle.iv_machine.specs.Act.{Act, begin, finish, create_role, create_table, create_view, grant, revoke, grant_role, revoke_role, row_security, create_policy, drop_policy, subscribe, unsubscribe, write, Reply, done, subscribed, refused, too_many, unknown_subscription}
+use Rattle.iv_machine.specs.Act.{Act, begin, finish, subscribe, unsubscribe, Reply, done, subscribed, refused, too_many, unknown_subscription}
 use Rattle.iv_message.specs.Message.{Message, no_json, too_long, no_object, no_request, request, unknown}
 use Rattle.iv_message.specs.Told.{replied, unasked}
 use Rattle.iv_clients.specs.Bounds.{most_feeds, most_subs}
@@ -164,17 +164,7 @@ module _ (R : Name → Type 0) where
   acts_behind g m c id text finish w = same g
   acts_behind g m c id text (subscribe rel) w = reads_behind g m c id rel w
   acts_behind g m c id text (unsubscribe own) w = by_same g (closes g m c id own).seats (closes_same g m c id own)
-  acts_behind g m c id text (create_role name) w = by_same g _ (same_shares g m c id (request_of c text (create_role name)) (claim_said text))
-  acts_behind g m c id text (create_table name owner columns) w = by_same g _ (same_shares g m c id (request_of c text (create_table name owner columns)) (claim_said text))
-  acts_behind g m c id text (create_view name owner query) w = by_same g _ (same_shares g m c id (request_of c text (create_view name owner query)) (claim_said text))
-  acts_behind g m c id text (grant rel privileges to) w = by_same g _ (same_shares g m c id (request_of c text (grant rel privileges to)) (claim_said text))
-  acts_behind g m c id text (revoke rel privileges to) w = by_same g _ (same_shares g m c id (request_of c text (revoke rel privileges to)) (claim_said text))
-  acts_behind g m c id text (grant_role group to) w = by_same g _ (same_shares g m c id (request_of c text (grant_role group to)) (claim_said text))
-  acts_behind g m c id text (revoke_role group to) w = by_same g _ (same_shares g m c id (request_of c text (revoke_role group to)) (claim_said text))
-  acts_behind g m c id text (row_security rel enable force) w = by_same g _ (same_shares g m c id (request_of c text (row_security rel enable force)) (claim_said text))
-  acts_behind g m c id text (create_policy p) w = by_same g _ (same_shares g m c id (request_of c text (create_policy p)) (claim_said text))
-  acts_behind g m c id text (drop_policy rel name) w = by_same g _ (same_shares g m c id (request_of c text (drop_policy rel name)) (claim_said text))
-  acts_behind g m c id text (write entries) w = by_same g _ (same_shares g m c id (request_of c text (write entries)) (claim_said text))
+  acts_behind g m c id text act w = by_same g _ (same_shares g m c id (request_of c text act) (claim_said text))
 
   done_behind : (g : Gate) (m : ℕ) (c : Client) (text : List ℕ) (x : Message) → R c.role → IsBehind R g (done_for g m c text x).seats
   done_behind g m c text no_json w = same g

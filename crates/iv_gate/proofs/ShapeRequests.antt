@@ -6,7 +6,7 @@ use Rattle.iv_algebra.specs.Plans.{Lists}
 use Rattle.iv_bind.specs.Catalogs.{CatalogEntry}
 use Rattle.iv_access.specs.Access.{role_number}
 use Rattle.iv_access.specs.Rights.{Rights}
-use Rattle.iv_machine.specs.Act.{Act, begin, finish, create_role, create_table, create_view, grant, revoke, grant_role, revoke_role, row_security, create_policy, drop_policy, subscribe, unsubscribe, write}
+use Rattle.iv_machine.specs.Act.{Act, begin, finish, subscribe, unsubscribe, write}
 use Rattle.iv_machine.specs.Changing.{after}
 use Rattle.iv_machine.specs.Machine.{settled}
 use Rattle.iv_machine.specs.Refusing.{refusal}
@@ -41,16 +41,7 @@ still_made cap R C role last later T U finish x h = absurd (false≢true x)
 still_made cap R C role last later T U (subscribe rel) x h = absurd (false≢true x)
 still_made cap R C role last later T U (unsubscribe k) x h = absurd (false≢true x)
 still_made cap R C role last later T U (write entries) x h = absurd (false≢true x)
-still_made cap R C role last later T U (create_role name) x h = h
-still_made cap R C role last later T U (create_table name owner columns) x h = h
-still_made cap R C role last later T U (create_view name owner query) x h = h
-still_made cap R C role last later T U (grant rel privileges to) x h = h
-still_made cap R C role last later T U (revoke rel privileges to) x h = h
-still_made cap R C role last later T U (grant_role group to) x h = h
-still_made cap R C role last later T U (revoke_role group to) x h = h
-still_made cap R C role last later T U (row_security rel enable force) x h = h
-still_made cap R C role last later T U (create_policy p) x h = h
-still_made cap R C role last later T U (drop_policy rel name) x h = h
+still_made cap R C role last later T U _ x h = h
 
 -- and changes it in the same way
 same_made : (cap : ℕ) (R : Rights) (C : List CatalogEntry) (role last later : ℕ) (T U : Lists) (act : Act) → is_shape act ≡ true → SameShape (left cap R C role last T act) (left cap R C role later U act)
@@ -59,16 +50,7 @@ same_made cap R C role last later T U finish x = absurd (false≢true x)
 same_made cap R C role last later T U (subscribe rel) x = absurd (false≢true x)
 same_made cap R C role last later T U (unsubscribe k) x = absurd (false≢true x)
 same_made cap R C role last later T U (write entries) x = absurd (false≢true x)
-same_made cap R C role last later T U (create_role name) x = record { cap = refl; rights = refl; catalog = refl }
-same_made cap R C role last later T U (create_table name owner columns) x = record { cap = refl; rights = refl; catalog = refl }
-same_made cap R C role last later T U (create_view name owner query) x = record { cap = refl; rights = refl; catalog = refl }
-same_made cap R C role last later T U (grant rel privileges to) x = record { cap = refl; rights = refl; catalog = refl }
-same_made cap R C role last later T U (revoke rel privileges to) x = record { cap = refl; rights = refl; catalog = refl }
-same_made cap R C role last later T U (grant_role group to) x = record { cap = refl; rights = refl; catalog = refl }
-same_made cap R C role last later T U (revoke_role group to) x = record { cap = refl; rights = refl; catalog = refl }
-same_made cap R C role last later T U (row_security rel enable force) x = record { cap = refl; rights = refl; catalog = refl }
-same_made cap R C role last later T U (create_policy p) x = record { cap = refl; rights = refl; catalog = refl }
-same_made cap R C role last later T U (drop_policy rel name) x = record { cap = refl; rights = refl; catalog = refl }
+same_made cap R C role last later T U _ x = record { cap = refl; rights = refl; catalog = refl }
 
 -- what does not make it changes nothing of it
 not_made : (cap : ℕ) (R : Rights) (C : List CatalogEntry) (role last later : ℕ) (T U : Lists) (act : Act) → is_shared act ≡ true → is_shape act ≡ false → SameShape (left cap R C role last T act) (state_of cap R C [] [] later U)
@@ -77,16 +59,7 @@ not_made cap R C role last later T U (begin name) y x = absurd (false≢true y)
 not_made cap R C role last later T U finish y x = absurd (false≢true y)
 not_made cap R C role last later T U (subscribe rel) y x = absurd (false≢true y)
 not_made cap R C role last later T U (unsubscribe k) y x = absurd (false≢true y)
-not_made cap R C role last later T U (create_role name) y x = absurd (false≢true (sym x))
-not_made cap R C role last later T U (create_table name owner columns) y x = absurd (false≢true (sym x))
-not_made cap R C role last later T U (create_view name owner query) y x = absurd (false≢true (sym x))
-not_made cap R C role last later T U (grant rel privileges to) y x = absurd (false≢true (sym x))
-not_made cap R C role last later T U (revoke rel privileges to) y x = absurd (false≢true (sym x))
-not_made cap R C role last later T U (grant_role group to) y x = absurd (false≢true (sym x))
-not_made cap R C role last later T U (revoke_role group to) y x = absurd (false≢true (sym x))
-not_made cap R C role last later T U (row_security rel enable force) y x = absurd (false≢true (sym x))
-not_made cap R C role last later T U (create_policy p) y x = absurd (false≢true (sym x))
-not_made cap R C role last later T U (drop_policy rel name) y x = absurd (false≢true (sym x))
+not_made cap R C role last later T U _ y x = absurd (false≢true (sym x))
 
 -- carried out from t it led to the shape of u, and nobody is left
 record HasMade (t u : State) (q : Request) : Type 0 where

@@ -6,9 +6,9 @@ use Rattle.std.proofs.lemmas.List.Concat.{flat_map-append}
 use Rattle.std.proofs.lemmas.List.Elements.{filter-append}
 use Rattle.iv_rows.specs.Options.{if_some}
 use Rattle.iv_access.specs.Rights.{Name}
-use Rattle.iv_machine.specs.Act.{Act, begin, finish, create_role, create_table, create_view, grant, revoke, grant_role, revoke_role, row_security, create_policy, drop_policy, subscribe, unsubscribe, write, Line, reply, change, ended, Refusal, Reply, refused, limit, no_session}
+use Rattle.iv_machine.specs.Act.{Line, reply, change, ended, Refusal, Reply, refused, limit, no_session}
 use Rattle.iv_machine.specs.Machine.{Outcome, difference, step}
-use Rattle.iv_message.specs.Message.{Message, no_json, too_long, no_object, no_request, request}
+use Rattle.iv_message.specs.Message.{Message}
 use Rattle.iv_message.specs.Told.{Told, changed, over, granted, made, settled, told_text}
 use Rattle.iv_clients.specs.Clients.{Client, Sub, client_at, fresh, may_say, own_line, own_lines, told}
 use Rattle.iv_clients.specs.Feeds.{Feed, rel_read, seat_of}
@@ -19,7 +19,7 @@ use Rattle.iv_once.specs.Names.{Ask, Verdict, carry, again, another, late, forei
 use Rattle.iv_clients.proofs.Slots.{same-Some, not_None-Some}
 use Rattle.iv_gate.specs.Arriving.{Step, entry_of, newly}
 use Rattle.iv_gate.specs.Events.{Event, presented, message, gone, known, ticked, synced, handed, arrived, forgave, failed, happens, next, led}
-use Rattle.iv_gate.specs.Gate.{Gate, answering, asked_by, at_text, entries_of, granted_by, has_shape_room, hears, in_session, is_accepted, may_have, most_shape, names_of, reply_in, reply_to, said, shape_text, next_position, is_elsewhere}
+use Rattle.iv_gate.specs.Gate.{Gate, answering, asked_by, at_text, entries_of, granted_by, has_shape_room, hears, in_session, is_accepted, most_shape, names_of, reply_in, reply_to, said, shape_text, next_position, is_elsewhere}
 use Rattle.iv_gate.specs.Implied.{ShapeIsBounded}
 use Rattle.iv_gate.specs.Laws.{ShapeIsTold, is_made}
 use Rattle.iv_gate.specs.Replies.{added_by}
@@ -32,12 +32,11 @@ use Rattle.iv_gate.proofs.FollowedNumbers.{AllByRecursion-append, AllByRecursion
 use Rattle.iv_gate.proofs.SoundRuns.{Starts, not_client_at-Restores, IsSoundGate-Runs}
 use Rattle.iv_gate.proofs.MessageNews.{Hears, IsToldOutcome, grants_of, quietly, by_command, by_contents}
 use Rattle.iv_gate.proofs.EventNews.{HearsBy, IsToldStep, heard, untaken, taken, HearsBy-next}
-use Rattle.iv_gate.proofs.OwnReplies.{act_added, entries-done_for, asked, carried_reply, decided_added, said_added, shared_added, verdict_added}
+use Rattle.iv_gate.proofs.OwnReplies.{added_so, entries-done_for, asked, carried_reply, decided_added, said_added, shared_added, verdict_added}
 use Rattle.iv_gate.proofs.SoundSteps.{AllByRecursion-always}
 use Rattle.iv_gate.proofs.ShapeTexts.{all_made, filter-all_false, filter-all_true, shape_of-append, shape_in, shape_for-append, shape_for-none, told-fresh}
 use Rattle.iv_gate.proofs.SoundCommands.{Adds, IsSoundGate, Sounds}
 use Rattle.iv_gate.proofs.EventSigns.{Card}
-use Rattle.iv_gate.proofs.StepRelations.{request_of}
 use Rattle.iv_gate.proofs.EventMarks.{is_gone, entries-next, next-dead, AreTouched-next}
 
 -- ---- a command tells nothing of it
@@ -211,33 +210,8 @@ module _ (g : Gate) (full : nat_lt most_shape (length (shape_text g.entries)) �
   shared_text c q None = decided_text q None
   shared_text c q (Some k) = let a = asked_by c q.line k in verdict_text q a (verdict (names_of g) a)
 
-  act_text : (c : Client) (text : List ℕ) (act : Act) → shape_text (act_added g c text act) ≡ []
-  act_text c text (begin role) = refl
-  act_text c text finish = refl
-  act_text c text (subscribe rel) = refl
-  act_text c text (unsubscribe own) = refl
-  act_text c text (create_role name) = shared_text c (request_of c text (create_role name)) (claim_said text)
-  act_text c text (create_table name owner columns) = shared_text c (request_of c text (create_table name owner columns)) (claim_said text)
-  act_text c text (create_view name owner query) = shared_text c (request_of c text (create_view name owner query)) (claim_said text)
-  act_text c text (grant rel privileges to) = shared_text c (request_of c text (grant rel privileges to)) (claim_said text)
-  act_text c text (revoke rel privileges to) = shared_text c (request_of c text (revoke rel privileges to)) (claim_said text)
-  act_text c text (grant_role group to) = shared_text c (request_of c text (grant_role group to)) (claim_said text)
-  act_text c text (revoke_role group to) = shared_text c (request_of c text (revoke_role group to)) (claim_said text)
-  act_text c text (row_security rel enable force) = shared_text c (request_of c text (row_security rel enable force)) (claim_said text)
-  act_text c text (create_policy p) = shared_text c (request_of c text (create_policy p)) (claim_said text)
-  act_text c text (drop_policy rel name) = shared_text c (request_of c text (drop_policy rel name)) (claim_said text)
-  act_text c text (write entries) = shared_text c (request_of c text (write entries)) (claim_said text)
-
   pub said_text : (c : Client) (text : List ℕ) (s : Message) → shape_text (said_added g c text s) ≡ []
-  said_text c text no_json = refl
-  said_text c text too_long = refl
-  said_text c text no_object = refl
-  said_text c text (no_request id why) = refl
-  said_text c text (request id act) = by (may_have (claim_said text) act)
-    where
-      by : (b : Bool) → shape_text (cond b (act_added g c text act) []) ≡ []
-      by true = act_text c text act
-      by false = refl
+  said_text c text s = added_so (λ es. shape_text es ≡ []) g c text refl (λ q. shared_text c q (claim_said text)) s
 
 said_bounded : (g : Gate) (m : ℕ) (text : List ℕ) → nat_lt most_shape (length (shape_text g.entries)) ≡ true → shape_text (said g m text).entries ≡ shape_text g.entries
 said_bounded g m text full = by (client_at g.clients m)

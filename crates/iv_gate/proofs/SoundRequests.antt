@@ -6,7 +6,7 @@ use Rattle.std.proofs.lemmas.Bool.{false≢true}
 use Rattle.serde_json.specs.Data.{Data}
 use Rattle.iv_rows.specs.Options.{if_some}
 use Rattle.iv_access.specs.Rights.{Name}
-use Rattle.iv_machine.specs.Act.{Act, begin, finish, create_role, create_table, create_view, grant, revoke, grant_role, revoke_role, row_security, create_policy, drop_policy, subscribe, unsubscribe, write, Command, Refusal, done, refused, too_many, unknown_subscription, Reply}
+use Rattle.iv_machine.specs.Act.{Act, begin, finish, subscribe, unsubscribe, Command, Refusal, done, refused, too_many, unknown_subscription, Reply}
 use Rattle.iv_machine.specs.Machine.{outcome, step}
 use Rattle.iv_machine.specs.Refusing.{refusal}
 use Rattle.iv_machine.specs.State.{State}
@@ -195,17 +195,7 @@ acts_sound adds sounds g m c id text finish said same b = IsSoundGate-tells g m 
 acts_sound adds sounds g m c id text (subscribe rel) said same b =
     reads_sound adds sounds g m c id rel (λ d t. IsAsker-IsHeard g m c id text rel d said (same d t)) b
 acts_sound adds sounds g m c id text (unsubscribe own) said same b = closes_sound adds sounds g m c id own b
-acts_sound adds sounds g m c id text (create_role name) said same b = shares_sound adds sounds g m c id (request_of c text (create_role name)) (claim_said text) refl b
-acts_sound adds sounds g m c id text (create_table name owner columns) said same b = shares_sound adds sounds g m c id (request_of c text (create_table name owner columns)) (claim_said text) refl b
-acts_sound adds sounds g m c id text (create_view name owner query) said same b = shares_sound adds sounds g m c id (request_of c text (create_view name owner query)) (claim_said text) refl b
-acts_sound adds sounds g m c id text (grant rel privileges to) said same b = shares_sound adds sounds g m c id (request_of c text (grant rel privileges to)) (claim_said text) refl b
-acts_sound adds sounds g m c id text (revoke rel privileges to) said same b = shares_sound adds sounds g m c id (request_of c text (revoke rel privileges to)) (claim_said text) refl b
-acts_sound adds sounds g m c id text (grant_role group to) said same b = shares_sound adds sounds g m c id (request_of c text (grant_role group to)) (claim_said text) refl b
-acts_sound adds sounds g m c id text (revoke_role group to) said same b = shares_sound adds sounds g m c id (request_of c text (revoke_role group to)) (claim_said text) refl b
-acts_sound adds sounds g m c id text (row_security rel enable force) said same b = shares_sound adds sounds g m c id (request_of c text (row_security rel enable force)) (claim_said text) refl b
-acts_sound adds sounds g m c id text (create_policy p) said same b = shares_sound adds sounds g m c id (request_of c text (create_policy p)) (claim_said text) refl b
-acts_sound adds sounds g m c id text (drop_policy rel name) said same b = shares_sound adds sounds g m c id (request_of c text (drop_policy rel name)) (claim_said text) refl b
-acts_sound adds sounds g m c id text (write entries) said same b = shares_sound adds sounds g m c id (request_of c text (write entries)) (claim_said text) refl b
+acts_sound adds sounds g m c id text act said same b = shares_sound adds sounds g m c id (request_of c text act) (claim_said text) refl b
 
 -- whatever a client says
 pub IsSoundGate-done_for : Adds → Sounds → (g : Gate) (m : ℕ) (c : Client) (text : List ℕ) (s : Message) → said_by text ≡ s → ((d : Client) → client_at g.clients m ≡ Some d → IsHeard g m c text d) → IsSoundGate g → IsSoundGate (done_for g m c text s)

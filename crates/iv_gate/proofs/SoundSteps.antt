@@ -7,7 +7,7 @@ use Rattle.std.proofs.lemmas.Bool.{false≢true, eqb-true, eqb-false}
 use Rattle.iv_rows.specs.Cell.{Cell}
 use Rattle.iv_rows.specs.Options.{if_some}
 use Rattle.iv_access.specs.Rights.{Name}
-use Rattle.iv_machine.specs.Act.{Act, begin, finish, create_role, create_table, create_view, grant, revoke, grant_role, revoke_role, row_security, create_policy, drop_policy, subscribe, unsubscribe, write, Command, Refusal}
+use Rattle.iv_machine.specs.Act.{Act, finish, unsubscribe, Command, Refusal}
 use Rattle.iv_machine.specs.Held.{closed_by, closed_in}
 use Rattle.iv_machine.specs.Machine.{step}
 use Rattle.iv_machine.specs.Refusing.{refusal}
@@ -53,19 +53,7 @@ spares_by s k None j h = by k.act h
     by : (act : Act) → closes_none act ≡ true → list_any (λ i. j == i) (closed_by s.frame k.session act) ≡ false
     by finish h = absurd (false≢true h)
     by (unsubscribe i) h = absurd (false≢true h)
-    by (begin role) h = refl
-    by (create_role name) h = refl
-    by (create_table name owner columns) h = refl
-    by (create_view name owner query) h = refl
-    by (grant rel privileges to) h = refl
-    by (revoke rel privileges to) h = refl
-    by (grant_role group to) h = refl
-    by (revoke_role group to) h = refl
-    by (row_security rel enable force) h = refl
-    by (create_policy p) h = refl
-    by (drop_policy rel name) h = refl
-    by (subscribe rel) h = refl
-    by (write entries) h = refl
+    by _ h = refl
 
 pub Spares-closes_none : (s : State) (k : Command) (j : ℕ) → closes_none k.act ≡ true → Spares s k j
 Spares-closes_none s k j h = spares_by s k (refusal s k.session k.act) j h
@@ -80,20 +68,7 @@ spares_other s n t j h = spares_other_by s n t (refusal s n (unsubscribe t)) j h
 
 kept_too : (act : Act) → closes_none act ≡ true → is_kept act ≡ true
 kept_too finish h = absurd (false≢true h)
-kept_too (unsubscribe i) h = refl
-kept_too (begin role) h = refl
-kept_too (create_role name) h = refl
-kept_too (create_table name owner columns) h = refl
-kept_too (create_view name owner query) h = refl
-kept_too (grant rel privileges to) h = refl
-kept_too (revoke rel privileges to) h = refl
-kept_too (grant_role group to) h = refl
-kept_too (revoke_role group to) h = refl
-kept_too (row_security rel enable force) h = refl
-kept_too (create_policy p) h = refl
-kept_too (drop_policy rel name) h = refl
-kept_too (subscribe rel) h = refl
-kept_too (write entries) h = refl
+kept_too _ h = refl
 
 pub AllByRecursion-feed_of : (P : Feed → Type 0) (fs : List Feed) (j : ℕ) (f : Feed) → AllByRecursion P fs → feed_of fs j ≡ Some f → P f
 AllByRecursion-feed_of P [] j f a h = absurd (not_None-Some f (sym h))

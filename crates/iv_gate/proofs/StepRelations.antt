@@ -4,7 +4,7 @@ use Rattle.std.specs.Prelude.{◌==◌, ◌&&◌, codes, nat_lt, filter}
 use Rattle.serde_json.specs.Data.{Data}
 use Rattle.iv_rows.specs.Options.{if_some}
 use Rattle.iv_access.specs.Rights.{Name}
-use Rattle.iv_machine.specs.Act.{Act, begin, finish, create_role, create_table, create_view, grant, revoke, grant_role, revoke_role, row_security, create_policy, drop_policy, subscribe, unsubscribe, write, Command, Refusal, Reply, done, subscribed, refused, too_many, unknown_subscription}
+use Rattle.iv_machine.specs.Act.{Act, begin, finish, subscribe, unsubscribe, Command, Refusal, Reply, done, subscribed, refused, too_many, unknown_subscription}
 use Rattle.iv_message.specs.Message.{Message, no_json, too_long, no_object, no_request, request, unknown}
 use Rattle.iv_message.specs.Told.{Told, replied, opened, fault, unasked}
 use Rattle.iv_once.specs.Names.{Ask}
@@ -15,7 +15,7 @@ use Rattle.iv_clients.specs.Feeds.{Feed, Seat, feed_for, feed_of, is_of_role, is
 use Rattle.iv_records.specs.Journal.{Entry, Request, claim_said, is_shared, line_said, said_by}
 use Rattle.iv_records.specs.Names.{Claim}
 use Rattle.iv_clients.specs.Tokens.{Token}
-use Rattle.iv_gate.specs.Gate.{Gate, acts, all_rested, all_swept, at_text, begun_for, came, closes, columns_in, done_for, entered, feed_begun, hears, in_session, is_needed, joined, joined_by, joins, may_have, next_own, ran, reads, reads_first, replies_to, reply_to, done_in, rested, said, seated, settles, shares, shut, subscribes, swept, tells, token_for, went, with_session, next_position}
+use Rattle.iv_gate.specs.Gate.{Gate, acts, all_rested, all_swept, at_text, begun_for, came, closes, columns_in, done_for, entered, feed_begun, hears, in_session, is_needed, joined, joined_by, joins, may_have, next_own, ran, reads, reads_first, replies_to, reply_to, done_in, rested, said, seated, settles, shares, shut, subscribes, swept, tells, token_for, went, with_session, next_position, Head}
 use Rattle.iv_gate.specs.Laws.{is_made}
 use Rattle.iv_gate.proofs.RequestFates.{IsAside, refers, leaves, repeats, shares_so}
 use Rattle.iv_gate.proofs.ShapeTexts.{cond-either}
@@ -176,17 +176,7 @@ module _ (m : ℕ) (G : Gate → Gate → Type 0) (kit : Steps m G) where
     step_acts c id text finish f k = reach (tells g m (fault 2)) (kit.tell g (fault 2) refl)
     step_acts c id text (subscribe rel) f k = reach (reads g m c id rel) (step_reads g c id rel)
     step_acts c id text (unsubscribe own) f k = reach (closes g m c id own) (step_closes g c id own)
-    step_acts c id text (create_role name) f k = step_shares c id (request_of c text (create_role name)) (claim_said text) (λ o n e. f o n refl e) (λ a r. k a r refl)
-    step_acts c id text (create_table name owner columns) f k = step_shares c id (request_of c text (create_table name owner columns)) (claim_said text) (λ o n e. f o n refl e) (λ a r. k a r refl)
-    step_acts c id text (create_view name owner query) f k = step_shares c id (request_of c text (create_view name owner query)) (claim_said text) (λ o n e. f o n refl e) (λ a r. k a r refl)
-    step_acts c id text (grant rel privileges to) f k = step_shares c id (request_of c text (grant rel privileges to)) (claim_said text) (λ o n e. f o n refl e) (λ a r. k a r refl)
-    step_acts c id text (revoke rel privileges to) f k = step_shares c id (request_of c text (revoke rel privileges to)) (claim_said text) (λ o n e. f o n refl e) (λ a r. k a r refl)
-    step_acts c id text (grant_role group to) f k = step_shares c id (request_of c text (grant_role group to)) (claim_said text) (λ o n e. f o n refl e) (λ a r. k a r refl)
-    step_acts c id text (revoke_role group to) f k = step_shares c id (request_of c text (revoke_role group to)) (claim_said text) (λ o n e. f o n refl e) (λ a r. k a r refl)
-    step_acts c id text (row_security rel enable force) f k = step_shares c id (request_of c text (row_security rel enable force)) (claim_said text) (λ o n e. f o n refl e) (λ a r. k a r refl)
-    step_acts c id text (create_policy p) f k = step_shares c id (request_of c text (create_policy p)) (claim_said text) (λ o n e. f o n refl e) (λ a r. k a r refl)
-    step_acts c id text (drop_policy rel name) f k = step_shares c id (request_of c text (drop_policy rel name)) (claim_said text) (λ o n e. f o n refl e) (λ a r. k a r refl)
-    step_acts c id text (write entries) f k = step_shares c id (request_of c text (write entries)) (claim_said text) (λ o n e. f o n refl e) (λ a r. k a r refl)
+    step_acts c id text act f k = step_shares c id (request_of c text act) (claim_said text) (λ o n e. f o n refl e) (λ a r. k a r refl)
 
     pub step_done : (c : Client) (text : List ℕ) (s : Message)
         → ((id : Option Data) (act : Act) (name : Option Ask) (n : ℕ) → s ≡ request id act → is_shared act ≡ true → seat_of g.seats c.role ≡ Some n
@@ -206,6 +196,33 @@ module _ (m : ℕ) (G : Gate → Gate → Type 0) (kit : Steps m G) where
 
 abbrev pub Keeps : (Gate → Type 0) → Gate → Gate → Type 0
 Keeps P g h = P g → P h
+
+-- what is read of the journal
+journal_kit : {A : Type 0} (read : Head → List Entry → A) (a : A) (m : ℕ) → Steps m (Keeps (λ g. read g.head g.entries ≡ a))
+journal_kit read a m = record {
+  same = λ g x. x;
+  chain = λ g h i x y z. y (x z);
+  run = λ g k e x. x;
+  settle = λ g x. x;
+  tell = λ g t e x. x;
+  seat = λ g seats x. x;
+  feed = λ g feeds x. x;
+  follow = λ g k x. x;
+  move = λ g t k x. x;
+  close = λ g own x. x;
+}
+
+abbrev pub HasEntries : List Entry → Gate → Type 0
+HasEntries es g = g.entries ≡ es
+
+pub entries_kit : (es : List Entry) (m : ℕ) → Steps m (Keeps (HasEntries es))
+entries_kit es m = journal_kit (λ h fs. fs) es m
+
+abbrev pub HasHead : Head → Gate → Type 0
+HasHead h g = g.head ≡ h
+
+pub head_kit : (h : Head) (m : ℕ) → Steps m (Keeps (HasHead h))
+head_kit h m = journal_kit (λ i fs. i) h m
 
 -- what keeps it where a message of client m, who is c, is heard: who says it, the answer, and a request
 pub record MessageKeeps (P : Gate → Type 0) (g : Gate) (m : ℕ) (c : Client) (text : List ℕ) : Type 0 where

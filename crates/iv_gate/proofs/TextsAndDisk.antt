@@ -31,7 +31,7 @@ use Rattle.iv_gate.proofs.OwnReplies.{entries-done_for, asked, said_added}
 use Rattle.iv_gate.proofs.GrownTexts.{append-associative}
 use Rattle.iv_gate.proofs.SameFeeds.{and-both_true}
 use Rattle.iv_gate.proofs.SoundSteps.{AllByRecursion-map}
-use Rattle.iv_gate.proofs.StepRelations.{Keeps, Steps, came_keeps, request_of, said_keeps, step_done, went_keeps}
+use Rattle.iv_gate.proofs.StepRelations.{HasHead, head_kit, Keeps, Steps, came_keeps, request_of, said_keeps, step_done, went_keeps}
 use Rattle.iv_gate.proofs.ClientFacts.{step_told}
 use Rattle.iv_gate.proofs.ShapeTexts.{told_itself}
 use Rattle.iv_journal.specs.Journal.{Line}
@@ -422,28 +422,11 @@ kept_again reads g h disk start w l r =
 
 -- ---- the journal
 
-abbrev HasHead : Gate → Gate → Type 0
-HasHead g h = h.head ≡ g.head
-
-head_kit : (g : Gate) (m : ℕ) → Steps m (Keeps (HasHead g))
-head_kit g m = record {
-  same = λ h x. x;
-  chain = λ h i j x y z. y (x z);
-  run = λ h k e x. x;
-  settle = λ h x. x;
-  tell = λ h t e x. x;
-  seat = λ h seats x. x;
-  feed = λ h feeds x. x;
-  follow = λ h k x. x;
-  move = λ h t k x. x;
-  close = λ h own x. x;
-}
-
 said_booked : Texts → (g : Gate) (m : ℕ) (text : List ℕ) → IsHeld [] g → IsBooked g → IsBooked (said g m text)
 said_booked texts g m text b k = by (client_at g.clients m) refl
   where
     head : (c : Client) → (hears g m c text).head ≡ g.head
-    head c = step_done m (Keeps (HasHead g)) (head_kit g m) (asked g m text) (HasHead g) (λ h f. f refl) c text (said_by text) (λ id act name n e s t. refl) (λ id act a r e s. refl)
+    head c = step_done m (Keeps (HasHead g.head)) (head_kit g.head m) (asked g m text) (HasHead g.head) (λ h f. f refl) c text (said_by text) (λ id act name n e s t. refl) (λ id act a r e s. refl)
 
     heard : (c : Client) → client_at g.clients m ≡ Some c → (t : Bool) → IsBooked (cond t (hears g m c text) g)
     heard c e false = k
@@ -469,9 +452,9 @@ takes_booked g s w k = by (is_some (fault_of g s)) refl (was_taken g s) refl (st
 
 happens_booked : Texts → (g : Gate) (e : Event) → IsWell e → IsHeld [] g → IsBooked g → IsBooked (happens g e)
 happens_booked texts g (presented m token) w b k =
-    IsBooked-same_entries g (came g m token) (entries-came g m token) (came_keeps (HasHead g) (head_kit g) g m token (λ h t e y. y) refl) k
+    IsBooked-same_entries g (came g m token) (entries-came g m token) (came_keeps (HasHead g.head) (head_kit g.head) g m token (λ h t e y. y) refl) k
 happens_booked texts g (message m text) w b k = said_booked texts g m text b k
-happens_booked texts g (gone m) w b k = IsBooked-same_entries g (went g m) (entries-went g m) (went_keeps (HasHead g) (head_kit g) g m (λ y. y) refl) k
+happens_booked texts g (gone m) w b k = IsBooked-same_entries g (went g m) (entries-went g m) (went_keeps (HasHead g.head) (head_kit g.head) g m (λ y. y) refl) k
 happens_booked texts g (known tokens) w b k = IsBooked-same_entries g (knowing g tokens) refl refl k
 happens_booked texts g ticked w b k = IsBooked-same_entries g (ticking g) refl refl k
 happens_booked texts g synced w b k = IsBooked-same_entries g (on_disk g) refl refl k

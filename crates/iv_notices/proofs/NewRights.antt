@@ -15,7 +15,7 @@ use Rattle.iv_access.specs.Privileges.{has, role_of}
 use Rattle.iv_access.specs.declared.privilege.Privilege.{Privilege}
 use Rattle.iv_access.specs.declared.privilege.Privilege.TheVariants.{Select, Insert, Update, Delete}
 use Rattle.iv_access.specs.Rights.{Name}
-use Rattle.iv_machine.specs.Act.{Act, Line, Refusal, begin, create_policy, create_role, create_table, create_view, drop_policy, finish, grant, grant_role, revoke, revoke_role, row_security, subscribe, unsubscribe, write}
+use Rattle.iv_machine.specs.Act.{Act, Line, Refusal, begin, finish, write}
 use Rattle.iv_machine.specs.Changing.{after_catalog, after_rights}
 use Rattle.iv_machine.specs.Machine.{Outcome, outcome, step}
 use Rattle.iv_machine.specs.Refusing.{refusal}
@@ -309,20 +309,7 @@ passed_keeps s t act r k h = by (is_some (refusal s 1 act)) h
 
 write_keeps : (f : Frame) (act : Act) → is_write act ≡ true → (after_rights f act ≡ f.rights) × (after_catalog f act ≡ f.catalog)
 write_keeps f (write entries) h = (refl, refl)
-write_keeps f (begin role) h = absurd (false≢true h)
-write_keeps f finish h = absurd (false≢true h)
-write_keeps f (subscribe rel) h = absurd (false≢true h)
-write_keeps f (unsubscribe k) h = absurd (false≢true h)
-write_keeps f (create_role name) h = absurd (false≢true h)
-write_keeps f (create_table name owner columns) h = absurd (false≢true h)
-write_keeps f (create_view name owner query) h = absurd (false≢true h)
-write_keeps f (grant rel privileges to) h = absurd (false≢true h)
-write_keeps f (revoke rel privileges to) h = absurd (false≢true h)
-write_keeps f (grant_role role to) h = absurd (false≢true h)
-write_keeps f (revoke_role role to) h = absurd (false≢true h)
-write_keeps f (row_security rel enable force) h = absurd (false≢true h)
-write_keeps f (create_policy p) h = absurd (false≢true h)
-write_keeps f (drop_policy rel name) h = absurd (false≢true h)
+write_keeps f _ h = absurd (false≢true h)
 
 carried_keeps : (q : Request) (s t : State) → is_write q.act ≡ true → carried (fact_of q) s ≡ Some t → HasSameRights s t
 carried_keeps q s t w h = by (is_shared q.act) h

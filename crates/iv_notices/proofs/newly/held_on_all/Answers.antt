@@ -1,4 +1,4 @@
-use Rattle.std.proofs.Common.{Bor, ◌≡◌, ◌∙◌, ◌∷◌, ◌++◌, [], ap, get_or, map, take}
+use Rattle.std.proofs.Common.{Bor}
 use Rattle.iv_access.specs.Rights.{Name}
 use Rattle.iv_notices.specs.Newly.{held_in}
 use Rattle.iv_notices.proofs.NewRights.{one_held}

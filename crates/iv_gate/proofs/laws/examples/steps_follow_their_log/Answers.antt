@@ -1,4 +1,4 @@
-use Rattle.std.proofs.Common.{◌≡◌, ℕ, cond, false, is_some, map, None, not, option_map, Option, Some, true, ap, refl}
+use Rattle.std.proofs.Common.{◌≡◌, cond, false, is_some, map, None, not, option_map, Option, Some, true, ap, refl}
 use Rattle.std.specs.Prelude.{◌==◌, ◌&&◌, nat_lt}
 use Rattle.iv_rows.specs.Options.{if_some}
 use Rattle.iv_steps.specs.Steps.{first_refused, shared, stepped}
