@@ -320,7 +320,7 @@ def test_another_log_is_not_gone_on_with(store: Store) -> None:
         log = opened(store)
         while log.more():
             pass
-        assert log.take()
+        until(log.take, "the lease of who led does not pass")
         log.append([[entry(99)], [entry(100)]])
         log.release()
         ends(reader, 5, f"step {last} of redis://127.0.0.1:{store.port}/desk and those before it are not what the gateway holds")
