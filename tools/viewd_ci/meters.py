@@ -12,8 +12,8 @@ from collections.abc import Iterator
 from viewd_ci.common import TOP
 
 CRATES = ("iv_delta", "iv_circuit")
-# one in each of these: for a build that nobody counts; the rounds of a circuit; the width of a row
-MADE = {("iv_circuit", "build"), ("iv_circuit", "build_counted"), ("iv_circuit", "build_within"), ("iv_circuit", "join_of")}
+# one in each of these: for a build that nobody counts; the rounds of a circuit; the width of a row; whether changed rows reach a circuit
+MADE = {("iv_circuit", name) for name in ("build", "build_counted", "build_within", "join_of", "lets_some")}
 # a meter that is lent, a number that a value keeps, and names that are taken
 GIVEN = (r"&mut Meter\b(?!::)", r"^ +(pub left|rounds): Meter,$", r"^use iv_zset::(Meter|\{[\w, ]*\bMeter\b(?! as)[\w, ]*\});$")
 
