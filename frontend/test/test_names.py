@@ -143,6 +143,20 @@ def test_who_is_refused_often_has_to_wait() -> None:
         assert rows(gate) == there
 
 
+def test_who_waits_is_forgiven() -> None:
+    """Within a minute, by the same gateway."""
+    with holding() as gate:
+        mia, refused = gate.knock("mia 1"), 0
+        while refused < 4 * MOST and answer(mia, by_name(mia.place, GONE)) != {"undecided": 104}:
+            refused += 1
+        waits, start = by_name(mia.place, insert(1, "ann")), time.monotonic()
+        assert refused < 4 * MOST  # or they were forgiven in the midst of it again and again
+        while (told := answer(mia, waits)) == {"undecided": 104}:
+            assert time.monotonic() < start + 60 + PATIENCE
+            time.sleep(0.5)
+        assert told["answer"] == {"ok": True} and rows(gate) == {(1, "ann"): 1}
+
+
 def test_a_place_that_is_ahead_has_to_wait() -> None:
     with holding() as gate:
         mia = gate.knock("mia 1")
