@@ -53,7 +53,7 @@ def is_silent(wire: Wire, seconds: float = 0.3) -> bool:
 
 def reply(wire: Wire) -> Line:
     while True:
-        line = json.loads(wire.line())
+        line: Line = json.loads(wire.line())
         if "id" in line:
             return line
 
