@@ -4,11 +4,12 @@ connections, kills, restarts, compactions, copies and renewed tokens.
 
 GATEWAY and VIEWD name other programs than those that are built: a compaction asks viewd."""
 import json
+import time
 
 from names import GONE, MOST, WRITERS, Trials, Writer, answer, by_name, holding, place_of, rows, token_line
 from test_journal import compacted, needs_viewd
 from trial import insert, serving, until
-from wire import TOP, Line, Wire
+from wire import PATIENCE, TOP, Line, Wire
 
 
 def test_the_protocols_conversation_is_held() -> None:
