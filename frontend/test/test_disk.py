@@ -15,7 +15,7 @@ import pytest
 
 from model import text_of
 from trial import BASE, chained, insert, total
-from wire import PATIENCE, TOP, Ended, Gateway, Wire, masked
+from wire import PATIENCE, Ended, Gateway, Wire, masked
 
 HERE = pathlib.Path(__file__).resolve().parent
 COMPILER = next((it for it in map(shutil.which, ("cc", "gcc", "clang")) if it), None)
