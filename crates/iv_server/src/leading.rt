@@ -65,15 +65,21 @@ impl Server {
         self.send_before(desk)
     }
 
-    /// Sends what may be sent, first to those who asked, once what they asked is kept; and lets go who is gone.
-    pub fn send_on(&mut self, rt: &HostRuntime, desk: &mut Desk) -> Result<(), Fault>
+    /// Sends what may be sent, first to those who asked, once what they asked is kept.
+    fn send_kept(&mut self, desk: &mut Desk) -> Result<(), Fault>
         ensures { Leads desk.old desk.new }
     {
         if desk.entered().is_empty() {
-            self.send_all(desk)?;
-        } else {
-            self.send_others(desk)?;
+            return self.send_all(desk);
         }
+        self.send_others(desk)
+    }
+
+    /// Sends what may be sent, and lets go who is gone.
+    pub fn send_on(&mut self, rt: &HostRuntime, desk: &mut Desk) -> Result<(), Fault>
+        ensures { Leads desk.old desk.new }
+    {
+        self.send_kept(desk)?;
         self.drop_all(rt, desk)
     }
 }
