@@ -147,7 +147,7 @@ class Door:
         """Up to so many steps that a gateway has decided behind a position: waits so long for the first. Raises Ended."""
         steps, end = list[list[bytes]](), time.monotonic() + seconds
         while len(steps) < most and (text := self.hear(0 if steps else max(0, end - time.monotonic()))):
-            if not text.startswith(b'{"from":'):
+            if text.startswith((b'{"as":', b'{"once":')):
                 self.part.append(text)
                 continue
             at = position + len(steps)

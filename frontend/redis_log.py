@@ -62,6 +62,7 @@ class Keeper:
 
     def __init__(self, log: Log, door: Door, may_lead: bool, seed: Leader | None = None):
         self.log, self.door, self.may_lead, self.seed = log, door, may_lead, seed
+        self.sown = [it for it in seed.more() if it] if seed else []  # all are read before it is known whether all names are told
         self.is_open = self.is_away = self.leads = False
         self.rows = 0  # of a table that the gateway can hold
 
@@ -86,9 +87,8 @@ class Keeper:
 
     def start(self) -> None:
         """Begins, or goes on behind what the gateway holds. Raises Another, Trimmed, Ended."""
-        held = self.door.hello()
-        epoch = secrets.token_hex(16) if self.may_lead else ""
-        while not self.ask(lambda: self.log.begun(self.seed.epoch if self.seed else epoch)):
+        held, epoch = self.door.hello(), self.new_epoch()
+        while not self.ask(lambda: self.log.begun(epoch)):
             time.sleep(AGAIN)
         self.rows = held.rows
         if self.rows < (rows := self.ask(self.log.rows)):
@@ -106,6 +106,12 @@ class Keeper:
         for start, end, some in pieces(lines, self.log.position):
             self.door.step(start, end, some)
         log(f"begins with {self.log.where}" + (f", by a snapshot of step {self.log.position}" if lines else ""))
+
+    def new_epoch(self) -> str:
+        """Of a log that has none: its journal's, unless names of that are not told, by which requests would be done again."""
+        if self.seed and not self.seed.is_compacted:
+            return self.seed.epoch
+        return secrets.token_hex(16) if self.may_lead else ""
 
     def compare(self) -> None:
         """What the gateway holds ends with the last steps: else the log has lost its end, and has another one by now."""
@@ -143,8 +149,7 @@ class Keeper:
         """The log ends where it was read to once no step comes: nobody else adds one."""
         while steps := self.ask(self.log.more):
             self.bring(steps)
-        if self.seed:
-            self.sow([it for it in self.seed.more() if it])
+        self.sow(self.sown)
         self.ask(lambda: self.log.set_rows(self.rows))
         self.door.lead()
         pause = self.log.seconds / 4
