@@ -24,13 +24,14 @@ import door
 from door import Door, Ended, Gateway, Kept
 from journal import Damaged
 from leader import Another, Leader
-from redis_stream import PIECE, Away, Log, Lost, Steps, Trimmed, Unfit, chain
+from redis_stream import PIECE, PIECES, Away, Log, Lost, Steps, Trimmed, Unfit, chain
 from status import State, serve
 
 BLOCK = 250  # milliseconds that it waits for a step, before it looks for the lease
 AGAIN = 0.2  # seconds until a Redis that is away is asked again
 SILENT = 12  # times as long as a lease, after which a gateway that says nothing does not lead
 COMPARED = 100  # steps of which a gateway that comes is asked whether it holds them
+SIZE, SOWN = 1 << 22, 64  # bytes that are appended at a time, and a step more; and steps of a journal: they have to get there within a lease
 MOST_LINES, MOST_BYTES = 1_000_000, 200_000_000  # of a step that brings a snapshot: a gateway takes somewhat more
 
 Answer = TypeVar("Answer")
@@ -50,7 +51,7 @@ def pieces(lines: list[bytes], position: int) -> Iterator[tuple[int, int, list[b
         if size > MOST_BYTES or at - cuts[-1] == MOST_LINES:
             cuts.append(at)
             size = len(line) + 1
-    if len(cuts) > position:
+    if len(cuts) > min(position, PIECES):
         raise Damaged(f"a snapshot of step {position} has {len(lines)} lines")
     for number, at in enumerate(cuts, 1):
         is_last = number == len(cuts)
@@ -87,9 +88,13 @@ class Keeper:
     def start(self) -> None:
         """Begins, or goes on behind what the gateway holds. Raises Another, Trimmed, Ended."""
         held = self.door.hello()
-        epoch = secrets.token_hex(16) if self.may_lead else ""
-        while not self.ask(lambda: self.log.begun(self.seed.epoch if self.seed else epoch)):
+        epoch = self.seed.epoch if self.seed else secrets.token_hex(16)
+        while not self.ask(lambda: self.log.begun(epoch if self.may_lead and not held.log else "")):
+            if held.log:
+                raise Another(f"the gateway follows {held.log} of epoch {held.epoch}, and {self.log.where} has not begun")
             time.sleep(AGAIN)
+        if self.seed and self.seed.epoch != self.log.epoch:
+            raise Unfit(f"{self.log.where} was not begun with {self.seed.path}")
         self.rows = held.rows
         if self.rows < (rows := self.ask(self.log.rows)):
             raise Unfit(f"the gateway has --rows {self.rows}, and {self.log.where} was led by one with {rows}")
@@ -130,11 +135,12 @@ class Keeper:
         self.start()
         goal = self.ask(self.log.last)
         while True:
+            if text := self.door.hear(0):
+                raise Ended(f"the gateway does not lead, and says {text[:200]!r}")
             steps = self.ask(lambda: self.log.more(BLOCK))
             self.bring(steps)
             self.door.flush()
-            kept = self.door.kept()
-            if kept >= goal:
+            if (kept := self.has()) >= goal:
                 self.show()
             if self.may_lead and not steps and kept == self.log.position and self.ask(self.log.take):
                 self.lead()
@@ -147,26 +153,38 @@ class Keeper:
             self.sow([it for it in self.seed.more() if it])
         self.ask(lambda: self.log.set_rows(self.rows))
         self.door.lead()
-        pause = self.log.seconds / 4
+        pause, asked = self.log.seconds / 4, time.monotonic()
         while not (said := self.door.hear(pause)):
-            self.ask(self.log.renew)
+            self.renew(asked)
         if said != b'{"leads":%d}' % self.log.position:
-            raise Damaged(f"the gateway is to lead behind step {self.log.position}, and says {said[:200]!r}")
+            raise Ended(f"the gateway is to lead behind step {self.log.position}, and says {said[:200]!r}")
         log(f"leads behind step {self.log.position}, by the lease {self.log.lease.decode()}")
         self.show()
-        self.leads, renewed, asked = True, time.monotonic(), 0.0
+        self.leads, renewed, asked = True, time.monotonic(), time.monotonic()
+        self.door.has(self.log.position)  # it answers, so that it is known to live
         while True:
-            if decided := self.door.decided(self.log.position, pause, PIECE):
+            if decided := self.door.decided(self.log.position, pause, PIECE, SIZE):
                 self.ask(lambda: self.log.append(decided))
                 self.door.has(self.log.position)
+            self.has()
             if (now := time.monotonic()) > renewed + pause:
                 if self.door.heard > asked:
                     asked = now
                     self.door.has(self.log.position)
-                elif now > asked + SILENT * self.log.seconds:
-                    raise Lost(f"the gateway has said nothing for {now - asked:.0f} seconds, so its lease is given back")
-                self.ask(self.log.renew)
+                self.renew(asked)
                 renewed = now
+
+    def has(self) -> int:
+        """Up to which step the gateway has it on its disk. Raises Ended."""
+        if (kept := self.door.kept()) > self.log.position:
+            raise Ended(f"the gateway was brought step {self.log.position}, and says that it has {kept}")
+        return kept
+
+    def renew(self, asked: float) -> None:
+        """While the gateway answers what it was asked then."""
+        if (silent := time.monotonic() - asked) > SILENT * self.log.seconds:
+            raise Lost(f"the gateway has said nothing for {silent:.0f} seconds, so its lease is given back")
+        self.ask(self.log.renew)
 
     def sow(self, records: list[list[bytes]]) -> None:
         """A log begins with these, or goes on with them if it was begun so."""
@@ -175,7 +193,7 @@ class Keeper:
             digest = chain(digest, b"\n".join(it))
         if digest != self.log.digest:
             return
-        while some := records[self.log.position:self.log.position + PIECE]:
+        while some := records[self.log.position:self.log.position + SOWN]:
             start = self.log.position
             self.ask(lambda: self.log.append(some))
             self.bring([*enumerate(some, start + 1)])

@@ -173,7 +173,8 @@ def tells_nobody(store: Store, cut: Callable[[Machine, bool], object], url: str)
 
 
 def test_a_log_begins_with_a_journal(store: Store, here: pathlib.Path) -> None:
-    """Its requests and names are the first steps, by its epoch. What was begun so and not ended goes on; nothing is added to a log with steps of its own."""
+    """Its requests and names are the first steps, by its epoch. What was begun so and not ended goes on; nothing is added to a log with steps of its own, and a log
+    of another epoch was begun with another one."""
     texts = [(True, text_of({"as": "admin", **it})[1:].encode()) for it in BASE]
     name, request = by_name(f"{EPOCH}.0", insert(1, "ann")), text_of(insert(1, "ann")).encode()
     texts.append((False, b'"at":1,"by":"","as":"ann",' + request[1:]))
@@ -200,7 +201,8 @@ def test_a_log_begins_with_a_journal(store: Store, here: pathlib.Path) -> None:
         assert shown(machine)["ann"] == {(1, "ann"): 1}
         machine.end()
     store.client.delete("desk:lease")
-    journal.write_bytes(chained([*texts, *((True, b'"as":"admin","do":"create_role","name":"%s"}' % it) for it in (b"eve", b"zed", b"zoe"))], EPOCH[::-1].encode()))
+    texts += [(True, b'"as":"admin","do":"create_role","name":"%s"}' % it) for it in (b"eve", b"zed", b"zoe")]
+    journal.write_bytes(chained(texts))
     other = opened(store)
     while other.more():
         pass
@@ -213,6 +215,12 @@ def test_a_log_begins_with_a_journal(store: Store, here: pathlib.Path) -> None:
     until(machine.leads, machine.said())
     assert store.count() == count + 1
     machine.end()
+    journal.write_bytes(chained(texts, EPOCH[::-1].encode()))
+    store.client.delete("desk")
+    machine = Machine(store.url)
+    machine.more = ["--seed", journal]
+    ends(machine, 1, "was not begun with")
+    assert store.count() == 0
 
 
 def test_who_holds_fewer_rows_does_not_follow(store: Store) -> None:

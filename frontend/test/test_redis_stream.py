@@ -197,7 +197,9 @@ class Told:
         self.at = end
 
     def hear(self, seconds: float) -> bytes:
-        raise door.Ended("enough")
+        if seconds:
+            raise door.Ended("enough")
+        return b""
 
     def __getattr__(self, name: str) -> Callable[..., None]:
         return lambda *_: self.words.append(name)
