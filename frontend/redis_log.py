@@ -7,8 +7,8 @@
 What a gateway decides that leads is appended to the stream, and said to be kept then; what others have decided is brought to it. A keeper takes the lease once
 that is free and its gateway has all steps on its disk, unless it has --follow. If the lease passes, or Redis is away for so long, the gateway ends with it.
 
-Status 1 if Redis may lose what it is told, refuses, or has what is no log, or if a file is not usable, 2 if the words are wrong, 3 if no gateway answers, 4 if
-it ends, 5 if the log is not the one that it has followed, 6 if the lease has passed.
+Status 1 if Redis may lose what it is told, refuses, or has what is no log, or if a file is not usable or did not begin it, 2 if the words are wrong, 3 if no
+gateway answers, 4 if it ends or says what none should, 5 if the log is not the one that it has followed, 6 if the lease has passed.
 """
 import argparse
 import collections
