@@ -280,7 +280,7 @@ def test_what_no_gateway_should_say(at: str, store: Store) -> None:
 
 def test_a_gateway_that_hangs_before_it_leads(store: Store) -> None:
     """Its keeper gives the lease back that it has taken."""
-    with partied(store, 2, 0, 0.3) as party:
+    with partied(store, 2, 0) as party:
         first = party.leader()
         second, = (it for it in party.candidates if it is not first)
         assert second.strike("gateway", signal.SIGSTOP)
