@@ -153,7 +153,7 @@ class Door:
         self.flush()
 
     def decided(self, position: int, seconds: float, most: int, size: int) -> list[list[bytes]]:
-        """Up to so many steps that a gateway has decided behind a position, and no further one behind so many bytes: waits so long for the first. Raises Ended."""
+        """Up to so many steps that a gateway has decided after a position, and none after so many bytes: waits so long for the first. Raises Ended."""
         steps, end = list[list[bytes]](), time.monotonic() + seconds
         while len(steps) < most and size > 0 and (text := self.hear(0 if steps else max(0, end - time.monotonic()))):
             at = position + len(steps)

@@ -6,8 +6,8 @@ import argparse
 import collections
 import contextlib
 import hashlib
-import json
 import io
+import json
 import re
 import shutil
 import signal
