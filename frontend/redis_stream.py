@@ -328,7 +328,7 @@ class Log:
         self.position, self.digest = last, digest
 
     def put_snapshot(self, lines: list[bytes], rest: int) -> bool:
-        """Lines that lead to what all steps up to here led to; so many of these stay. Whether there was none of this position or a later one. Raises Damaged."""
+        """Lines that lead to what all steps up to here led to; so many of these stay. Whether none was of this position or a later one. Raises Damaged."""
         key = self.key(f"snapshot:{self.position}.{secrets.token_hex(4)}")
         for at in range(0, len(lines), LINES):
             self.ask(lambda: self.redis.rpush(key, *lines[at:at + LINES]))
