@@ -21,7 +21,7 @@ from collections.abc import Callable, Iterator
 from typing import TypeVar
 
 import door
-from door import Door, Ended, Gateway, Kept
+from door import Door, Ended, Gateway, Held, Kept
 from journal import Damaged
 from leader import Another, Leader
 from redis_stream import PIECE, PIECES, Away, Log, Lost, Steps, Trimmed, Unfit, chain
@@ -63,6 +63,7 @@ class Keeper:
 
     def __init__(self, log: Log, door: Door, may_lead: bool, seed: Leader | None = None):
         self.log, self.door, self.may_lead, self.seed = log, door, may_lead, seed
+        self.sown = [it for it in seed.more() if it] if seed else []  # all are read before it is known whether all names are told
         self.is_open = self.is_away = self.leads = False
         self.rows = 0  # of a table that the gateway can hold
 
@@ -88,12 +89,11 @@ class Keeper:
     def start(self) -> None:
         """Begins, or goes on behind what the gateway holds. Raises Another, Trimmed, Ended."""
         held = self.door.hello()
-        epoch = self.seed.epoch if self.seed else secrets.token_hex(16)
-        while not self.ask(lambda: self.log.begun(epoch if self.may_lead and not held.log else "")):
+        while not self.ask(lambda: self.log.begun(self.new_epoch(held))):
             if held.log:
                 raise Another(f"the gateway follows {held.log} of epoch {held.epoch}, and {self.log.where} has not begun")
             time.sleep(AGAIN)
-        if self.seed and self.seed.epoch != self.log.epoch:
+        if self.seed and not self.seed.is_compacted and self.seed.epoch != self.log.epoch:
             raise Unfit(f"{self.log.where} was not begun with {self.seed.path}")
         self.rows = held.rows
         if self.rows < (rows := self.ask(self.log.rows)):
@@ -111,6 +111,12 @@ class Keeper:
         for start, end, some in pieces(lines, self.log.position):
             self.door.step(start, end, some)
         log(f"begins with {self.log.where}" + (f", by a snapshot of step {self.log.position}" if lines else ""))
+
+    def new_epoch(self, held: Held) -> str:
+        """Of a log that has none, if it may begin here: its journal's, unless names of that are not told, by which requests would be done again."""
+        if held.log or not self.may_lead:
+            return ""
+        return self.seed.epoch if self.seed and not self.seed.is_compacted else secrets.token_hex(16)
 
     def compare(self) -> None:
         """What the gateway holds ends with the last steps: else the log has lost its end, and has another one by now."""
@@ -149,8 +155,7 @@ class Keeper:
         """The log ends where it was read to once no step comes: nobody else adds one."""
         while steps := self.ask(self.log.more):
             self.bring(steps)
-        if self.seed:
-            self.sow([it for it in self.seed.more() if it])
+        self.sow(self.sown)
         self.ask(lambda: self.log.set_rows(self.rows))
         self.door.lead()
         pause, asked = self.log.seconds / 4, time.monotonic()

@@ -1,14 +1,19 @@
 """A gateway that leads a log (docs/LOG.md): what it decides goes to its keeper first, and nobody is told before that has it."""
+import contextlib
 import json
 import pathlib
 import secrets
 import select
+import signal
+import socket
+import struct
 import time
 
 import pytest
 
 from names import by_name
-from test_log import BEGIN, EPOCH, GO_ON, ROLE, TABLE, Keeper, here, insert  # noqa: F401
+from ports import free_port
+from test_log import BEGIN, EPOCH, GO_ON, ROLE, SECRET, TABLE, Keeper, begun_at, here, insert  # noqa: F401
 from wire import PATIENCE, Ended, Line, Wire
 
 LEAD = '{"lead":true}'
@@ -149,6 +154,32 @@ def test_what_was_not_kept_is_nowhere(here: pathlib.Path) -> None:  # noqa: F811
     assert reply(mia) == {"answer": {"ok": True}, "at": f"{EPOCH}.1", "id": 1}
     mia.say(by_name(f"{EPOCH}.0", WRITE, name, 1))
     assert reply(mia) == {"answer": {"ok": True}, "again": True, "at": f"{EPOCH}.1", "id": 1}
+
+
+@pytest.mark.parametrize("is_stopped", (True, False))
+def test_who_leads_takes_no_other_keeper(is_stopped: bool, here: pathlib.Path) -> None:  # noqa: F811
+    """At a port: one that comes as the other goes would have it take for kept what the log has not."""
+    port = free_port()
+    gate = Keeper(here, ("--log", str(port), "--log-secret-file", here / "secret"))
+    first, told = begun_at(port), b""
+    first.sendall(f"{LEAD}\n".encode())
+    while b'{"leads":3}' not in told:
+        told += first.recv(1 << 16)
+    mia = come(gate)
+    mia.say(by_name(f"{EPOCH}.0", WRITE, None, 1))
+    while b'{"from":3,"step":4}' not in told:
+        told += first.recv(1 << 16)
+    first.setsockopt(socket.SOL_SOCKET, socket.SO_LINGER, struct.pack("ii", 1, 0))
+    if is_stopped:
+        gate.process.send_signal(signal.SIGSTOP)
+    first.close()
+    with contextlib.suppress(ConnectionError), socket.create_connection(("127.0.0.1", port), PATIENCE) as second:
+        second.sendall(f'{{"secret":"{SECRET}"}}\n{GO_ON}\n{LEAD}\n'.encode())
+        gate.process.send_signal(signal.SIGCONT)
+        assert gate.process.wait(PATIENCE) == 4
+    with pytest.raises(Ended):
+        reply(mia)
+    assert b"salt" not in (here / "journal").read_bytes()
 
 
 def test_many_wait_for_one_answer_of_the_log(here: pathlib.Path) -> None:  # noqa: F811

@@ -262,7 +262,7 @@ class Gateway:
         self.know(*roles)
         if journal is not None:
             self.journal.write_bytes(journal)
-        self.port, self.words = free_port(), words
+        self.port, self.words, self.env = free_port(), words, dict[str, str]()
         self.started: subprocess.Popen[bytes] | None = None
         self.running.append(self)
         if start:
@@ -296,7 +296,8 @@ class Gateway:
                     resource.setrlimit(kind, (size, size))
         with (path := self.folder / f"log.{len(self.logs)}").open("wb") as log:
             self.logs.append(path)
-            self.started = subprocess.Popen(self.command(), stdin=subprocess.DEVNULL, stderr=log, preexec_fn=None if most is memory is files is None else limit)
+            self.started = subprocess.Popen(self.command(), stdin=subprocess.DEVNULL, stderr=log, env={**os.environ, **self.env},
+                                            preexec_fn=None if most is memory is files is None else limit)
         return self.process
 
     def start(self, most: int | None = None, memory: int | None = None) -> None:
