@@ -75,9 +75,9 @@ def test_nothing_is_sent_before_what_was_written_is_synced(between: pathlib.Path
     asked = 0
     for _ in range(40):
         for wire in (admin, *wires[:2]):
-            count = dice.randrange(12)
-            wire.send(b"".join(masked(text_of(insert(asked + at, "ann")).encode()) for at in range(count)))
-            asked += count
+            more = dice.randrange(12)
+            wire.send(b"".join(masked(text_of(insert(asked + at, "ann")).encode()) for at in range(more)))
+            asked += more
     while len(gate.entries()) < len(BASE) + asked:
         for wire in (admin, *wires):
             with contextlib.suppress(TimeoutError):

@@ -48,9 +48,9 @@ def test_what_a_gateway_decides() -> None:
     for text in (b'{"leads":8}\n', b'{"from":7,"step":8}\n', b'{"from":8,"step":10}\n'):
         one = Door(io.BytesIO(HELLO + step + text), io.BytesIO())
         one.hello()
-        assert one.decided(7, 60, 1) == [[b'{"as":"mia","do":"x"}', b'{"once":"a"}']]
+        assert one.decided(7, 60, 1, 1 << 20) == [[b'{"as":"mia","do":"x"}', b'{"once":"a"}']]
         with pytest.raises(Ended, match="leads behind step 8, and says"):
-            one.decided(8, 60, 1)
+            one.decided(8, 60, 1, 1 << 20)
 
 
 def test_what_is_on_disk_is_heard() -> None:

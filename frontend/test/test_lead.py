@@ -188,15 +188,16 @@ def test_many_wait_for_one_answer_of_the_log(here: pathlib.Path) -> None:  # noq
     clients = [come(keeper) for _ in range(8)]
     for number, it in enumerate(clients):
         it.say(by_name(f"{EPOCH}.0", {"do": "write", "entries": [{"on": "notes", "insert": [number, "x"]}]}, None, number))
-    position, batches = 1, 0
-    while position < 9:
-        line = keeper.hear()
-        if line.startswith('{"from":'):
-            assert json.loads(line) == {"from": position, "step": position + 1}
-            position += 1
-            if not select.select([keeper.given], [], [], 0.3)[0] and b"\n" not in keeper.read:
-                keeper.say('{"kept":%d}' % position)
-                batches += 1
+    position, kept, batches, end = 1, 1, 0, time.monotonic() + PATIENCE
+    while kept < 9:
+        if b"\n" in keeper.read or select.select([keeper.given], [], [], 0.3)[0]:
+            if (line := keeper.hear()).startswith('{"from":'):
+                assert json.loads(line) == {"from": position, "step": position + 1}
+                position += 1
+        elif position > kept:  # it says no more
+            keeper.say('{"kept":%d}' % position)
+            kept, batches = position, batches + 1
+        assert time.monotonic() < end, (position, kept)
     assert batches <= 4
     assert all(reply(it)["answer"] == {"ok": True} for it in clients)
 

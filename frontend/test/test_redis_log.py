@@ -182,7 +182,8 @@ def begun_with() -> tuple[list[tuple[bool, bytes]], str]:
 
 
 def test_a_log_begins_with_a_journal(store: Store, here: pathlib.Path) -> None:
-    """Its requests and names are the first steps, by its epoch. What was begun so and not ended goes on; nothing is added to a log with steps of its own."""
+    """Its requests and names are the first steps, by its epoch. What was begun so and not ended goes on; nothing is added to a log with steps of its own, nor to one
+    of another epoch."""
     texts, name = begun_with()
     journal = here / "journal"
     journal.write_bytes(chained(texts))
@@ -205,7 +206,8 @@ def test_a_log_begins_with_a_journal(store: Store, here: pathlib.Path) -> None:
         assert shown(machine)["ann"] == {(1, "ann"): 1}
         machine.end()
     store.client.delete("desk:lease")
-    journal.write_bytes(chained([*texts, *((True, b'"as":"admin","do":"create_role","name":"%s"}' % it) for it in (b"eve", b"zed", b"zoe"))], EPOCH[::-1].encode()))
+    texts += [(True, b'"as":"admin","do":"create_role","name":"%s"}' % it) for it in (b"eve", b"zed", b"zoe")]
+    journal.write_bytes(chained(texts))
     other = opened(store)
     while other.more():
         pass
@@ -218,6 +220,12 @@ def test_a_log_begins_with_a_journal(store: Store, here: pathlib.Path) -> None:
     until(machine.leads, machine.said())
     assert store.count() == count + 1
     machine.end()
+    journal.write_bytes(chained(texts, EPOCH[::-1].encode()))
+    store.client.delete("desk")
+    machine = Machine(store.url)
+    machine.more = ["--seed", journal]
+    ends(machine, 1, "was not begun with")
+    assert store.count() == 0
 
 
 def test_a_log_begins_with_a_compacted_journal(store: Store, here: pathlib.Path) -> None:

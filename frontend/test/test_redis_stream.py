@@ -71,6 +71,18 @@ def test_an_append_is_made_once(store: Store) -> None:
     assert len(store.steps()) == after[0]
 
 
+def test_what_is_promised_is_shown() -> None:
+    """Each row of what OPERATING says of logs names tests that are there."""
+    document, tests = (TOP / "docs/OPERATING.md").read_text(), "".join(it.read_text() for it in (TOP / "frontend/test").glob("test_*.py"))
+    rows = [row.split("|") for part in re.findall(r"(?ms)^\|[^\n]*\| shown by.*?\n\n", document) for row in part.splitlines()[2:] if row]
+    assert len(rows) > 20
+    for row in rows:
+        named = re.findall("`([a-z_]+(?:[.]py)?)`", row[-2])
+        assert named or row[-2].strip() == "the same", row
+        for it in named:
+            assert (TOP / "frontend/test" / it).is_file() if it.endswith(".py") else f"def test_{it}(" in tests, it
+
+
 def test_a_step_is_an_entry(store: Store) -> None:
     """As it is told, by who has no part in it."""
     written(store, 3)
@@ -197,7 +209,9 @@ class Told:
         self.at = end
 
     def hear(self, seconds: float) -> bytes:
-        raise door.Ended("enough")
+        if seconds:
+            raise door.Ended("enough")
+        return b""
 
     def __getattr__(self, name: str) -> Callable[..., None]:
         return lambda *_: self.words.append(name)
