@@ -294,8 +294,8 @@ class Gateway:
             for kind, size in ((resource.RLIMIT_FSIZE, most), (resource.RLIMIT_AS, memory), (resource.RLIMIT_NOFILE, files)):
                 if size is not None:
                     resource.setrlimit(kind, (size, size))
-        self.logs.append(self.folder / f"log.{len(self.logs)}")
-        with self.logs[-1].open("wb") as log:
+        with (path := self.folder / f"log.{len(self.logs)}").open("wb") as log:
+            self.logs.append(path)
             self.started = subprocess.Popen(self.command(), stdin=subprocess.DEVNULL, stderr=log, env={**os.environ, **self.env},
                                             preexec_fn=None if most is memory is files is None else limit)
         return self.process
