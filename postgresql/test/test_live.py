@@ -153,6 +153,9 @@ class Lives(Base):
         for it in writers:
             counts["transactions"] += it.counts["transactions"]
             it.connection.close()
+        # (a writer's text that viewd cannot hold would leave the table out)
+        self.desk.do("delete from tickets where id = 50")
+        self.settle()
         mia = self.enter("mia")
         assert mia and self.process
         process = self.process
