@@ -463,6 +463,7 @@ def test_a_snapshot_is_where_gateways_begin(by_port: bool, store: Store) -> None
         mia = leader.enter("mia")
         said = by_name(mia.place, insert(1, "mia"))
         first = answer(mia, said)
+        load(leader, 20)
         party.equal()
         slow.rest()
         load(leader, 1500)

@@ -36,7 +36,7 @@ def status(*words: Any, **more: Any) -> tuple[int, str]:
 
 def test_who_has_lost_the_lease_appends_nothing(store: Store) -> None:
     one, two, reader = opened(store), opened(store), opened(store)
-    assert one.take() and not two.take() and store.client.pttl("desk:lease") > 0
+    assert one.take() and store.client.pttl("desk:lease") > 0 and not two.take()
     one.append([[entry(1)], [entry(2), entry(3)]])
     assert len(two.more()) == 2 and not two.take() and two.more(10) == []
     assert 0 < store.client.pttl("desk:lease") <= 1000 * LONG  # it passes by itself
