@@ -81,7 +81,7 @@ class Reader:
         try:
             return self.values[place](text)
         except Refused:
-            return f"odd {text}"
+            return f"odd {in_json(text)}"
 
     def cells(self, one: Row) -> list[str | None]:
         """Those that the row was made of, or others of which the same would be made."""

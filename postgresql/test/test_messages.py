@@ -162,6 +162,11 @@ class Mirrors(unittest.TestCase):
         self.assertEqual(table.fault(), "viewd cannot hold 1 of its rows: one has the date 0044-03-15 BC: viewd can hold those of the years 1 to 9999")
         self.assertEqual(self.applied(table, Change(days, Old(("0044-03-15 BC", None), False), ("2024-02-29", UNCHANGED), True)), [("insert", ["new", "2024-02-29"], 1)])
         self.assertEqual(table.fault(), "")
+        both = Relation(7, "public", "pairs", "d", (pgoutput.Column("a", True, 25, -1), pgoutput.Column("b", True, 25, -1)))
+        long = "x" * 1025
+        table = Table("pairs", {"a": Column(KINDS["text"]), "b": Column(KINDS["text"])}, 9).fill([(f"{long},odd {long}", long), (long, f"{long},odd {long}")])
+        self.applied(table, Change(both, Old((long, f"{long},odd {long}"), False)))
+        self.assertEqual(list(table.odd), [table.reader.row((f"{long},odd {long}", long))])
 
     def test_too_many_rows(self) -> None:
         rows = [("1", str(it), "x") for it in range(10)]
