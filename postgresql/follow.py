@@ -15,12 +15,12 @@ import psycopg2.errors
 
 from beginning import NotReady, Progress
 from catalog import Unsettled
-from door import Gateway, line
+from door import Gateway
 from figures import Figures
 from following import Anew, Following
 from pgoutput import Unreadable, lsn_text
 from prepare import printable
-from rows import Request
+from rows import Request, Write, line
 from settings import Settings
 from stream import Lost, Place
 
@@ -28,6 +28,7 @@ WAIT = 0.1  # seconds between two cuts if nothing comes
 AHEAD = 4  # steps that are said before the first of them is on the gateway's disk
 AGAIN = 1.0  # seconds between two looks for a PostgreSQL that is away
 WORD = 5.0  # seconds between two words of progress
+ADMIN = '"as":"admin"'  # makes what is told
 LINES, BYTES = 500_000, 128_000_000  # of a step: a gateway takes twice as many
 
 
@@ -150,7 +151,7 @@ class Follow:
         """The beginning, in as many steps as it needs: nobody is let in before the last, which alone says where it is from."""
         lines, size = list[bytes](), 0
         for it in following.first():
-            lines.append(line({"as": "admin"} | it))
+            lines.append(line(ADMIN, it).encode())
             size += len(lines[-1])
             if len(lines) == LINES or size > BYTES:
                 self.tell(lines)
@@ -170,9 +171,9 @@ class Follow:
             self.serve()
         self.late(following)
 
-    def changes(self, following: Following, found: list[Request]) -> None:
+    def changes(self, following: Following, found: list[Request | Write]) -> None:
         """A step of these, if there are any. Raises Anew."""
-        lines = [line({"as": "admin"} | it) for it in found]
+        lines = [line(ADMIN, it).encode() for it in found]
         if len(lines) > LINES or sum(map(len, lines)) > BYTES:
             raise Anew(f"a transaction of {len(lines):,} requests is more than a step may have")
         if lines:
