@@ -32,14 +32,8 @@ class Write(NamedTuple):
 class Odd(str):
     """A row that viewd cannot hold."""
 
-    cells: list[str | None]  # as PostgreSQL prints them
+    cells: list[str | None]  # as PostgreSQL prints them, or in canonical form
     why: str
-
-
-def odd(cells: Iterable[str | None], why: str) -> Odd:
-    one = Odd(f"odd {list(cells)}")
-    one.cells, one.why = list(cells), why
-    return one
 
 
 def read(connection: Connection, rel: Relation, columns: Iterable[str]) -> Iterator[tuple[str | None, ...]]:
@@ -71,10 +65,16 @@ class Reader:
         try:
             found = f"[{','.join([value(it) for value, it in zip(self.values, cells, strict=True)])}]"
         except Refused as why:
-            return odd(cells, str(why))
+            return self.odd(cells, str(why))
         if self.may_be_long and AROUND + size(entry(self.name, "insert", found, COPIES)) > LINE:
-            return odd(cells, f"texts that take a line of more than {LINE:,} bytes")
+            return self.odd(cells, f"texts that take a line of more than {LINE:,} bytes")
         return found
+
+    def odd(self, cells: Sequence[str | None], why: str) -> Odd:
+        """Two are equal if all of their parts are."""
+        one = Odd(f"odd [{','.join(map(self.part, range(len(cells)), cells))}]")
+        one.cells, one.why = list(cells), why
+        return one
 
     def part(self, place: int, text: str | None) -> str:
         """Of a row: another one for each other value, also of those that viewd cannot hold."""

@@ -154,6 +154,9 @@ class Mirrors(unittest.TestCase):
         self.assertTrue(table.fault())
         self.applied(table, Change(FULL, Old(("1", "x" * 1025, "2"), True), ("1", "short", "2"), True))
         self.assertEqual((table.fault(), self.held(table)), ("", {("1", False, 2, "y", False): 1, ("2", False, 1, "short", False): 1}))
+        table = self.table(("1.50", "1", "x"))
+        self.applied(table, Change(KEY, None, ("1", "x" * 1025, UNCHANGED), True), Change(FULL, Old(("1", "x" * 1025, "1.50"), True), ("1", "y", "1.50"), True))
+        self.assertEqual((table.fault(), self.held(table)), ("", {("1.5", False, 1, "y", False): 1}))
 
     def test_keys_that_viewd_cannot_hold(self) -> None:
         days = Relation(7, "public", "days", "d", (pgoutput.Column("day", True, 1082, -1), pgoutput.Column("what", False, 25, -1)))
