@@ -74,7 +74,7 @@ class Follow:
         self.settings, self.gateway = settings, gateway
         self.following: Following | None = None
         self.waiting: deque[Said] = deque()
-        self.certain = 0  # all rows of commits before it are on the gateway's disk
+        self.certain = 0  # all rows of commits before it are on the gateway's disk, or in the first copy
         self.is_away = False
         self.left = 0  # bytes of the log that are not there
         self.level = self.told = time.monotonic()  # when the gateway had all that was known of, and when it was said that it has not
@@ -124,6 +124,7 @@ class Follow:
         except (Anew, Lost, Unreadable) as why:
             self.anew(str(why))
             return
+        self.certain = self.following.begun.steps.certain
         self.door.go_on(self.held.log, self.held.epoch)
         self.left_out = dict(self.following.state.left_out())
         log(f"goes on behind step {self.number}")
@@ -136,6 +137,7 @@ class Follow:
         except Lost as why:  # no further beginning mends it
             raise NotReady(str(why)) from None
         self.waiting.clear()
+        self.certain = self.following.begun.steps.certain
         self.is_away = False
         self.door.begin(self.following.begun.log, secrets.token_hex(16))
         self.first(self.following)
