@@ -1,4 +1,8 @@
 //! The parts of a round in which the log is led: what its keeper has yet to keep is neither written nor told, and no more is read meanwhile.
+ghost use Rattle.std.specs.Prelude.{◌≡◌, false, nat_le};
+ghost use Rattle.iv_gate.specs.Arriving.{position};
+ghost use Rattle.iv_desk.specs.Desks.{IsDesk};
+ghost use Rattle.iv_desk.specs.Front.{Front};
 ghost use Rattle.iv_running.specs.Running.{Leads};
 
 use crate::server::Server;
@@ -40,7 +44,9 @@ impl Server {
         journal: &mut FileJournal,
         kept: u64,
     ) -> Result<(), Fault>
-        ensures { Leads desk.old desk.new }
+        ensures leads { Leads desk.old desk.new }
+        ensures waits { (d : Front) → IsDesk d desk.old → d.gate.dead ≡ false → nat_le (position d.gate) kept ≡ false
+            → (desk.new ≡ desk.old) × (journal.new ≡ journal.old) }
     {
         if desk.position() > kept {
             return Ok(());
@@ -65,15 +71,21 @@ impl Server {
         self.send_before(desk)
     }
 
-    /// Sends what may be sent, first to those who asked, once what they asked is kept; and lets go who is gone.
-    pub fn send_on(&mut self, rt: &HostRuntime, desk: &mut Desk) -> Result<(), Fault>
+    /// Sends what may be sent, first to those who asked, once what they asked is kept.
+    fn send_kept(&mut self, desk: &mut Desk) -> Result<(), Fault>
         ensures { Leads desk.old desk.new }
     {
         if desk.entered().is_empty() {
-            self.send_all(desk)?;
-        } else {
-            self.send_others(desk)?;
+            return self.send_all(desk);
         }
+        self.send_others(desk)
+    }
+
+    /// Sends what may be sent, and lets go who is gone.
+    pub fn send_on(&mut self, rt: &HostRuntime, desk: &mut Desk) -> Result<(), Fault>
+        ensures { Leads desk.old desk.new }
+    {
+        self.send_kept(desk)?;
         self.drop_all(rt, desk)
     }
 }

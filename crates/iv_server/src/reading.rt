@@ -149,6 +149,7 @@ impl Server {
         listen_at(&mut self.sockets, &mut self.admission, desk, at, head)?;
         let hearing = hear(desk, at, head)?;
         self.heed(desk, at, hearing)?;
+        self.note_end(desk, at, false);
         self.asked.push(at)?;
         Ok(())
     }
@@ -198,6 +199,16 @@ impl Server {
         self.share(desk, at)
     }
 
+    /// Bytes of a number were heard. If it is over now, and was not before, they have ended it.
+    fn note_end(&mut self, desk: &Desk, at: u32, was_over: bool) {
+        if was_over || !desk.is_over(at) {
+            return;
+        }
+        if let Some(socket) = self.socket(at) {
+            socket.ended = true;
+        }
+    }
+
     /// The entries that were made since this was last called were made at a number, by who holds its token.
     fn share(&mut self, desk: &Desk, at: u32) -> Result<(), Fault>
         ensures { OnOk result ((d : Front) → IsDesk d desk.now → d.gate.dead ≡ false
@@ -222,8 +233,10 @@ impl Server {
         if !socket.unheard {
             return Ok(!desk.is_over(at));
         }
+        let was_over = desk.is_over(at);
         let hearing = hear_on(desk, at)?;
         self.heed(desk, at, hearing)?;
+        self.note_end(desk, at, was_over);
         Ok(hearing == Hearing::All)
     }
 
@@ -231,6 +244,7 @@ impl Server {
     fn read_once(&mut self, desk: &mut Desk, at: u32) -> Result<bool, Fault>
         ensures { Leads desk.old desk.new }
     {
+        let was_over = desk.is_over(at);
         let (got, hearing) = read_at(&mut self.sockets, &mut self.admission, desk, at)?;
         match got {
             Got::Nothing => {
@@ -246,6 +260,7 @@ impl Server {
             Got::Bytes(count) => {
                 raise(&mut self.counts.read, count as u64);
                 self.heed(desk, at, hearing)?;
+                self.note_end(desk, at, was_over);
                 if self.says_much(at, count) {
                     self.go(at, Why::Late)?;
                     return Ok(false);

@@ -43,11 +43,11 @@ impl Server {
     {
         let until = self.now.saturating_add(ENDING);
         if let Some(socket) = self.socket(at) {
-            let came = socket.came;
+            let (came, why) = (socket.came, socket.why());
             socket.unheard = false;
             socket.finish(until);
             if came {
-                self.counts.end(Why::Told);
+                self.counts.end(why);
             } else {
                 raise(&mut self.counts.refused, 1);
             }
@@ -253,6 +253,19 @@ impl Server {
         }
     }
 
+    /// Tells why the connection of a client ended, which was counted then.
+    fn say_ended(&mut self, rt: &HostRuntime, at: u32) {
+        let now = self.now;
+        let Some(socket) = self.socket(at) else {
+            return;
+        };
+        let (address, came, why) = (socket.address, socket.came, socket.why());
+        if came && self.log.may_say(rt, now) {
+            let words = why.words();
+            let _ = eprintln!(rt; "gateway: {address} goes: {words}");
+        }
+    }
+
     /// Its client goes, if the desk has the connection of the number.
     fn leave_at(&mut self, desk: &mut Desk, at: u32) -> Result<(), Fault>
         ensures { Leads desk.old desk.new }
@@ -290,7 +303,9 @@ impl Server {
             return Ok(());
         }
         self.leave_at(desk, at)?;
-        if kind != Kind::Ending {
+        if kind == Kind::Ending {
+            self.say_ended(rt, at);
+        } else {
             self.say_gone(rt, at, why);
         }
         self.clear(at);

@@ -3,6 +3,7 @@ ghost use Rattle.iv_running.specs.Running.{Leads};
 
 use iv_admission::{Admission, Found, Scout};
 use iv_desk::{Desk, Hearing};
+use iv_host::Why;
 use iv_running::Fault;
 use iv_running::calls::{hear, pass};
 use iv_tokens::Judged;
@@ -55,6 +56,8 @@ pub(crate) struct Socket {
     pub(crate) said: usize,
     /// It has presented a token that is known.
     pub(crate) came: bool,
+    /// What it said has ended it: a close, say.
+    pub(crate) ended: bool,
     /// Since when bytes wait for it and none were taken, in milliseconds.
     pub(crate) stuck: Option<u64>,
     /// When it has to be further, in milliseconds.
@@ -88,6 +91,7 @@ impl Socket {
             judged: None,
             said: 0,
             came: false,
+            ended: false,
             stuck: None,
             until: Some(until),
         }
@@ -182,6 +186,11 @@ impl Socket {
                 _ => None,
             },
         }
+    }
+
+    /// Why the desk's end of it is over.
+    pub(crate) fn why(&self) -> Why {
+        if self.ended { Why::Closed } else { Why::Told }
     }
 
     /// Tells the other end that nothing more comes.
