@@ -90,9 +90,9 @@ def test_nothing_is_sent_before_what_was_written_is_synced(between: pathlib.Path
             synced = int(sizes[0])
         elif call == "send":
             assert synced >= written, "what is not synced is sent, or may be"
-    count = collections.Counter(kinds(calls))
-    print(f"  {asked} writes: {count['write']} writes of the file, {count['sync']} syncs, {count['send']} times something was sent", flush=True)
-    assert count["write"] == count["sync"] < asked / 2 and written == synced == gate.journal.stat().st_size
+    found = collections.Counter(kinds(calls))
+    print(f"  {asked} writes: {found['write']} writes of the file, {found['sync']} syncs, {found['send']} times something was sent", flush=True)
+    assert found["write"] == found["sync"] < asked / 2 and written == synced == gate.journal.stat().st_size
     gate.end()
 
 

@@ -73,7 +73,8 @@ def test_an_append_is_made_once(store: Store) -> None:
 
 def test_what_is_promised_is_shown() -> None:
     """Each row of what OPERATING says of logs names tests that are there."""
-    document, tests = (TOP / "docs/OPERATING.md").read_text(), "".join(it.read_text() for part in ("frontend", "clients") for it in (TOP / part).rglob("test_*.py"))
+    tests = "".join(it.read_text() for at in ("frontend/test", "clients/python/test") for it in (TOP / at).glob("test_*.py"))
+    document = (TOP / "docs/OPERATING.md").read_text()
     rows = [row.split("|") for part in re.findall(r"(?ms)^\|[^\n]*\| shown by.*?\n\n", document) for row in part.splitlines()[2:] if row]
     assert len(rows) > 20
     for row in rows:
