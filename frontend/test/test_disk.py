@@ -35,7 +35,7 @@ def between() -> Iterator[pathlib.Path]:
 class Told(Gateway):
     """A gateway whose calls are told."""
 
-    def __init__(self, between: pathlib.Path, journal: bytes | None = None, **words: int):
+    def __init__(self, between: pathlib.Path, journal: bytes | None = None):
         super().__init__(journal=journal, start=False)
         self.between, self.calls_in = between, self.folder / "calls"
         self.goes_wrong()
@@ -107,8 +107,9 @@ def test_all_is_on_disk_before_it_listens(between: pathlib.Path) -> None:
         before = [it for it in calls[:kinds(calls).index("listen")] if it[0] != "send"]
         of_file = [it for it in before if it[0] in ("write", "cut", "sync")]
         assert of_file[-1] == ("sync", str(gate.journal.stat().st_size)), (what, before)
-        assert "folder" in kinds(before)[("renamed", *kinds(before)).index("renamed"):] and ("renamed" in kinds(before)) == (journal == plain), (what, before)
-        assert ("cut" in kinds(before)) == ("torn" in what), (what, before)
+        names = kinds(before)
+        assert "folder" in (names[names.index("renamed"):] if journal == plain else names), (what, before)
+        assert ("renamed" in names, "cut" in names) == (journal == plain, "torn" in what) or journal is None, (what, before)
         gate.end()
 
 
@@ -130,7 +131,7 @@ def test_a_sync_that_fails_ends_it_and_nobody_was_told(between: pathlib.Path) ->
         assert gate.process.wait(PATIENCE) == 1
         assert all(it in gate.logs[-1].read_text() for it in ("the journal could not be written", "mend its disk"))
         for wire in (mia, ann):
-            assert wire.end() is None and not wire.lines, "what is not on disk was told"
+            assert wire.end() is None and not {*wire.lines} - {'{"alive":true}'}, "what is not on disk was told"
         last = kinds(gate.calls())
         assert last[last.index("write"):] == ["write", "refused", "cut"] and gate.journal.read_bytes() == before
         gate.goes_wrong()
