@@ -322,7 +322,7 @@ def test_a_gateway_that_hangs_before_it_leads(store: Store) -> None:
 
 def test_who_has_nothing_to_do_leads_on(store: Store, monkeypatch: pytest.MonkeyPatch) -> None:
     """From the beginning, and behind a restart, when it has nothing to say of its disk."""
-    monkeypatch.setattr(redis_log, "SILENT", 0.1)
+    monkeypatch.setattr(redis_log, "SILENT", 0.5)  # so many leases: two looks
     machine = Machine(store.url)
     words = [str(it) for it in machine.command()]
     for number in range(2):
@@ -337,7 +337,7 @@ def test_who_has_nothing_to_do_leads_on(store: Store, monkeypatch: pytest.Monkey
         thread = threading.Thread(target=keep, daemon=True)
         thread.start()
         until(lambda: ended or machine.leads() or store.client.exists("desk:lease"), "nobody leads")
-        time.sleep(5)
+        time.sleep(7)
         assert not ended and store.client.exists("desk:lease"), ended
         gateway.process.kill()
         thread.join()
