@@ -208,7 +208,7 @@ def keep(given: argparse.Namespace, gateway: Gateway) -> None:
     """Until something ends. A gateway that is too far behind begins anew. Raises what `Keeper.run` raises, OSError, and Kept."""
     keepers = list[Keeper]()
     while True:
-        seed = Leader(given.seed) if given.seed else None
+        seed = Leader(given.seed, True) if given.seed else None
         if seed and not seed.head():
             raise Damaged(f"{given.seed} has no first line of a journal")
         stream = Log(given.log, given.lease)
@@ -257,7 +257,8 @@ def words() -> argparse.Namespace:
     parser = argparse.ArgumentParser(description=__doc__, formatter_class=argparse.RawDescriptionHelpFormatter)
     parser.add_argument("--follow", action="store_true", help="its gateway never leads")
     parser.add_argument("--lease", type=float, default=5.0, metavar="SECONDS", help="without a sign of who leads, after which another one may (5)")
-    parser.add_argument("--seed", type=pathlib.Path, help="a journal, with which a log begins that has nothing yet: at the first start, of one keeper alone")
+    parser.add_argument("--seed", type=pathlib.Path, help="a journal, of a gateway that leads or follows a log that is lost too, with which one begins that has nothing yet:"
+                        " at the first start, of one keeper alone")
     parser.add_argument("--status", type=int, metavar="PORT", help="of 127.0.0.1, where /state tells how far it is, and /leads is 200 if its gateway leads")
     parser.add_argument("--port", type=int, help="where the gateway listens for its keeper")
     parser.add_argument("--secret-file", type=pathlib.Path, help="the file that the gateway has, too")

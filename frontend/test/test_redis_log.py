@@ -243,6 +243,28 @@ def test_a_log_begins_with_a_compacted_journal(store: Store, here: pathlib.Path)
     machine.end()
 
 
+def test_a_log_that_is_lost_begins_with_a_gateways_journal(store: Store) -> None:
+    """With all steps that it has, by another epoch: names are undecided."""
+    with partied(store, 1, 1, LONG) as party:
+        leader, reader = party.all
+        wire = leader.enter("ann")
+        said = by_name(wire.place, insert(1, "ann"))
+        for request in (said, by_name(wire.place, GONE), by_name(f"{wire.place.partition('.')[0]}.2", insert(2, "ann"))):
+            answer(wire, request)
+        aim = party.equal()
+        for it in party.all:
+            it.rest()
+        epoch = store.client.get("desk:epoch")
+        store.client.flushall()
+        machine = Machine(store.url)
+        machine.more = ["--seed", reader.journal]
+        machine.launch()
+        until(machine.leads, machine.said())
+        assert shown(machine) == aim and store.client.get("desk:epoch") != epoch
+        assert answer(machine.enter("ann"), said) == {"undecided": 103}
+        machine.end()
+
+
 def test_who_holds_fewer_rows_does_not_follow(store: Store) -> None:
     with partied(store, 1, 1) as party:
         ends(Machine(store.url, rows=1024), 1, f"the gateway has --rows 1024, and redis://127.0.0.1:{store.port}/desk was led by one with 1048576")
