@@ -49,6 +49,14 @@ class Leader:
             yield from self.records()
             self.looked, self.next = (0, 0) if self.odd else there, time.monotonic() + AGAIN  # (not where nobody asks for the rest)
 
+    def all(self) -> list[list[bytes]]:
+        """Of the records that are there now what they say, of those that say something. Raises Another, Damaged."""
+        found = [*self.more()]
+        while self.odd:
+            time.sleep(AGAIN)
+            found += self.more()
+        return [it for it in found if it]
+
     def there(self) -> tuple[int, int]:
         try:
             named = os.stat(self.path)

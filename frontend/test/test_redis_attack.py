@@ -244,24 +244,25 @@ def test_a_snapshot_of_another_log_is_not_put(store: Store) -> None:
 
 
 def test_a_step_that_no_gateway_takes(store: Store) -> None:
-    """Of 16 MiB, or with a line that is none: a gateway ends with what is wrong about it, and has what was before."""
+    """Of 16 MiB, or with a line that is none: a gateway ends with what is wrong about it, and has what was before. Once it is taken away all go on."""
     with partied(store, 1, 1) as party:
         leader, reader = party.all
         aim = party.equal()
         for it in party.all:
             it.rest()
-        kept, count = store.client.xrange("desk"), store.count()
+        last, count = store.client.xrevrange("desk", count=1)[0], store.count()
         for lines in (b"x" * (16 << 20), entry(1) + b"\n\n" + entry(2), b'{"lead":true}', b'{"from":9,"step":12}', b'{"open":true}\x00'):
-            digest = hashlib.sha256(kept[-1][1][b"digest"] + lines).hexdigest()[:32]
+            digest = hashlib.sha256(last[1][b"digest"] + lines).hexdigest()[:32]
             store.client.xadd("desk", {"lines": lines, "digest": digest}, f"{count + 1}-0")
             ends(reader, 4, "redis_log: the gateway ")
-            store.client.delete("desk")
-            for identifier, fields in kept:
-                store.client.xadd("desk", fields, identifier)
+            assert store.client.xdel("desk", f"{count + 1}-0") and store.client.execute_command("XSETID", "desk", f"{count}-0")
         for it in party.all:
             it.rests = False
             comes(it)
         assert party.equal() == aim and not reader.begins
+        until(leader.leads, "nobody leads")
+        wire = leader.enter("ann")
+        assert answer(wire, by_name(wire.place, insert(1, "ann")))["answer"] == {"ok": True} and store.count() == count + 1
 
 
 # Gateways.
