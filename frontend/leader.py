@@ -24,8 +24,9 @@ class Another(Exception):
 class Leader:
     """A journal. `count` records behind its head were read, up to the byte `at`."""
 
-    def __init__(self, path: pathlib.Path):
-        """Raises OSError, Damaged."""
+    def __init__(self, path: pathlib.Path, may_follow: bool = False):
+        """One that follows a log itself is read only if it may. Raises OSError, Damaged."""
+        self.may_follow = may_follow
         self.path, self.file = path, os.open(path, os.O_RDONLY)
         self.digest, self.at, self.lines, self.count = bytes(32), 0, 0, -1
         self.epoch = ""
@@ -47,6 +48,14 @@ class Leader:
                 os.fsync(self.file)
             yield from self.records()
             self.looked, self.next = (0, 0) if self.odd else there, time.monotonic() + AGAIN  # (not where nobody asks for the rest)
+
+    def all(self) -> list[list[bytes]]:
+        """Of the records that are there now what they say, of those that say something. Raises Another, Damaged."""
+        found = [*self.more()]
+        while self.odd:
+            time.sleep(AGAIN)
+            found += self.more()
+        return [it for it in found if it]
 
     def there(self) -> tuple[int, int]:
         try:
@@ -87,14 +96,14 @@ class Leader:
         if self.count == 0:
             self.epoch = str(json.loads(b"{" + said[0])["epoch"])
             return []
-        if said[0].startswith((b'"log":', b'"step":')):
+        if said[0].startswith(b'"log":') and not self.may_follow:
             raise Damaged(f"{self.path} follows a log itself: follow that one")
-        self.is_compacted |= said[0].startswith(b'"holder":')
+        self.is_compacted |= said[0].startswith((b'"holder":', b'"log":'))  # names of a log are that one's
         return [line for text in said if (line := self.line(text))]
 
     def line(self, text: bytes) -> bytes:
         """A request, or a name if all that were before it are told."""
-        if text.startswith(b'"holder":') or text.startswith(b'"once":') and self.is_compacted:
+        if text.startswith((b'"holder":', b'"log":', b'"step":')) or text.startswith(b'"once":') and self.is_compacted:
             return b""
         return b"{" + text if text.startswith(b'"once":') else audit.text_of(text).entry
 

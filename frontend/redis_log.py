@@ -63,7 +63,7 @@ class Keeper:
 
     def __init__(self, log: Log, door: Door, may_lead: bool, seed: Leader | None = None):
         self.log, self.door, self.may_lead, self.seed = log, door, may_lead, seed
-        self.sown = [it for it in seed.more() if it] if seed else []  # all are read before it is known whether all names are told
+        self.sown = seed.all() if seed else []  # all are read before it is known whether all names are told
         self.is_open = self.is_away = self.leads = False
         self.rows = 0  # of a table that the gateway can hold
 
@@ -155,7 +155,8 @@ class Keeper:
         """The log ends where it was read to once no step comes: nobody else adds one."""
         while steps := self.ask(self.log.more):
             self.bring(steps)
-        self.sow(self.sown)
+        if self.seed:
+            self.sow(self.sown, self.seed.path)
         self.ask(lambda: self.log.set_rows(self.rows))
         self.door.lead()
         pause, asked = self.log.seconds / 4, time.monotonic()
@@ -191,13 +192,14 @@ class Keeper:
             raise Lost(f"the gateway has said nothing for {silent:.0f} seconds, so its lease is given back")
         self.ask(self.log.renew)
 
-    def sow(self, records: list[list[bytes]]) -> None:
-        """A log begins with these, or goes on with them if it was begun so."""
-        digest = b""
-        for it in records[:self.log.position]:
+    def sow(self, records: list[list[bytes]], path: pathlib.Path) -> None:
+        """A log begins with these, or goes on with them if not all are there. Raises Unfit if it was begun otherwise."""
+        digest, last = b"", min(self.log.position, len(records))
+        for it in records[:last]:
             digest = chain(digest, b"\n".join(it))
-        if digest != self.log.digest:
-            return
+        there = self.log.digest if last == self.log.position else self.ask(lambda: self.log.digest_of(last))
+        if there not in (digest, b""):  # a snapshot may have that step alone
+            raise Unfit(f"{self.log.where} was not begun with {path}: step {last} is another")
         while some := records[self.log.position:self.log.position + SOWN]:
             start = self.log.position
             self.ask(lambda: self.log.append(some))
@@ -208,7 +210,7 @@ def keep(given: argparse.Namespace, gateway: Gateway) -> None:
     """Until something ends. A gateway that is too far behind begins anew. Raises what `Keeper.run` raises, OSError, and Kept."""
     keepers = list[Keeper]()
     while True:
-        seed = Leader(given.seed) if given.seed else None
+        seed = Leader(given.seed, True) if given.seed else None
         if seed and not seed.head():
             raise Damaged(f"{given.seed} has no first line of a journal")
         stream = Log(given.log, given.lease)
@@ -257,7 +259,8 @@ def words() -> argparse.Namespace:
     parser = argparse.ArgumentParser(description=__doc__, formatter_class=argparse.RawDescriptionHelpFormatter)
     parser.add_argument("--follow", action="store_true", help="its gateway never leads")
     parser.add_argument("--lease", type=float, default=5.0, metavar="SECONDS", help="without a sign of who leads, after which another one may (5)")
-    parser.add_argument("--seed", type=pathlib.Path, help="a journal, with which a log begins that has nothing yet: at the first start, of one keeper alone")
+    parser.add_argument("--seed", type=pathlib.Path, help="a journal, with which a log begins that has nothing yet, at the first start, of one keeper alone;"
+                        " one of a gateway that has followed a log that is lost, too")
     parser.add_argument("--status", type=int, metavar="PORT", help="of 127.0.0.1, where /state tells how far it is, and /leads is 200 if its gateway leads")
     parser.add_argument("--port", type=int, help="where the gateway listens for its keeper")
     parser.add_argument("--secret-file", type=pathlib.Path, help="the file that the gateway has, too")

@@ -234,6 +234,11 @@ class Log:
             raise Trimmed(f"step {position} is not there any more")
         self.position, self.digest = position, step_of(found[0]).digest if found else b""
 
+    def digest_of(self, position: int) -> bytes:
+        """Of a step; nothing if it is not there."""
+        found = self.ask(lambda: self.redis.xrange(self.name, f"{position}-0", f"{position}-0"))
+        return step_of(found[0]).digest if found else b""
+
     def last(self) -> int:
         """The last position."""
         found = self.ask(lambda: self.redis.xrevrange(self.name, count=1))

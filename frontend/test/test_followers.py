@@ -18,7 +18,7 @@ import audit
 from followers import FOLLOWER, GUARDED, KEEPER, ROLES, TOGGLES, Chronicle, Follower, Reader, caught_up, comes, has_door, shown
 from names import HOLDERS, WRITERS, Row, Trials, Writer, by_name, rows, token_line
 from test_journal import compacted, needs_viewd
-from trial import BASE, comes_in, insert, serving, until
+from trial import BASE, chained, comes_in, insert, serving, until
 from wire import PATIENCE, Ended, Gateway, Line, Wire
 
 pytestmark = pytest.mark.skipif(not has_door(), reason=f"{FOLLOWER} has no door for logs")
@@ -203,7 +203,8 @@ def test_what_is_no_journal_is_not_followed() -> None:
         lines = good.split(b"\n")[:-1]
         for data, status, told in ((None, 1, "No such file"), (b"", 1, "no first line"), (b'{"as":"admin","do":"create_role","name":"a"}\n', 1, "line 1, at byte 0"),
                                     (good[:len(lines[0]) + 100] + b"x" + good[len(lines[0]) + 101:], 1, f"line 2, at byte {len(lines[0]) + 1}, is not what was written"),
-                                    (b"\n".join([*lines[:3], *lines[4:], b""]), 1, "line 4"), (b"\n".join([*lines[:3], lines[3], lines[3], *lines[4:], b""]), 1, "line 5")):
+                                    (b"\n".join([*lines[:3], *lines[4:], b""]), 1, "line 4"), (b"\n".join([*lines[:3], lines[3], lines[3], *lines[4:], b""]), 1, "line 5"),
+                                    (chained([(True, b'"log":"journal","epoch":"%s","step":0}' % (b"0" * 32))], json.loads(b"{" + lines[0][75:])["epoch"].encode()), 1, "follows a log itself")):
             follower.leader = Gateway(start=False)
             if data is not None:
                 follower.leader.journal.write_bytes(data)

@@ -8,6 +8,7 @@ import contextlib
 import hashlib
 import io
 import json
+import pathlib
 import re
 import shutil
 import signal
@@ -154,6 +155,31 @@ def test_an_append_goes_behind_what_was_read(store: Store) -> None:
     assert store.count() == 0
 
 
+def test_a_redis_that_loses_its_end(store: Store) -> None:
+    """Its last step, as a disk may that has not kept what it said to be synced: gateways that have it end, and begin anew; what was lost can be done again, once."""
+    with partied(store, 1, 1) as party:
+        leader, reader = party.all
+        wire = leader.enter("ann")
+        for number in range(3):
+            assert answer(wire, by_name(wire.place, insert(number, "ann")))["answer"] == {"ok": True}
+        lost = by_name(wire.place, insert(3, "ann"))
+        before = store.count()
+        file = max(pathlib.Path(store.folder.name).glob("appendonlydir/*.incr.aof"), key=lambda it: it.stat().st_mtime)
+        size = file.stat().st_size
+        assert answer(wire, lost)["answer"] == {"ok": True} and party.equal()["ann"][3, "ann"] == 1
+        store.kill()
+        with file.open("r+b") as there:
+            there.truncate(size + 20)
+        store.start()
+        assert store.count() == before
+        for it in party.all:
+            until(lambda: it.statuses["keeper 5"] or it.statuses["keeper 1"], f"its keeper does not end: {it.said()}")
+        until(leader.leads, "nobody leads")
+        wire = leader.enter("ann")
+        assert answer(wire, lost) == {"answer": {"ok": True}, "at": wire.place}
+        assert party.equal()["ann"][3, "ann"] == 1 and [it["once"] for it in store.names()].count(json.loads(lost)["once"]) == 1
+
+
 def test_another_log_is_told_each_time(store: Store) -> None:
     """What was asked once and is not what was read there is not asked on."""
     written(store, 5)
@@ -218,24 +244,25 @@ def test_a_snapshot_of_another_log_is_not_put(store: Store) -> None:
 
 
 def test_a_step_that_no_gateway_takes(store: Store) -> None:
-    """Of 16 MiB, or with a line that is none: a gateway ends with what is wrong about it, and has what was before."""
+    """Of 16 MiB, or with a line that is none: a gateway ends with what is wrong about it, and has what was before. Once it is taken away all go on."""
     with partied(store, 1, 1) as party:
         leader, reader = party.all
         aim = party.equal()
         for it in party.all:
             it.rest()
-        kept, count = store.client.xrange("desk"), store.count()
+        last, count = store.client.xrevrange("desk", count=1)[0], store.count()
         for lines in (b"x" * (16 << 20), entry(1) + b"\n\n" + entry(2), b'{"lead":true}', b'{"from":9,"step":12}', b'{"open":true}\x00'):
-            digest = hashlib.sha256(kept[-1][1][b"digest"] + lines).hexdigest()[:32]
+            digest = hashlib.sha256(last[1][b"digest"] + lines).hexdigest()[:32]
             store.client.xadd("desk", {"lines": lines, "digest": digest}, f"{count + 1}-0")
             ends(reader, 4, "redis_log: the gateway ")
-            store.client.delete("desk")
-            for identifier, fields in kept:
-                store.client.xadd("desk", fields, identifier)
+            assert store.client.xdel("desk", f"{count + 1}-0") and store.client.execute_command("XSETID", "desk", f"{count}-0")
         for it in party.all:
             it.rests = False
             comes(it)
         assert party.equal() == aim and not reader.begins
+        until(leader.leads, "nobody leads")
+        wire = leader.enter("ann")
+        assert answer(wire, by_name(wire.place, insert(1, "ann")))["answer"] == {"ok": True} and store.count() == count + 1
 
 
 # Gateways.
@@ -296,7 +323,7 @@ def test_a_gateway_that_hangs_before_it_leads(store: Store) -> None:
 
 def test_who_has_nothing_to_do_leads_on(store: Store, monkeypatch: pytest.MonkeyPatch) -> None:
     """From the beginning, and behind a restart, when it has nothing to say of its disk."""
-    monkeypatch.setattr(redis_log, "SILENT", 0.1)
+    monkeypatch.setattr(redis_log, "SILENT", 0.5)  # so many leases: two looks
     machine = Machine(store.url)
     words = [str(it) for it in machine.command()]
     for number in range(2):
@@ -311,7 +338,7 @@ def test_who_has_nothing_to_do_leads_on(store: Store, monkeypatch: pytest.Monkey
         thread = threading.Thread(target=keep, daemon=True)
         thread.start()
         until(lambda: ended or machine.leads() or store.client.exists("desk:lease"), "nobody leads")
-        time.sleep(5)
+        time.sleep(7)
         assert not ended and store.client.exists("desk:lease"), ended
         gateway.process.kill()
         thread.join()

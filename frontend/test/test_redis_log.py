@@ -23,7 +23,7 @@ from names import answer, by_name, place_of
 from party import LEASE, Machine, StreamChronicle, Struck, ends, partied, toggle, wanderers
 from ports import free_port
 from store import EPOCH, LONG, WORD, Store, Way, entry, opened
-from test_journal import VIEWD, needs_viewd
+from test_journal import VIEWD, has_viewd, needs_viewd
 from trial import BASE, chained, insert, until
 from wire import PATIENCE, TOP, Ended, Line, http
 
@@ -181,6 +181,20 @@ def begun_with() -> tuple[list[tuple[bool, bytes]], str]:
     return [*texts, (True, b'"once":"%s","at":"%s.0","by":"ann/","digest":"%s","done":{"ok":true}}' % words)], name
 
 
+def seeded(store: Store, journal: pathlib.Path) -> Machine:
+    """One that begins the log with a journal. Whatever lease there was has passed."""
+    store.client.delete("desk:lease")
+    it = Machine(store.url, lease=LONG)
+    it.more = ["--seed", journal]
+    return it
+
+
+def led(machine: Machine) -> Machine:
+    machine.launch()
+    until(machine.leads, machine.said())
+    return machine
+
+
 def test_a_log_begins_with_a_journal(store: Store, here: pathlib.Path) -> None:
     """Its requests and names are the first steps, by its epoch. What was begun so and not ended goes on; nothing is added to a log with steps of its own, nor to one
     of another epoch."""
@@ -196,36 +210,47 @@ def test_a_log_begins_with_a_journal(store: Store, here: pathlib.Path) -> None:
             assert log.take()
             log.append([[b"{" + text] for _, text in texts[:begun]])
             log.release()
-        machine = Machine(store.url)
-        machine.more = ["--seed", journal]
-        machine.launch()
-        until(machine.leads, machine.said())
+        machine = led(seeded(store, journal))
         assert store.count() == count and store.client.get("desk:epoch").decode() == EPOCH
         wire = machine.enter("ann")
         assert answer(wire, name) == {"again": True, "answer": {"ok": True}, "at": f"{EPOCH}.1"}
         assert shown(machine)["ann"] == {(1, "ann"): 1}
         machine.end()
     store.client.delete("desk:lease")
-    texts += [(True, b'"as":"admin","do":"create_role","name":"%s"}' % it) for it in (b"eve", b"zed", b"zoe")]
-    journal.write_bytes(chained(texts))
     other = opened(store)
     while other.more():
         pass
     assert other.take()
     other.append([[entry(2)]])
     other.release()
-    machine = Machine(store.url)
-    machine.more = ["--seed", journal]
-    machine.launch()
-    until(machine.leads, machine.said())
-    assert store.count() == count + 1
-    machine.end()
+    led(seeded(store, journal)).end()  # its keeper comes again
+    more = [(True, b'"as":"admin","do":"create_role","name":"%s"}' % it) for it in (b"eve", b"zed", b"zoe")]
+    for some, step in ((texts + more, count + 1), (texts[1:], count - 1)):
+        journal.write_bytes(chained(some))
+        ends(seeded(store, journal), 1, f"was not begun with {journal}: step {step} is another")
+    assert store.count() == count + 1 and not store.client.exists("desk:lease")
     journal.write_bytes(chained(texts, EPOCH[::-1].encode()))
     store.client.delete("desk")
-    machine = Machine(store.url)
-    machine.more = ["--seed", journal]
-    ends(machine, 1, "was not begun with")
+    ends(seeded(store, journal), 1, "was not begun with")
     assert store.count() == 0
+
+
+def test_a_log_begins_with_a_whole_journal(store: Store, here: pathlib.Path) -> None:
+    """Not with what stands before a line that is damaged; what is not whole at the end was never acknowledged."""
+    whole, journal = chained(begun_with()[0]), here / "journal"
+    lines = whole.split(b"\n")
+    at = len(b"\n".join(lines[:3])) + 1
+    for bad, words in ((whole[:at + 90] + b"x" + whole[at + 91:], f"line 4, at byte {at}, is not what was written"),
+                       (b"\n".join([*lines[:3], *lines[4:]]), f"line 4, at byte {at}, is not what was written"), (b"", "has no first line of a journal")):
+        journal.write_bytes(bad)
+        ends(seeded(store, journal), 1, words)
+    assert not store.client.keys("*")
+    for some in (whole[:-30], whole[:-1 - len(lines[-2])]):
+        store.client.flushall()
+        journal.write_bytes(some)
+        machine = led(seeded(store, journal))
+        assert store.steps() == [[b"{" + text] for _, text in begun_with()[0][:len(BASE)]]
+        machine.end()
 
 
 def test_a_log_begins_with_a_compacted_journal(store: Store, here: pathlib.Path) -> None:
@@ -233,14 +258,30 @@ def test_a_log_begins_with_a_compacted_journal(store: Store, here: pathlib.Path)
     texts, name = begun_with()
     journal = here / "journal"
     journal.write_bytes(chained([(True, b'"holder":"ann/","at":"%s.0"}' % EPOCH.encode()), *texts]))
-    machine = Machine(store.url, lease=LONG)
-    machine.more = ["--seed", journal]
-    machine.launch()
-    until(machine.leads, machine.said())
+    machine = led(seeded(store, journal))
     assert store.count() == len(BASE) + 1 and store.client.get("desk:epoch").decode() != EPOCH
     assert answer(machine.enter("ann"), name) == {"undecided": 103}
     assert shown(machine)["ann"] == {(1, "ann"): 1}
     machine.end()
+
+
+def test_a_log_that_is_lost_begins_with_a_gateways_journal(store: Store) -> None:
+    """With all steps that it has, by another epoch: names are undecided."""
+    with partied(store, 1, 1, LONG) as party:
+        leader, reader = party.all
+        wire = leader.enter("ann")
+        said = by_name(wire.place, insert(1, "ann"))
+        for request in (said, by_name(wire.place, GONE), by_name(f"{wire.place.partition('.')[0]}.2", insert(2, "ann"))):
+            answer(wire, request)
+        aim = party.equal()
+        for it in party.all:
+            it.rest()
+        epoch = store.client.get("desk:epoch")
+        store.client.delete("desk", *store.client.scan_iter("desk:*"))
+        machine = led(seeded(store, reader.journal))
+        assert shown(machine) == aim and store.client.get("desk:epoch") != epoch
+        assert answer(machine.enter("ann"), said) == {"undecided": 103}
+        machine.end()
 
 
 def test_who_holds_fewer_rows_does_not_follow(store: Store) -> None:
@@ -531,6 +572,14 @@ def test_a_view_that_is_too_large_ends_alone(store: Store) -> None:
         assert not reader.statuses and not leader.statuses
 
 
+def agree(*journals: pathlib.Path) -> tuple[int, str]:
+    """Status and words of `frontend/agree`."""
+    words: list[Any] = [TOP / "frontend/agree", "--viewd", VIEWD, "--rows", "1048576", *journals]
+    done = subprocess.run(words, capture_output=True, text=True, stdin=subprocess.DEVNULL)
+    assert "Traceback" not in done.stderr, done
+    return done.returncode, done.stdout + done.stderr
+
+
 @needs_viewd
 def test_agree_sees_a_difference(store: Store, here: pathlib.Path) -> None:
     with partied(store, 2, 2) as party:
@@ -538,12 +587,6 @@ def test_agree_sees_a_difference(store: Store, here: pathlib.Path) -> None:
         for it in party.all:
             it.rests = True
         party.equal()
-
-        def agree(*journals: pathlib.Path) -> tuple[int, str]:
-            words: list[Any] = [TOP / "frontend/agree", "--viewd", VIEWD, "--rows", "1048576", *journals]
-            done = subprocess.run(words, capture_output=True, text=True, stdin=subprocess.DEVNULL)
-            assert "Traceback" not in done.stderr, done
-            return done.returncode, done.stdout + done.stderr
         count, journals = store.count(), [it.journal for it in party.all]
         status, said = agree(*journals)
         assert status == 0 and re.fullmatch(f"4 gateways agree at step {count}: [0-9a-f]{{64}}\n", said), said
@@ -570,7 +613,7 @@ def test_agree_sees_a_difference(store: Store, here: pathlib.Path) -> None:
 def test_nothing_is_lost_or_twice(store: Store, seconds: float) -> None:
     """Gateways, keepers and Redis are killed, stopped and cut off while clients write at all and read at all: each request that is answered is there exactly
     once, each that is refused is not; what each reader is told adds up, at each `settled`, to what its role sees after some step, and never to one before that;
-    and at the end all gateways show what the steps lead to."""
+    and at the end all gateways show what the steps lead to, and their journals agree."""
     with partied(store, 2, 3, by_port=True, ways=True) as party:
         readers = [Reader(it, role) for it in party.all for role in ROLES]
         stop = threading.Event()
@@ -585,6 +628,9 @@ def test_nothing_is_lost_or_twice(store: Store, seconds: float) -> None:
             stop.set()
         threads[-1].join()
         rows = party.equal()["ann"]
+        if has_viewd():
+            status, told = agree(*(it.journal for it in party.all))
+            assert status == 0 and told.startswith("5 gateways agree at step "), told
         until(lambda: left(readers, threads), "a reader stays")
         assert not [it.fault for it in readers if it.fault], [it.fault for it in readers]
         trials.account({row: copies for row, copies in rows.items() if row[1] == "ann"})
