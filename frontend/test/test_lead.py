@@ -142,7 +142,7 @@ def test_what_was_not_kept_is_nowhere(here: pathlib.Path) -> None:  # noqa: F811
     mia.say(by_name(f"{EPOCH}.0", WRITE, name, 1))
     told(keeper)
     keeper.taken.close()
-    assert keeper.process.wait() == 4
+    assert keeper.process.wait(PATIENCE) == 4
     assert "its keeper has gone, and the gateway led it" in keeper.said()
     with pytest.raises(Ended):
         reply(mia)
