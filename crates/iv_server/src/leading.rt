@@ -1,4 +1,8 @@
 //! The parts of a round in which the log is led: what its keeper has yet to keep is neither written nor told, and no more is read meanwhile.
+ghost use Rattle.std.specs.Prelude.{◌≡◌, false, nat_le};
+ghost use Rattle.iv_gate.specs.Arriving.{position};
+ghost use Rattle.iv_desk.specs.Desks.{IsDesk};
+ghost use Rattle.iv_desk.specs.Front.{Front};
 ghost use Rattle.iv_running.specs.Running.{Leads};
 
 use crate::server::Server;
@@ -40,7 +44,9 @@ impl Server {
         journal: &mut FileJournal,
         kept: u64,
     ) -> Result<(), Fault>
-        ensures { Leads desk.old desk.new }
+        ensures leads { Leads desk.old desk.new }
+        ensures waits { (d : Front) → IsDesk d desk.old → d.gate.dead ≡ false → nat_le (position d.gate) kept ≡ false → desk.new ≡ desk.old }
+        ensures unkept { (d : Front) → IsDesk d desk.old → d.gate.dead ≡ false → nat_le (position d.gate) kept ≡ false → journal.new ≡ journal.old }
     {
         if desk.position() > kept {
             return Ok(());
