@@ -72,13 +72,13 @@ pub record House : Type 0 where
   pub may : Bool
   pub lead : Option Lead
 
--- what an act does: the texts of a step are followed as one record; clients may come in; nobody may, and all are closed; the gateway leads; what
--- it has decided is kept; else nothing
+-- what an act does: the texts of a step are followed as one record; clients may come in; nobody may, and all are closed; the gateway, which has
+-- led no log, leads; what it has decided is kept; else nothing
 abbrev pub IsHeeded : Option Log → Act → House → House → Type 0
 IsHeeded log (ended from to texts) x y = (l : Log) × (log ≡ Some l) × IsFollowed l from (record_of texts) x.desk y.desk × (y ≡ record x { desk = y.desk })
 IsHeeded log opened x y = y ≡ record x { may = true }
 IsHeeded log shut x y = Leads x.desk y.desk × (y ≡ record x { desk = y.desk; may = false })
-IsHeeded log led x y = (a : Lead) × IsLed x.desk y.desk a × (y ≡ record x { desk = y.desk; lead = Some a })
+IsHeeded log led x y = (x.lead ≡ None) × (a : Lead) × IsLed x.desk y.desk a × (y ≡ record x { desk = y.desk; lead = Some a })
 IsHeeded log (kept n) x y = (a : Lead) × (x.lead ≡ Some a) × (b : Lead) × IsKept n a b × (y ≡ record x { lead = Some b })
 IsHeeded log _ x y = y ≡ x
 
