@@ -177,7 +177,12 @@ pub fn push_words(out: &mut Vec<u8>, fault: &Fault) -> Result<(), AllocError>
             b" may have an answer already",
         ),
         Fault::NotDecided(kept, from, to) => push_undecided(out, *kept, *from, *to),
-        Fault::DecidedHere(to) => push_with(out, b"step ", *to, b" is brought, and the gateway leads"),
+        Fault::DecidedHere(to) => push_with(
+            out,
+            b"step ",
+            *to,
+            b" is brought, and the gateway leads",
+        ),
         Fault::Memory => Ok(()),
     }
 }
