@@ -63,7 +63,7 @@ fn first_handed(
     requires { known.old.handed ≡ None }
     ensures tokens { IfOk result (λ ts. ts.items ≡ known_at second known.new) }
     ensures handed { OnOk result (handed_on known.new ≡ Some (known_at second known.new)) }
-    ensures keeps { (known.new.entries ≡ known.old.entries) × (known.new.web ≡ known.old.web) }
+    ensures keeps { (known.new.entries ≡ known.old.entries) × (known.new.secret ≡ known.old.secret) × (known.new.web ≡ known.old.web) }
 {
     match known.at(alloc, second)? {
         Some(tokens) => Ok(tokens),
@@ -79,7 +79,8 @@ impl Admission {
         entries: Vec<Entry>,
         second: u64,
     ) -> Result<(Admission, Vec<Token>), AllocError>
-        ensures { IfOk result (λ p. IsBegun entries.items p.0 p.1.items) }
+        ensures begun { IfOk result (λ p. IsBegun entries.items p.0 p.1.items) }
+        ensures secret { IfOk result (λ p. p.0.known.secret ≡ secret.items) }
     {
         let judges = !secret.is_empty();
         let mut known = KnownTokens::new(alloc, secret, entries);

@@ -21,6 +21,7 @@ pub data Fault : Type 0 where
   not_accepted : (entry to refusal : ℕ) → Fault
   not_new : (name to : ℕ) → Fault
   not_decided : (kept from to : ℕ) → Fault
+  decided_here : (to : ℕ) → Fault
 
 -- ---- words
 
@@ -36,6 +37,7 @@ words_of (no_entry line to) = codes "line " ++ (decimal line ++ (codes " of step
 words_of (not_accepted entry to refusal) = codes "entry " ++ (decimal entry ++ (codes " of step " ++ (decimal to ++ (codes " is refused by " ++ decimal refusal))))
 words_of (not_new name to) = codes "name " ++ (decimal name ++ (codes " of step " ++ (decimal to ++ codes " may have an answer already")))
 words_of (not_decided kept from to) = codes "kept " ++ (decimal kept ++ (codes " is not from " ++ (decimal from ++ (codes " to " ++ decimal to))))
+words_of (decided_here to) = codes "step " ++ (decimal to ++ codes " is brought, and the gateway leads")
 
 -- ---- lines
 

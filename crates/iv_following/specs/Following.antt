@@ -16,7 +16,7 @@ use Rattle.iv_desk.specs.Desks.{IsDesk}
 use Rattle.iv_desk.specs.Front.{Front, by_event}
 use Rattle.iv_desk.specs.declared.desk.Desk.{Desk}
 use Rattle.iv_door.specs.Said as door
-use Rattle.iv_door.specs.Answers.{Fault, gap, no_entry, not_accepted, not_new, other_log, recalled}
+use Rattle.iv_door.specs.Answers.{Fault, decided_here, gap, no_entry, not_accepted, not_new, other_log, recalled}
 use Rattle.iv_door.specs.Leading.{lines_from}
 use Rattle.iv_door.specs.Talk.{Act, Hears, Talk, acts, ended, kept, led, nothing, opened, shut}
 use Rattle.iv_running.specs.Logs.{HasLines, recalled_in}
@@ -34,6 +34,7 @@ IsNumberOf why n = get (codes "error") (object (refused_members why)) ≡ Some (
 
 -- what a keeper is told of the gateway's fault of a step
 abbrev pub IsToldOf : (log : Log) (from to : ℕ) → gate.Fault → Fault → Type 0
+IsToldOf log from to gate.decided_here f = f ≡ decided_here to
 IsToldOf log from to gate.other_log f = f ≡ other_log (said_log log)
 IsToldOf log from to (gate.gap position) f = f ≡ gap to from position
 IsToldOf log from to (gate.not_accepted entry why) f = (n : ℕ) × IsNumberOf why n × (f ≡ not_accepted entry to n)
@@ -72,13 +73,13 @@ pub record House : Type 0 where
   pub may : Bool
   pub lead : Option Lead
 
--- what an act does: the texts of a step are followed as one record; clients may come in; nobody may, and all are closed; the gateway leads; what
--- it has decided is kept; else nothing
+-- what an act does: the texts of a step are followed as one record; clients may come in; nobody may, and all are closed; the gateway, which has
+-- led no log, leads; what it has decided is kept; else nothing
 abbrev pub IsHeeded : Option Log → Act → House → House → Type 0
 IsHeeded log (ended from to texts) x y = (l : Log) × (log ≡ Some l) × IsFollowed l from (record_of texts) x.desk y.desk × (y ≡ record x { desk = y.desk })
 IsHeeded log opened x y = y ≡ record x { may = true }
 IsHeeded log shut x y = Leads x.desk y.desk × (y ≡ record x { desk = y.desk; may = false })
-IsHeeded log led x y = (a : Lead) × IsLed x.desk y.desk a × (y ≡ record x { desk = y.desk; lead = Some a })
+IsHeeded log led x y = (x.lead ≡ None) × (a : Lead) × IsLed x.desk y.desk a × (y ≡ record x { desk = y.desk; lead = Some a })
 IsHeeded log (kept n) x y = (a : Lead) × (x.lead ≡ Some a) × (b : Lead) × IsKept n a b × (y ≡ record x { lead = Some b })
 IsHeeded log _ x y = y ≡ x
 

@@ -43,3 +43,12 @@ is_known (Unknown said until) = false
 
 abbrev pub has_keeper : Option Guest → Bool
 has_keeper o = if_some o false (λ g. is_known g.stage)
+
+-- it has said that the gateway leads
+abbrev pub has_led : Stage → Bool
+has_led (Known k) = k.talk.leads
+has_led (Unknown said until) = false
+
+-- the keeper is there that has
+abbrev pub has_leader : Option Guest → Bool
+has_leader o = if_some o false (λ g. has_led g.stage)

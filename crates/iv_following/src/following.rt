@@ -1,7 +1,7 @@
 //! `Following`: the log that is followed, and who has come as its keeper.
-ghost use Rattle.std.specs.Prelude.{◌≡◌, OnOk, false};
+ghost use Rattle.std.specs.Prelude.{◌≡◌, OnOk, false, is_some, true};
 ghost use Rattle.iv_running.specs.Running.{Leads};
-ghost use Rattle.iv_following.specs.Guests.{has_keeper};
+ghost use Rattle.iv_following.specs.Guests.{has_keeper, has_leader};
 
 use crate::guest::{Guest, Stage};
 use crate::keeper::{Keeper, Means};
@@ -146,7 +146,7 @@ impl Following {
     }
 
     /// Whether a keeper is there.
-    pub(crate) fn has_keeper(&self) -> bool
+    fn has_keeper(&self) -> bool
         ensures { result ≡ has_keeper self.now.guest }
     {
         match &self.guest {
@@ -178,7 +178,8 @@ impl Following {
 
     /// The next round is to come at once if something may be read now.
     fn hurry(&mut self)
-        ensures { self.new.guest ≡ self.old.guest }
+        ensures guest { self.new.guest ≡ self.old.guest }
+        ensures means { self.new.means ≡ self.old.means }
     {
         if let Some(guest) = &self.guest {
             if guest.is_read() {
@@ -202,6 +203,7 @@ impl Following {
     ) -> Result<bool, Fault>
         ensures leads { Leads desk.old desk.new }
         ensures shut { OnOk result (has_keeper self.new.guest ≡ false → server.new.open ≡ false) }
+        ensures over { OnOk result (is_some self.new.means.lead ≡ true → has_leader self.new.guest ≡ true) }
     {
         self.again = false;
         self.note(events);

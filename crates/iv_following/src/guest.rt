@@ -2,7 +2,7 @@
 ghost use Rattle.std.specs.Prelude.{◌≡◌, ◌++◌, IfOk, OnOk, Some, option_map};
 ghost use Rattle.iv_door.specs.Talk.{at_start};
 ghost use Rattle.iv_following.specs.Following.{said_log};
-ghost use Rattle.iv_following.specs.Guests.{IsGuest, is_known};
+ghost use Rattle.iv_following.specs.Guests.{IsGuest, has_led, is_known};
 
 use crate::keeper::{Keeper, Means};
 use crate::shown::{Shown, shown_in};
@@ -109,6 +109,16 @@ impl Guest {
     {
         match &self.stage {
             Stage::Known(_) => true,
+            Stage::Unknown(_, _) => false,
+        }
+    }
+
+    /// Whether it is the keeper, and has said that the gateway leads.
+    pub(crate) fn has_led(&self) -> bool
+        ensures { result ≡ has_led self.now.stage }
+    {
+        match &self.stage {
+            Stage::Known(keeper) => keeper.talk.leads(),
             Stage::Unknown(_, _) => false,
         }
     }

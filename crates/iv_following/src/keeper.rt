@@ -1,9 +1,9 @@
 //! `Keeper`: what a keeper says, and what is done with that; `Means`: what that is done with.
-ghost use Rattle.std.specs.Prelude.{◌≡◌, [], IfOk, OnOk, Some, false, map, option_map, true};
+ghost use Rattle.std.specs.Prelude.{◌≡◌, [], IfOk, None, OnOk, Some, false, map, option_map, true};
 ghost use Rattle.iv_door.specs.Talk.{at_start, ended};
 ghost use Rattle.iv_door.specs.Views.{act_of};
 ghost use Rattle.iv_running.specs.Running.{Leads};
-ghost use Rattle.iv_following.specs.Following.{HeedsAll, IsHeard, IsHeeded, IsKept, Lead as Leading, said_log};
+ghost use Rattle.iv_following.specs.Following.{HeedsAll, IsHeard, IsHeeded, IsKept, IsLed, Lead as Leading, said_log};
 
 use crate::leading::{Lead, begin_to_lead};
 use crate::logs::said_logs;
@@ -86,6 +86,22 @@ fn end_step(
     }
 }
 
+/// The gateway leads the log, if it did not.
+fn take_lead(means: &mut Means, desk: &mut Desk, told: &mut Told) -> Result<(), Fault>
+    ensures leads { Leads desk.old desk.new }
+    ensures led { OnOk result ((means.old.lead ≡ None) × (a : Leading) × IsLed desk.old desk.new a × (means.new.lead ≡ Some a)) }
+    ensures same { means.new.log ≡ means.old.log }
+{
+    match &means.lead {
+        Some(_) => Err(Fault::Desk),
+        None => {
+            means.lead = Some(begin_to_lead(desk));
+            told.leads = true;
+            Ok(())
+        }
+    }
+}
+
 /// What was decided is in the log up to a position.
 fn keep(means: &mut Means, told: &mut Told, position: u64) -> Result<(), Fault>
     ensures kept { OnOk result ((a : Leading) × (means.old.lead ≡ Some a) × (b : Leading) × IsKept position a b × (means.new.lead ≡ Some b)) }
@@ -124,11 +140,7 @@ fn heed(
             Ok(())
         }
         Act::Shut => server.shut(desk),
-        Act::Led => {
-            means.lead = Some(begin_to_lead(desk));
-            told.leads = true;
-            Ok(())
-        }
+        Act::Led => take_lead(means, desk, told),
         Act::Kept(position) => keep(means, told, position),
     }
 }

@@ -71,14 +71,15 @@ impl Told {
     pub(crate) fn lead(&mut self, desk: &Desk) -> Result<(), AllocError>
         ensures told { OnOk result ((d : Front) → IsDesk d desk.now → d.gate.dead ≡ false → self.new.out.items ≡ self.old.out.items ++ (if self.old.leads
             then (if self.old.owes then on_disk (settled_at d.gate) ++ 10 ∷ [] else []) ++ (answer.leads (settled_at d.gate) ++ 10 ∷ []) else [])) }
+        ensures once { OnOk result (self.new.leads ≡ false) }
     {
         if !self.leads {
             return Ok(());
         }
-        self.leads = false;
         self.settle(desk)?;
         push_leads(&mut self.out, desk.settled_at())?;
         self.out.push(b'\n')?;
+        self.leads = false;
         Ok(())
     }
 

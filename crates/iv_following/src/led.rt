@@ -1,6 +1,7 @@
 //! What the keeper of a log that is led is told in a round, and that the gateway is over once that keeper has gone.
-ghost use Rattle.std.specs.Prelude.{◌≡◌, ◌^◌, ◌-◌, is_some};
+ghost use Rattle.std.specs.Prelude.{◌≡◌, ◌^◌, ◌-◌, OnOk, is_some, true};
 ghost use Rattle.iv_rows.specs.Options.{if_some};
+ghost use Rattle.iv_following.specs.Guests.{has_leader};
 
 use crate::following::Following;
 use crate::guest::{Guest, Stage};
@@ -68,9 +69,22 @@ impl Following {
         }
     }
 
-    /// Who leads is over once its keeper has gone: what was decided and not kept is in no file, and nobody was told.
-    pub(crate) fn is_over(&self) -> Result<(), Fault> {
-        if !self.leads() || self.has_keeper() {
+    /// Whether the keeper is there that has said that the gateway leads.
+    fn has_leader(&self) -> bool
+        ensures { result ≡ has_leader self.now.guest }
+    {
+        match &self.guest {
+            Some(guest) => guest.has_led(),
+            None => false,
+        }
+    }
+
+    /// Who leads is over once the keeper has gone that said so: what was decided and not kept is in no file, and nobody was told. Another one
+    /// has not said it.
+    pub(crate) fn is_over(&self) -> Result<(), Fault>
+        ensures { OnOk result (is_some self.now.means.lead ≡ true → has_leader self.now.guest ≡ true) }
+    {
+        if !self.leads() || self.has_leader() {
             return Ok(());
         }
         let _ = eprintln!(self.means.rt;

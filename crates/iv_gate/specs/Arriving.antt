@@ -23,9 +23,10 @@ pub record Step : Type 0 where
   pub requests : List Request
   pub names : List Named
 
--- why one is not taken: it is of another log; it does not begin at the position; a request of it is refused; a name of it may have an answer
--- already. Requests and names count from 1
+-- why one is not taken: the gateway decides the log itself; it is of another log; it does not begin at the position; a request of it is refused; a
+-- name of it may have an answer already. Requests and names count from 1
 pub data Fault : Type 0 where
+  decided_here : Fault
   other_log : Fault
   gap : (position : ℕ) → Fault
   not_accepted : (request : ℕ) → Refusal → Fault
@@ -59,10 +60,11 @@ was_taken g s = if_some g.head.log false (is_log s.log) && nat_le s.to (position
 
 abbrev pub fault_of : Gate → Step → Option Fault
 fault_of g s =
+    if g.leads then Some decided_here else (
     if was_taken g s then None else (
     if not (if_some g.head.log false (is_log s.log)) then Some other_log else (
     if not ((s.from == position g) && nat_lt s.from s.to) then Some (gap (position g)) else (
-    if_some (first_known 1 s.names (known_of g)) (option_map (λ p. not_accepted p.0 p.1) (first_refused 1 (map fact_of s.requests) (shared g.machine))) Some)))
+    if_some (first_known 1 s.names (known_of g)) (option_map (λ p. not_accepted p.0 p.1) (first_refused 1 (map fact_of s.requests) (shared g.machine))) Some))))
 
 -- what the journal is to have of it
 abbrev pub entry_of : Step → Entry
