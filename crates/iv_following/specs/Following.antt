@@ -43,23 +43,27 @@ pub data IsTold (log : Log) (from to : ℕ) (lines : List Line) (g : Gate) : Fau
 
 -- ---- acts
 
--- what an act does to the desk, and to whether clients may come in: the texts of a step are followed as one record; clients may come in; nobody
--- may, and all are closed; else nothing
-abbrev pub IsHeeded : Option Log → Act → Desk → (may : Bool) → Desk → (may : Bool) → Type 0
-IsHeeded log (ended from to texts) x o y p = (l : Log) × (log ≡ Some l) × IsFollowed l from (record_of texts) x y × (p ≡ o)
-IsHeeded log opened x o y p = (y ≡ x) × (p ≡ true)
-IsHeeded log shut x o y p = Leads x y × (p ≡ false)
-IsHeeded log _ x o y p = (y ≡ x) × (p ≡ o)
+-- the desk, and whether clients may come in
+pub record House : Type 0 where
+  pub desk : Desk
+  pub may : Bool
+
+-- what an act does: the texts of a step are followed as one record; clients may come in; nobody may, and all are closed; else nothing
+abbrev pub IsHeeded : Option Log → Act → House → House → Type 0
+IsHeeded log (ended from to texts) x y = (l : Log) × (log ≡ Some l) × IsFollowed l from (record_of texts) x.desk y.desk × (y ≡ record x { desk = y.desk })
+IsHeeded log opened x y = y ≡ record x { may = true }
+IsHeeded log shut x y = Leads x.desk y.desk × (y ≡ record x { desk = y.desk; may = false })
+IsHeeded log _ x y = y ≡ x
 
 -- no line is there to be heard, or one was heard and heeded
-abbrev pub IsHeard : Option Log → Bool → Talk → Talk → Desk → Bool → Desk → Bool → Type 0
-IsHeard log false t u x o y p = Hears t (nothing, u) × (y ≡ x) × (p ≡ o)
-IsHeard log true t u x o y p = (a : Act) × Hears t (acts a, u) × IsHeeded log a x o y p
+abbrev pub IsHeard : Option Log → Bool → Talk → Talk → House → House → Type 0
+IsHeard log false t u x y = Hears t (nothing, u) × (y ≡ x)
+IsHeard log true t u x y = (a : Act) × Hears t (acts a, u) × IsHeeded log a x y
 
 -- lines are heard and heeded, one after another, and nothing else is done
-pub data HeedsAll (log : Option Log) (t : Talk) (x : Desk) (o : Bool) : Talk → Desk → Bool → Type 0 where
-  none_yet : HeedsAll log t x o t x o
-  one_more : (is : Bool) (u v : Talk) (y z : Desk) (p q : Bool) → HeedsAll log t x o u y p → IsHeard log is u v y p z q → HeedsAll log t x o v z q
+pub data HeedsAll (log : Option Log) (t : Talk) (x : House) : Talk → House → Type 0 where
+  none_yet : HeedsAll log t x t x
+  one_more : (is : Bool) (u v : Talk) (y z : House) → HeedsAll log t x u y → IsHeard log is u v y z → HeedsAll log t x v z
 
 -- ---- what is told
 

@@ -1,8 +1,9 @@
 //! `Keeper`: what a keeper says, and what is done with that; `Means`: what that is done with.
-ghost use Rattle.std.specs.Prelude.{◌≡◌, [], IfOk, OnOk, false, map, option_map, true};
+ghost use Rattle.std.specs.Prelude.{◌≡◌, [], IfErr, IfOk, OnOk, false, map, option_map, true};
 ghost use Rattle.iv_door.specs.Talk.{at_start, ended};
 ghost use Rattle.iv_door.specs.Views.{act_of};
 ghost use Rattle.iv_running.specs.Running.{Leads};
+ghost use Rattle.iv_following.specs.Failing.{IsBroken, IsUnheard, IsUnheeded, IsUntaken};
 ghost use Rattle.iv_following.specs.Following.{HeedsAll, IsHeard, IsHeeded, said_log};
 
 use crate::logs::said_logs;
@@ -57,12 +58,16 @@ fn end_step(
     texts: &[Vec<u8>],
 ) -> Result<(), Fault>
     ensures leads { Leads desk.old desk.new }
-    ensures heeded { OnOk result (IsHeeded means.old.log (ended from to (map (λ v. v.items) texts.now)) desk.old server.old.open desk.new server.new.open) }
+    ensures heeded { OnOk result (IsHeeded means.old.log (ended from to (map (λ v. v.items) texts.now))
+        (record { desk = desk.old; may = server.old.open }) (record { desk = desk.new; may = server.new.open })) }
     ensures owed { OnOk result (told.new.owes ≡ true) }
+    ensures fault { IfErr result (IsUntaken means.old.log from to (map (λ v. v.items) texts.now) desk.old told.old.out.items told.new.out.items) }
+    ensures may { server.new.open ≡ server.old.open }
     ensures same { means.new.log ≡ means.old.log }
 {
-    let Some(log) = &means.log else {
-        return Err(Fault::Desk);
+    let log = match &means.log {
+        None => return Err(Fault::Desk),
+        Some(log) => log,
     };
     told.owes = true;
     match take_step(
@@ -74,10 +79,7 @@ fn end_step(
         texts,
         &mut means.scratch,
     ) {
-        Ok(()) => match server.share_none(desk) {
-            Ok(()) => Ok(()),
-            Err(fault) => Err(fault),
-        },
+        Ok(()) => server.share_none(desk),
         Err(fault) => Err(told.fail(&means.rt, &fault)),
     }
 }
@@ -91,7 +93,9 @@ fn heed(
     act: Act,
 ) -> Result<(), Fault>
     ensures leads { Leads desk.old desk.new }
-    ensures heeded { OnOk result (IsHeeded means.old.log (act_of act) desk.old server.old.open desk.new server.new.open) }
+    ensures heeded { OnOk result (IsHeeded means.old.log (act_of act) (record { desk = desk.old; may = server.old.open }) (record { desk = desk.new; may = server.new.open })) }
+    ensures fault { IfErr result (λ f. IsUnheeded means.old.log (act_of act) (record { desk = desk.old; may = server.old.open }) told.old.out.items
+        f (record { desk = desk.new; may = server.new.open }) told.new.out.items) }
     ensures same { means.new.log ≡ means.old.log }
 {
     match act {
@@ -131,7 +135,9 @@ impl Keeper {
         server: &mut Server,
     ) -> Result<bool, Fault>
         ensures leads { Leads desk.old desk.new }
-        ensures heard { IfOk result (λ is. IsHeard means.old.log is self.old.talk self.new.talk desk.old server.old.open desk.new server.new.open) }
+        ensures heard { IfOk result (λ is. IsHeard means.old.log is self.old.talk self.new.talk (record { desk = desk.old; may = server.old.open }) (record { desk = desk.new; may = server.new.open })) }
+        ensures fault { IfErr result (λ f. IsUnheard means.old.log self.old.talk (record { desk = desk.old; may = server.old.open }) self.old.told.out.items
+            f (record { desk = desk.new; may = server.new.open }) self.new.told.out.items) }
         ensures same { means.new.log ≡ means.old.log }
     {
         match self.talk.hear() {
@@ -155,7 +161,11 @@ impl Keeper {
         server: &mut Server,
     ) -> Result<bool, Fault>
         ensures leads { Leads desk.old desk.new }
-        ensures heeds { OnOk result (HeedsAll means.old.log self.old.talk desk.old server.old.open self.new.talk desk.new server.new.open) }
+        ensures heeds { OnOk result (HeedsAll means.old.log self.old.talk (record { desk = desk.old; may = server.old.open })
+            self.new.talk (record { desk = desk.new; may = server.new.open })) }
+        ensures breaks { IfErr result (λ f. IsBroken means.old.log self.old.talk (record { desk = desk.old; may = server.old.open })
+            f (record { desk = desk.new; may = server.new.open }) self.new.told.out.items) }
+        ensures same { means.new.log ≡ means.old.log }
     {
         self.late = true;
         'lines: for _ in 0..u32::MAX {

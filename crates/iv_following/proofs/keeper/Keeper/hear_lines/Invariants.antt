@@ -6,6 +6,7 @@ use Rattle.iv_following.proofs.keeper.Keeper.hear_lines.Given as goal
 abbrev pub invariant-lines : goal.invariant-lines
 invariant-lines l = record {
   leads : Leads l.fn.desk l.desk;
-  heeds : HeedsAll l.fn.means.log l.fn.self.talk l.fn.desk l.fn.server.open l.self.talk l.desk l.server.open;
+  heeds : HeedsAll l.fn.means.log l.fn.self.talk (record { desk = l.fn.desk; may = l.fn.server.open }) l.self.talk
+      (record { desk = l.desk; may = l.server.open });
   same : l.means.log ≡ l.fn.means.log;
 }
