@@ -93,7 +93,8 @@ fn heed(
     act: Act,
 ) -> Result<(), Fault>
     ensures leads { Leads desk.old desk.new }
-    ensures heeded { OnOk result (IsHeeded means.old.log (act_of act) (record { desk = desk.old; may = server.old.open }) (record { desk = desk.new; may = server.new.open })) }
+    ensures heeded { OnOk result (IsHeeded means.old.log (act_of act)
+        (record { desk = desk.old; may = server.old.open }) (record { desk = desk.new; may = server.new.open })) }
     ensures fault { IfErr result (λ f. IsUnheeded means.old.log (act_of act) (record { desk = desk.old; may = server.old.open }) told.old.out.items
         f (record { desk = desk.new; may = server.new.open }) told.new.out.items) }
     ensures same { means.new.log ≡ means.old.log }
@@ -135,7 +136,8 @@ impl Keeper {
         server: &mut Server,
     ) -> Result<bool, Fault>
         ensures leads { Leads desk.old desk.new }
-        ensures heard { IfOk result (λ is. IsHeard means.old.log is self.old.talk self.new.talk (record { desk = desk.old; may = server.old.open }) (record { desk = desk.new; may = server.new.open })) }
+        ensures heard { IfOk result (λ is. IsHeard means.old.log is self.old.talk self.new.talk
+            (record { desk = desk.old; may = server.old.open }) (record { desk = desk.new; may = server.new.open })) }
         ensures fault { IfErr result (λ f. IsUnheard means.old.log self.old.talk (record { desk = desk.old; may = server.old.open }) self.old.told.out.items
             f (record { desk = desk.new; may = server.new.open }) self.new.told.out.items) }
         ensures same { means.new.log ≡ means.old.log }
