@@ -1,6 +1,7 @@
 //! `Following`: the log that is followed, and who has come as its keeper.
 ghost use Rattle.std.specs.Prelude.{◌≡◌, IfErr, IfOk, OnOk, Some, false, true};
 ghost use Rattle.iv_running.specs.Running.{Leads};
+ghost use Rattle.iv_following.specs.Following.{house};
 ghost use Rattle.iv_following.specs.Guests.{has_keeper, stage_of};
 ghost use Rattle.iv_following.specs.Rounds.{IsBrokenOf, IsHeardOf, has_ended};
 
@@ -53,10 +54,10 @@ fn hear_guest(
     guest: &mut Guest,
 ) -> Result<bool, Fault>
     ensures leads { Leads desk.old desk.new }
-    ensures heard { OnOk result (IsHeardOf means.old.log (Some guest.old.stage) (record { desk = desk.old; may = server.old.open; lead = means.old.lead })
-        (Some guest.new.stage) (record { desk = desk.new; may = server.new.open; lead = means.new.lead })) }
-    ensures breaks { IfErr result (λ f. IsBrokenOf means.old.log (Some guest.old.stage) (record { desk = desk.old; may = server.old.open; lead = means.old.lead }) f
-        (Some guest.new.stage) (record { desk = desk.new; may = server.new.open; lead = means.new.lead })) }
+    ensures heard { OnOk result (IsHeardOf means.old.log (Some guest.old.stage) (house desk.old server.old.open means.old.lead)
+        (Some guest.new.stage) (house desk.new server.new.open means.new.lead)) }
+    ensures breaks { IfErr result (λ f. IsBrokenOf means.old.log (Some guest.old.stage) (house desk.old server.old.open means.old.lead) f
+        (Some guest.new.stage) (house desk.new server.new.open means.new.lead)) }
     ensures same { means.new.log ≡ means.old.log }
 {
     match &mut guest.stage {
@@ -177,10 +178,10 @@ impl Following {
     /// Hears what has come of a keeper. Whether the next round is to come at once.
     fn hear_keeper(&mut self, desk: &mut Desk, server: &mut Server) -> Result<bool, Fault>
         ensures leads { Leads desk.old desk.new }
-        ensures heard { OnOk result (IsHeardOf self.old.means.log (stage_of self.old.guest) (record { desk = desk.old; may = server.old.open; lead = self.old.means.lead })
-            (stage_of self.new.guest) (record { desk = desk.new; may = server.new.open; lead = self.new.means.lead })) }
-        ensures breaks { IfErr result (λ f. IsBrokenOf self.old.means.log (stage_of self.old.guest) (record { desk = desk.old; may = server.old.open; lead = self.old.means.lead }) f
-            (stage_of self.new.guest) (record { desk = desk.new; may = server.new.open; lead = self.new.means.lead })) }
+        ensures heard { OnOk result (IsHeardOf self.old.means.log (stage_of self.old.guest) (house desk.old server.old.open self.old.means.lead)
+            (stage_of self.new.guest) (house desk.new server.new.open self.new.means.lead)) }
+        ensures breaks { IfErr result (λ f. IsBrokenOf self.old.means.log (stage_of self.old.guest) (house desk.old server.old.open self.old.means.lead) f
+            (stage_of self.new.guest) (house desk.new server.new.open self.new.means.lead)) }
     {
         match &mut self.guest {
             None => Ok(false),

@@ -4,7 +4,7 @@ ghost use Rattle.iv_door.specs.Talk.{at_start, ended};
 ghost use Rattle.iv_door.specs.Views.{act_of};
 ghost use Rattle.iv_running.specs.Running.{Leads};
 ghost use Rattle.iv_following.specs.Failing.{IsBroken, IsUnheard, IsUnheeded, IsUnkept, IsUntaken};
-ghost use Rattle.iv_following.specs.Following.{HeedsAll, IsHeard, IsHeeded, IsKept, Lead as Leading, said_log};
+ghost use Rattle.iv_following.specs.Following.{HeedsAll, IsHeard, IsHeeded, IsKept, Lead as Leading, house, said_log};
 
 use crate::leading::{Lead, begin_to_lead};
 use crate::logs::said_logs;
@@ -62,7 +62,7 @@ fn end_step(
 ) -> Result<(), Fault>
     ensures leads { Leads desk.old desk.new }
     ensures heeded { OnOk result (IsHeeded means.old.log (ended from to (map (λ v. v.items) texts.now))
-        (record { desk = desk.old; may = server.old.open; lead = means.old.lead }) (record { desk = desk.new; may = server.new.open; lead = means.new.lead })) }
+        (house desk.old server.old.open means.old.lead) (house desk.new server.new.open means.new.lead)) }
     ensures owed { OnOk result (told.new.owes ≡ true) }
     ensures fault { IfErr result (IsUntaken means.old.log from to (map (λ v. v.items) texts.now) desk.old told.old.out.items told.new.out.items) }
     ensures keeps { (server.new.open ≡ server.old.open) × (means.new.lead ≡ means.old.lead) }
@@ -115,9 +115,9 @@ fn heed(
 ) -> Result<(), Fault>
     ensures leads { Leads desk.old desk.new }
     ensures heeded { OnOk result (IsHeeded means.old.log (act_of act)
-        (record { desk = desk.old; may = server.old.open; lead = means.old.lead }) (record { desk = desk.new; may = server.new.open; lead = means.new.lead })) }
-    ensures fault { IfErr result (λ f. IsUnheeded means.old.log (act_of act) (record { desk = desk.old; may = server.old.open; lead = means.old.lead }) told.old.out.items
-        f (record { desk = desk.new; may = server.new.open; lead = means.new.lead }) told.new.out.items) }
+        (house desk.old server.old.open means.old.lead) (house desk.new server.new.open means.new.lead)) }
+    ensures fault { IfErr result (λ f. IsUnheeded means.old.log (act_of act) (house desk.old server.old.open means.old.lead) told.old.out.items
+        f (house desk.new server.new.open means.new.lead) told.new.out.items) }
     ensures same { means.new.log ≡ means.old.log }
 {
     match act {
@@ -164,9 +164,9 @@ impl Keeper {
     ) -> Result<bool, Fault>
         ensures leads { Leads desk.old desk.new }
         ensures heard { IfOk result (λ is. IsHeard means.old.log is self.old.talk self.new.talk
-            (record { desk = desk.old; may = server.old.open; lead = means.old.lead }) (record { desk = desk.new; may = server.new.open; lead = means.new.lead })) }
-        ensures fault { IfErr result (λ f. IsUnheard means.old.log self.old.talk (record { desk = desk.old; may = server.old.open; lead = means.old.lead }) self.old.told.out.items
-            f (record { desk = desk.new; may = server.new.open; lead = means.new.lead }) self.new.told.out.items) }
+            (house desk.old server.old.open means.old.lead) (house desk.new server.new.open means.new.lead)) }
+        ensures fault { IfErr result (λ f. IsUnheard means.old.log self.old.talk (house desk.old server.old.open means.old.lead) self.old.told.out.items
+            f (house desk.new server.new.open means.new.lead) self.new.told.out.items) }
         ensures same { means.new.log ≡ means.old.log }
     {
         match self.talk.hear() {
@@ -191,10 +191,10 @@ impl Keeper {
         server: &mut Server,
     ) -> Result<bool, Fault>
         ensures leads { Leads desk.old desk.new }
-        ensures heeds { OnOk result (HeedsAll means.old.log self.old.talk (record { desk = desk.old; may = server.old.open; lead = means.old.lead })
-            self.new.talk (record { desk = desk.new; may = server.new.open; lead = means.new.lead })) }
-        ensures breaks { IfErr result (λ f. IsBroken means.old.log self.old.talk (record { desk = desk.old; may = server.old.open; lead = means.old.lead })
-            f (record { desk = desk.new; may = server.new.open; lead = means.new.lead }) self.new.told.out.items) }
+        ensures heeds { OnOk result (HeedsAll means.old.log self.old.talk (house desk.old server.old.open means.old.lead)
+            self.new.talk (house desk.new server.new.open means.new.lead)) }
+        ensures breaks { IfErr result (λ f. IsBroken means.old.log self.old.talk (house desk.old server.old.open means.old.lead)
+            f (house desk.new server.new.open means.new.lead) self.new.told.out.items) }
         ensures same { means.new.log ≡ means.old.log }
     {
         self.late = true;
