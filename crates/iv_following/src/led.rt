@@ -1,23 +1,11 @@
 //! What the keeper of a log that is led is told in a round, and that the gateway is over once that keeper has gone.
-ghost use Rattle.std.specs.Prelude.{◌≡◌, ◌^◌, ◌-◌, is_some};
+ghost use Rattle.std.specs.Prelude.{◌≡◌, ◌^◌, ◌-◌, is_some, true};
 ghost use Rattle.iv_rows.specs.Options.{if_some};
+ghost use Rattle.iv_following.specs.Rounds.{has_ended};
 
 use crate::following::Following;
-use crate::guest::{Guest, Stage};
-use crate::telling::Told;
 use iv_desk::Desk;
 use iv_running::Fault;
-
-/// What the keeper is told, if one is there.
-fn told_to(guest: &mut Option<Guest>) -> Option<&mut Told> {
-    match guest {
-        Some(guest) => match &mut guest.stage {
-            Stage::Known(keeper) => Some(&mut keeper.told),
-            Stage::Unknown(_, _) => None,
-        },
-        None => None,
-    }
-}
 
 impl Following {
     /// Whether the log is led.
@@ -41,31 +29,29 @@ impl Following {
     ///
     /// # Errors
     /// `Memory` if a growth of memory was refused.
-    pub fn say_lead(&mut self, desk: &Desk) -> Result<(), Fault> {
-        match told_to(&mut self.guest) {
-            None => Ok(()),
-            Some(told) => match told.lead(desk) {
-                Ok(()) => Ok(()),
-                Err(error) => Err(Fault::from(error)),
-            },
+    pub fn say_lead(&mut self, desk: &Desk) -> Result<(), Fault>
+        ensures { has_ended self.old ≡ true → has_ended self.new ≡ true }
+    {
+        if let Some(guest) = &mut self.guest {
+            guest.lead(desk)?;
         }
+        Ok(())
     }
 
     /// The keeper is told what the gateway has decided, if it was not.
     ///
     /// # Errors
     /// `Memory` if a growth of memory was refused.
-    pub fn say_steps(&mut self, desk: &Desk) -> Result<(), Fault> {
+    pub fn say_steps(&mut self, desk: &Desk) -> Result<(), Fault>
+        ensures { has_ended self.old ≡ true → has_ended self.new ≡ true }
+    {
         let Some(lead) = &mut self.means.lead else {
             return Ok(());
         };
-        match told_to(&mut self.guest) {
-            None => Ok(()),
-            Some(told) => match told.decide(lead, desk) {
-                Ok(()) => Ok(()),
-                Err(error) => Err(Fault::from(error)),
-            },
+        if let Some(guest) = &mut self.guest {
+            guest.decide(lead, desk)?;
         }
+        Ok(())
     }
 
     /// Who leads is over once its keeper has gone: what was decided and not kept is in no file, and nobody was told.

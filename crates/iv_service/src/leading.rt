@@ -1,5 +1,8 @@
 //! `serve_round`: a round of the sockets, also where the log is led.
+ghost use Rattle.std.specs.Prelude.{◌≡◌, true};
 ghost use Rattle.iv_running.specs.Running.{Leads};
+ghost use Rattle.iv_following.specs.Rounds.{has_ended};
+ghost use Rattle.iv_service.specs.Serving.{is_over};
 
 use iv_desk::Desk;
 use iv_following::Following;
@@ -17,7 +20,8 @@ fn decide(
     journal: &mut FileJournal,
     following: &mut Following,
 ) -> Result<(), Fault>
-    ensures { Leads desk.old desk.new }
+    ensures leads { Leads desk.old desk.new }
+    ensures ended { has_ended following.old ≡ true → has_ended following.new ≡ true }
 {
     if !desk.entered().is_empty() {
         return Ok(());
@@ -39,7 +43,8 @@ fn lead_round(
     listener: &TcpListener,
     events: &Events,
 ) -> Result<(), Fault>
-    ensures { Leads desk.old desk.new }
+    ensures leads { Leads desk.old desk.new }
+    ensures ended { has_ended following.old ≡ true → has_ended following.new ≡ true }
 {
     server.take_in(rt, desk, poll, listener, events)?;
     server.keep(desk, journal, following.kept())?;
@@ -61,7 +66,8 @@ pub(crate) fn serve_round(
     listener: &TcpListener,
     events: &Events,
 ) -> Result<(), Fault>
-    ensures { Leads desk.old desk.new }
+    ensures leads { Leads desk.old desk.new }
+    ensures over { is_over following.old ≡ true → is_over following.new ≡ true }
 {
     if let Some(following) = following {
         if following.leads() {
