@@ -1,6 +1,9 @@
 //! `serve_round`: a round of the sockets, also where the log is led.
-ghost use Rattle.std.specs.Prelude.{◌≡◌, true};
+ghost use Rattle.std.specs.Prelude.{◌≡◌, ◌<◌, false, true};
+ghost use Rattle.iv_desk.specs.Desks.{IsDesk};
+ghost use Rattle.iv_desk.specs.Front.{Front};
 ghost use Rattle.iv_running.specs.Running.{Leads};
+ghost use Rattle.iv_server.specs.Sharing.{waiting_lines};
 ghost use Rattle.iv_following.specs.Rounds.{has_ended};
 ghost use Rattle.iv_service.specs.Serving.{is_over};
 
@@ -22,6 +25,7 @@ fn decide(
 ) -> Result<(), Fault>
     ensures leads { Leads desk.old desk.new }
     ensures ended { has_ended following.old ≡ true → has_ended following.new ≡ true }
+    ensures waits { (d : Front) → IsDesk d desk.old → d.gate.dead ≡ false → 0 < waiting_lines d → (desk.new ≡ desk.old) × (journal.new ≡ journal.old) }
 {
     if !desk.entered().is_empty() {
         return Ok(());
