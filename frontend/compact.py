@@ -147,6 +147,7 @@ def compact(path: pathlib.Path, words: list[str | pathlib.Path], is_copy: bool) 
 
 def snapshot(url: str, words: list[str | pathlib.Path], rest: int) -> str:
     """Reads to the end that the log has now. Raises Damaged."""
+    from leader import Another
     from redis_stream import Away, Log, Trimmed, Unfit  # (a file needs no Redis)
     try:
         log = Log(url)
@@ -154,14 +155,16 @@ def snapshot(url: str, words: list[str | pathlib.Path], rest: int) -> str:
             raise Damaged(f"{log.where} is empty")
         said = log.snapshot()
         while log.position < end:
-            said += [line for _, lines in log.more() for line in lines]
+            if not (steps := log.more()):
+                raise Damaged(f"{log.where} has lost its end")
+            said += [line for _, lines in steps for line in lines]
         names = [it for it in said if it.startswith(b'{"once":')]
         before = Viewd(words).state(accepted(said, log.where))
         made = [it.rstrip(b"\n") for it in lines(*before)]
         if Viewd(words).state(accepted(made, log.where)) != before:
             raise Damaged(f"the snapshot leads to another state, so {log.where} stays")
         done = log.put_snapshot(made + names, rest)
-    except (Away, Unfit, Trimmed, ValueError) as why:
+    except (Another, Away, Unfit, Trimmed, ValueError) as why:
         raise Damaged(str(why)) from None
     if not done:
         return f"{log.where}: there is a snapshot of this step, or of a later one"

@@ -46,6 +46,13 @@ def line(it: Request) -> bytes:
     return json.dumps(it, ensure_ascii=False, separators=(",", ":")).encode()
 
 
+def number_of(text: bytes, least: int) -> int:
+    """Of a line that says what is on disk: that grows. Raises ValueError."""
+    if not text.endswith(b"}\n") or not text[11:-2].isdigit() or (number := int(text[11:-2])) < least:
+        raise ValueError
+    return number
+
+
 class Door:
     def __init__(self, given: IO[bytes], taken: IO[bytes]):
         self.given, self.taken = given, taken
@@ -60,14 +67,16 @@ class Door:
     def read(self) -> None:
         why = "the gateway has ended"
         try:
-            for text in iter(lambda: self.given.readline(LONGEST + 2), b""):
+            for text in iter(lambda: self.given.readline(LONGEST + 1), b""):
                 if text.startswith(b'{"on_disk":'):
-                    self.keep(int(json.loads(text)["on_disk"]))
+                    self.keep(number_of(text, self.on_disk))
                 elif text.startswith(b'{"fault":'):
                     why = f"the gateway says: {json.loads(text)['fault']}"
                 elif text.endswith(b"\n"):
                     self.said.put(text[:-1])
-        except ValueError:
+                elif len(text) > LONGEST:
+                    raise ValueError
+        except (ValueError, RecursionError):
             why = f"the gateway said what is no line: {text[:200]!r}"
         except OSError:
             pass
@@ -143,18 +152,19 @@ class Door:
         self.say(b'{"lead":true}')
         self.flush()
 
-    def decided(self, position: int, seconds: float, most: int) -> list[list[bytes]]:
-        """Up to so many steps that a gateway has decided behind a position: waits so long for the first. Raises Ended."""
+    def decided(self, position: int, seconds: float, most: int, size: int) -> list[list[bytes]]:
+        """Up to so many steps that a gateway has decided after a position, and none after so many bytes: waits so long for the first. Raises Ended."""
         steps, end = list[list[bytes]](), time.monotonic() + seconds
-        while len(steps) < most and (text := self.hear(0 if steps else max(0, end - time.monotonic()))):
-            if not text.startswith(b'{"from":'):
-                self.part.append(text)
-                continue
+        while len(steps) < most and size > 0 and (text := self.hear(0 if steps else max(0, end - time.monotonic()))):
             at = position + len(steps)
-            if text != b'{"from":%d,"step":%d}' % (at, at + 1):
+            if text == b'{"from":%d,"step":%d}' % (at, at + 1):
+                size -= sum(map(len, self.part))
+                steps.append(self.part)
+                self.part = []
+            elif text.startswith((b'{"as":"', b'{"once":"')) and len(self.part) < AHEAD:
+                self.part.append(text)
+            else:
                 raise Ended(f"the gateway leads behind step {at}, and says {text[:200]!r}")
-            steps.append(self.part)
-            self.part = []
         return steps
 
     def has(self, position: int) -> None:

@@ -7,8 +7,8 @@
 What a gateway decides that leads is appended to the stream, and said to be kept then; what others have decided is brought to it. A keeper takes the lease once
 that is free and its gateway has all steps on its disk, unless it has --follow. If the lease passes, or Redis is away for so long, the gateway ends with it.
 
-Status 1 if Redis may lose what it is told, refuses, or has what is no log, or if a file is not usable, 2 if the words are wrong, 3 if no gateway answers, 4 if
-it ends, 5 if the log is not the one that it has followed, 6 if the lease has passed.
+Status 1 if Redis may lose what it is told, refuses, or has what is no log, or if a file is not usable or did not begin it, 2 if the words are wrong, 3 if no
+gateway answers, 4 if it ends or says what none should, 5 if the log is not the one that it has followed, 6 if the lease has passed.
 """
 import argparse
 import collections
@@ -21,16 +21,17 @@ from collections.abc import Callable, Iterator
 from typing import TypeVar
 
 import door
-from door import Door, Ended, Gateway, Kept
+from door import Door, Ended, Gateway, Held, Kept
 from journal import Damaged
 from leader import Another, Leader
-from redis_stream import PIECE, Away, Log, Lost, Steps, Trimmed, Unfit, chain
+from redis_stream import PIECE, PIECES, Away, Log, Lost, Steps, Trimmed, Unfit, chain
 from status import State, serve
 
 BLOCK = 250  # milliseconds that it waits for a step, before it looks for the lease
 AGAIN = 0.2  # seconds until a Redis that is away is asked again
 SILENT = 12  # times as long as a lease, after which a gateway that says nothing does not lead
 COMPARED = 100  # steps of which a gateway that comes is asked whether it holds them
+SIZE, SOWN = 1 << 22, 64  # bytes that are appended at a time, and a step more; and steps of a journal: they have to get there within a lease
 MOST_LINES, MOST_BYTES = 1_000_000, 200_000_000  # of a step that brings a snapshot: a gateway takes somewhat more
 
 Answer = TypeVar("Answer")
@@ -50,7 +51,7 @@ def pieces(lines: list[bytes], position: int) -> Iterator[tuple[int, int, list[b
         if size > MOST_BYTES or at - cuts[-1] == MOST_LINES:
             cuts.append(at)
             size = len(line) + 1
-    if len(cuts) > position:
+    if len(cuts) > min(position, PIECES):
         raise Damaged(f"a snapshot of step {position} has {len(lines)} lines")
     for number, at in enumerate(cuts, 1):
         is_last = number == len(cuts)
@@ -62,6 +63,7 @@ class Keeper:
 
     def __init__(self, log: Log, door: Door, may_lead: bool, seed: Leader | None = None):
         self.log, self.door, self.may_lead, self.seed = log, door, may_lead, seed
+        self.sown = [it for it in seed.more() if it] if seed else []  # all are read before it is known whether all names are told
         self.is_open = self.is_away = self.leads = False
         self.rows = 0  # of a table that the gateway can hold
 
@@ -87,9 +89,12 @@ class Keeper:
     def start(self) -> None:
         """Begins, or goes on behind what the gateway holds. Raises Another, Trimmed, Ended."""
         held = self.door.hello()
-        epoch = secrets.token_hex(16) if self.may_lead else ""
-        while not self.ask(lambda: self.log.begun(self.seed.epoch if self.seed else epoch)):
+        while not self.ask(lambda: self.log.begun(self.new_epoch(held))):
+            if held.log:
+                raise Another(f"the gateway follows {held.log} of epoch {held.epoch}, and {self.log.where} has not begun")
             time.sleep(AGAIN)
+        if self.seed and not self.seed.is_compacted and self.seed.epoch != self.log.epoch:
+            raise Unfit(f"{self.log.where} was not begun with {self.seed.path}")
         self.rows = held.rows
         if self.rows < (rows := self.ask(self.log.rows)):
             raise Unfit(f"the gateway has --rows {self.rows}, and {self.log.where} was led by one with {rows}")
@@ -106,6 +111,12 @@ class Keeper:
         for start, end, some in pieces(lines, self.log.position):
             self.door.step(start, end, some)
         log(f"begins with {self.log.where}" + (f", by a snapshot of step {self.log.position}" if lines else ""))
+
+    def new_epoch(self, held: Held) -> str:
+        """Of a log that has none, if it may begin here: its journal's, unless names of that are not told, by which requests would be done again."""
+        if held.log or not self.may_lead:
+            return ""
+        return self.seed.epoch if self.seed and not self.seed.is_compacted else secrets.token_hex(16)
 
     def compare(self) -> None:
         """What the gateway holds ends with the last steps: else the log has lost its end, and has another one by now."""
@@ -130,11 +141,12 @@ class Keeper:
         self.start()
         goal = self.ask(self.log.last)
         while True:
+            if text := self.door.hear(0):
+                raise Ended(f"the gateway does not lead, and says {text[:200]!r}")
             steps = self.ask(lambda: self.log.more(BLOCK))
             self.bring(steps)
             self.door.flush()
-            kept = self.door.kept()
-            if kept >= goal:
+            if (kept := self.has()) >= goal:
                 self.show()
             if self.may_lead and not steps and kept == self.log.position and self.ask(self.log.take):
                 self.lead()
@@ -143,30 +155,41 @@ class Keeper:
         """The log ends where it was read to once no step comes: nobody else adds one."""
         while steps := self.ask(self.log.more):
             self.bring(steps)
-        if self.seed:
-            self.sow([it for it in self.seed.more() if it])
+        self.sow(self.sown)
         self.ask(lambda: self.log.set_rows(self.rows))
         self.door.lead()
-        pause = self.log.seconds / 4
+        pause, asked = self.log.seconds / 4, time.monotonic()
         while not (said := self.door.hear(pause)):
-            self.ask(self.log.renew)
+            self.renew(asked)
         if said != b'{"leads":%d}' % self.log.position:
-            raise Damaged(f"the gateway is to lead behind step {self.log.position}, and says {said[:200]!r}")
+            raise Ended(f"the gateway is to lead behind step {self.log.position}, and says {said[:200]!r}")
         log(f"leads behind step {self.log.position}, by the lease {self.log.lease.decode()}")
         self.show()
-        self.leads, renewed, asked = True, time.monotonic(), 0.0
+        self.leads, renewed, asked = True, time.monotonic(), time.monotonic()
+        self.door.has(self.log.position)  # it answers, so that it is known to live
         while True:
-            if decided := self.door.decided(self.log.position, pause, PIECE):
+            if decided := self.door.decided(self.log.position, pause, PIECE, SIZE):
                 self.ask(lambda: self.log.append(decided))
                 self.door.has(self.log.position)
+            self.has()
             if (now := time.monotonic()) > renewed + pause:
                 if self.door.heard > asked:
                     asked = now
                     self.door.has(self.log.position)
-                elif now > asked + SILENT * self.log.seconds:
-                    raise Lost(f"the gateway has said nothing for {now - asked:.0f} seconds, so its lease is given back")
-                self.ask(self.log.renew)
+                self.renew(asked)
                 renewed = now
+
+    def has(self) -> int:
+        """Up to which step the gateway has it on its disk. Raises Ended."""
+        if (kept := self.door.kept()) > self.log.position:
+            raise Ended(f"the gateway was brought step {self.log.position}, and says that it has {kept}")
+        return kept
+
+    def renew(self, asked: float) -> None:
+        """While the gateway answers what it was asked then."""
+        if (silent := time.monotonic() - asked) > SILENT * self.log.seconds:
+            raise Lost(f"the gateway has said nothing for {silent:.0f} seconds, so its lease is given back")
+        self.ask(self.log.renew)
 
     def sow(self, records: list[list[bytes]]) -> None:
         """A log begins with these, or goes on with them if it was begun so."""
@@ -175,7 +198,7 @@ class Keeper:
             digest = chain(digest, b"\n".join(it))
         if digest != self.log.digest:
             return
-        while some := records[self.log.position:self.log.position + PIECE]:
+        while some := records[self.log.position:self.log.position + SOWN]:
             start = self.log.position
             self.ask(lambda: self.log.append(some))
             self.bring([*enumerate(some, start + 1)])

@@ -67,8 +67,6 @@ def run_of(sources: str) -> tuple[dict[str, Any], str, list[str]]:
             why = []
             if run["sources_changed"]:
                 why.append(f"{path} is of sources that were changed")
-            if not run["from_nothing"]:
-                why.append(f"{path} is of a run that did not prove all from nothing")
             if missing := COUNTED - {name for name, count in run["passed"].items() if count}:
                 why.append(f"{path} does not count {', '.join(sorted(missing))}")
             return run, path, why

@@ -130,9 +130,9 @@ export interface Options {
   onError?: (why: unknown) => void;
   /** Milliseconds without a line, after which the connection is given up; 30,000. The gateway says one each 20 seconds. */
   silence?: number;
-  /** Milliseconds for which a request waits for a connection; 30,000. */
+  /** Milliseconds for which a request waits for a connection, and a write for a gateway that decides, if there are several addresses; 30,000. */
   patience?: number;
-  /** Milliseconds before a second try, 250; each further one waits twice as long, up to `longest`, 30,000; chance takes up to a half off. */
+  /** Milliseconds before a second round over all addresses, 250; each further one waits twice as long, up to `longest`, 30,000, less a half by chance. */
   shortest?: number;
   longest?: number;
   /** Milliseconds after which a relation that was too large or found no room, and a write that has to wait (104), are tried again; 30,000. */
@@ -141,8 +141,8 @@ export interface Options {
   WebSocket?: new (url: string) => any;
 }
 
-/** A client of the gateway at the address, as `ws://127.0.0.1:8080/live`. */
-export function connect<R extends object = Relations>(url: string | URL, options: Options): Db<R>;
+/** A client of the gateway at the address, as `ws://127.0.0.1:8080/live`, or of those of one log at several. */
+export function connect<R extends object = Relations>(url: string | URL | ReadonlyArray<string | URL>, options: Options): Db<R>;
 /** What JSON says, with numbers beyond 2^53 as BigInt. */
 export function parse(line: string): any;
 /** The JSON of a value, in which a BigInt is a number. */

@@ -16,13 +16,16 @@ export {compare, NotSent, parse, Refused, text, Undecided, ViewdError} from "./v
 const BYTES = 65_463; // of a message, at most
 const LIMIT = 17, TOO_MANY = 20, TOO_LONG = 22;
 const WITHOUT_ID = new Set([1, 2, 22]); // refusals of what could not be read, so that its id is not known
+const ELSEWHERE = 100; // undecided, and not carried out here: the gateway follows a log that others decide
 const LATE = 102; // undecided: the holder has had more names since its place than are kept
 const AGAIN = 104; // undecided now, and to be sent again as it is
 const OPEN = 16; // writes by name that have no answer, at most: a gateway knows a holder's last 64 names, and one holder may have several clients
 const BEHIND = 32; // names that may come behind a write which waits to be sent again: beyond 64 it would be forgotten
 const UNKNOWN_TOKEN = 4401;
 
-/** A connection to a gateway that is kept: where it goes, another is tried. `connect` makes one. */
+/** A connection to a gateway that is kept: where it goes, another is tried. `connect` makes one. There is one at a time, and a write that others
+ * decide takes it along to the next address: so what a write changed is here when its promise is kept. A second connection for writes would spare
+ * relations the move, and leave their rows behind the answers. */
 class Db {
   /** The role that the token opens, or null where nobody is in. */
   role = null;
@@ -32,19 +35,21 @@ class Db {
   state = "connecting";
   /** Why the last connection went, where something is known. */
   why = null;
-  #url; #how; #socket = null; #tries = 0; #since = 0; #heard = 0; #timers = new Set(); #watch = null; #unknown = null; #again = null;
+  #urls; #left; #how; #socket = null; #tries = 0; #since = 0; #heard = 0; #timers = new Set(); #watch = null; #unknown = null; #again = null;
   #next = 1; // the id of the next message
   #asked = []; // messages without a reply, in their order
   #waiting = new Set(); // requests that were never sent, in their order
   #kept = new Set(); // writes by name that were sent, and are to be sent again, as the connection went before the answer, or it was no answer yet
   #late = []; // writes by name that were told in this connection that their place is too old
+  #goes = false; // to the next address, as a write was told in this connection that others decide
   #place = null; // where names of the holder stand, as the gateway told it last; null if it tells none
   #welcome = null; // the role, until the line behind it is here
   #replied = []; // what is done when the event is settled
   #relations = new Map(); #bySub = new Map(); #changed = new Set(); #known = new Map(); #listeners = new Set(); #undo = [];
 
-  constructor(url, how) {
-    this.#url = url;
+  constructor(urls, how) {
+    this.#urls = urls; // the one in use is in front
+    this.#left = urls.length; // are tried before the next wait
     this.#how = {silence: 30_000, patience: 30_000, shortest: 250, longest: 30_000, again: 30_000, ...how};
     this.#how.WebSocket ??= globalThis.WebSocket;
     if (!this.#how.WebSocket) throw new ViewdError("there is no WebSocket here: give one as the option WebSocket (Node has one from 22 on, and 20 by --experimental-websocket)");
@@ -140,7 +145,7 @@ class Db {
       const longest = {id: Number.MAX_SAFE_INTEGER, ...(byName && {once: "_".repeat(22), at: `${"0".repeat(32)}.${2n ** 64n}`}), ...body};
       if (new TextEncoder().encode(text(longest)).length > BYTES) return reject(new Refused({error: TOO_LONG}));
       if (this.state === "closed") return reject(new NotSent("the client has ended"));
-      const request = {body, byName, resolve, reject, name: null, at: null, rest: null, timer: null};
+      const request = {body, byName, resolve, reject, name: null, at: null, rest: null, timer: null, end: null, isOver: false};
       this.#waiting.add(request);
       if (this.role) this.#flush();
       else this.#wait(request);
@@ -236,7 +241,7 @@ class Db {
   }
 
   #open(token) {
-    const socket = this.#socket = new this.#how.WebSocket(this.#url);
+    const socket = this.#socket = new this.#how.WebSocket(this.#urls[0]);
     this.#heard = Date.now();
     const is = () => this.#socket === socket;
     socket.onopen = () => is() && socket.send(token);
@@ -259,7 +264,10 @@ class Db {
     try {
       socket?.close?.();
     } catch { /* it was not open */ }
-    if (this.role && Date.now() - this.#since > 10_000) this.#tries = 0;
+    if (this.role && Date.now() - this.#since > 10_000) [this.#tries, this.#left] = [0, this.#urls.length];
+    // Who was late is told its place anew by the same gateway: another may know an older one.
+    if (!this.#late.length) this.#urls.push(this.#urls.shift());
+    this.#goes = false;
     this.role = this.protocol = this.#place = this.#welcome = null;
     this.#bySub.clear();
     this.#changed.clear();
@@ -275,13 +283,18 @@ class Db {
     if (this.state === "closed" || this.#again !== null) return;
     this.why = why;
     this.#drop();
-    const wait = Math.min(this.#how.longest, this.#how.shortest * 2 ** this.#tries++) * (0.5 + Math.random() / 2);
-    this.#again = this.#later(wait, () => this.#connect());
+    this.#again = this.#later(--this.#left > 0 ? 0 : this.#pause(), () => this.#connect());
     for (const request of this.#waiting) if (request.timer === null) this.#wait(request);
     const relations = [...this.#relations.values()];
     for (const relation of relations) Object.assign(relation, {sub: null, asked: false});
     this.#tell(relations.flatMap((relation) => relation.state === "live" ? relation.become("stale") : []));
     if (this.state === "live") this.#become("stale");
+  }
+
+  // After a round over all addresses.
+  #pause() {
+    this.#left = this.#urls.length;
+    return Math.min(this.#how.longest, this.#how.shortest * 2 ** this.#tries++) * (0.5 + Math.random() / 2);
   }
 
   #close(why) {
@@ -321,7 +334,7 @@ class Db {
   #flush() {
     for (const request of this.#waiting) {
       const byName = request.byName && this.#place !== null;
-      if (this.#late.length || byName && (this.#asked.filter(({write}) => write).length + this.#kept.size >= OPEN || this.#isFar())) return;
+      if (this.#late.length || this.#goes || byName && (this.#asked.filter(({write}) => write).length + this.#kept.size >= OPEN || this.#isFar())) return;
       this.#waiting.delete(request);
       this.#cancel(request.timer);
       if (byName) this.#askByName(request);
@@ -448,6 +461,7 @@ class Db {
     this.#asked.shift();
     if (said.at !== undefined) this.#place = said.at;
     if (said.undecided === AGAIN && asked.write) return this.#keep(asked.write);
+    if (said.undecided === ELSEWHERE && asked.write && this.#urls.length > 1 && !asked.write.isOver) return this.#goOn(asked.write);
     if (said.undecided === LATE && asked.write?.sent === 1) return void this.#late.push(Object.assign(asked.write, {name: null, timer: null}));
     if ("undecided" in said) return void this.#replied.push(() => asked.reject(new Undecided(said.undecided)));
     const reply = said.answer ?? said;
@@ -456,6 +470,8 @@ class Db {
   }
 
   #keep(write) {
+    this.#cancel(write.end); // here it is decided
+    Object.assign(write, {end: null, isOver: false});
     if (write.sent === 1) write.sent = 0; // it was not carried out
     this.#kept.add(write);
     this.#later(this.#how.again, () => {
@@ -464,11 +480,23 @@ class Db {
     });
   }
 
+  // All goes to the next address once what was asked here is answered.
+  #goOn(write) {
+    if (write.sent === 1) write.sent = 0; // it was not carried out
+    this.#kept.add(write);
+    this.#goes = true;
+    write.end ??= this.#later(this.#how.patience, () => {
+      write.isOver = true;
+      if (this.#kept.delete(write)) write.reject(new Undecided(ELSEWHERE));
+    });
+  }
+
   #settle() {
     const changed = [...this.#changed];
     this.#changed.clear();
     this.#tell(changed.flatMap((relation) => relation.show()));
     for (const act of this.#replied.splice(0)) act();
+    if (this.#goes && !this.#asked.length) this.#lost("it follows a log that others decide");
     // What was sent once, and came too late, was not carried out. Who comes anew is told another place, and sends it by another name.
     if (this.#late.length && !this.#asked.length) this.#lost("others of its holder have had many names");
     if (this.role) this.#flush();
@@ -493,8 +521,11 @@ function address(url) {
   return whole.href;
 }
 
-/** A client of the gateway at the address. `token` is a text, or a function that gives one, or a promise of it, for each try. */
+/** A client of the gateway at the address, or of those of one log at several. `token` is a text, or a function that gives one, or a promise of it,
+ * for each try. */
 export function connect(url, options) {
   if (!options?.token) throw new ViewdError("there is no token");
-  return new Db(address(url), options);
+  const urls = [url].flat().map(address);
+  if (!urls.length) throw new ViewdError("there is no address");
+  return new Db(urls, options);
 }

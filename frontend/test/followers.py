@@ -67,8 +67,8 @@ class Follower(Gateway):
         if self.by_port and (self.keeper is None or self.keeper.poll() is not None):
             if self.keeper:
                 self.count("keeper", self.keeper.returncode)
-            self.logs.append(self.folder / f"log.{len(self.logs)}")
-            with self.logs[-1].open("wb") as log:
+            with (path := self.folder / f"log.{len(self.logs)}").open("wb") as log:
+                self.logs.append(path)
                 self.keeper = subprocess.Popen([*self.log(), "--port", str(self.door), "--secret-file", self.secret], stdin=subprocess.DEVNULL, stderr=log)
 
     def count(self, part: str, status: int) -> None:

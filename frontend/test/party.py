@@ -16,7 +16,7 @@ from trial import BASE, insert, until
 from wire import PATIENCE, TOP, Ended, Gateway, Line, Wire
 
 REDIS_LOG = TOP / "frontend/redis_log.py"
-LEASE = 1.0  # seconds
+LEASE = float(os.environ.get("LEASE", 1))  # seconds: more on a slow host
 
 
 class Machine(Follower):
@@ -145,10 +145,39 @@ def partied(store: Store, may_lead: int = 1, follow: int = 1, lease: float = LEA
         party.end()
 
 
+class Observer:
+    """Has each step, though older ones go from the stream."""
+
+    def __init__(self, store: Store):
+        self.store, self.texts, self.position = store, list[list[bytes]](), 0
+        self.fault = ""
+
+    def run(self, stop: threading.Event) -> None:
+        while not stop.is_set() and not self.fault:
+            self.read()
+            time.sleep(0.005)
+
+    def read(self) -> None:
+        with contextlib.suppress(Exception):
+            for identifier, fields in self.store.client.xrange("desk", f"({self.position}-0", count=1000):
+                if identifier != b"%d-0" % (self.position + 1):
+                    self.fault = f"{identifier} stands behind {self.position}"
+                    return
+                self.position += 1
+                self.texts.append(fields[b"lines"].split(b"\n"))
+
+    def has_all(self) -> bool:
+        self.read()
+        return self.position == self.store.count()
+
+    def steps(self, first: int = 1) -> list[list[bytes]]:
+        return self.texts[first - 1:]
+
+
 class StreamChronicle(Chronicle):
     """What each role sees after each step."""
 
-    def __init__(self, store: Store):
+    def __init__(self, store: Store | Observer):
         self.store = store
         super().__init__(Gateway(start=False))
         self.gate.end()

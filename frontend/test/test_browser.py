@@ -355,6 +355,47 @@ def test_odd_rows(at: Windows) -> None:
     assert 77 not in at.admin.tickets()
 
 
+def test_links(at: Windows) -> None:
+    """A further link in the same tab is followed, and no token stays in the address."""
+    desk = Desk(at.driver, at.url, "olga-demo")
+    until(lambda: desk.css("#role").text == "olga" and desk.state() == "live")
+    desk.get(f"{at.url}#token=noah-demo")
+    until(lambda: desk.css("#role").text == "noah" and desk.numbers() == at.noah.numbers())
+    assert desk.current_url == at.url and at.noah.state() == "live"
+    desk.close()
+
+
+def test_what_throws_in_a_page(at: Windows) -> None:
+    """Each promise is that of its own request, whatever a listener does meanwhile, and the page is told what it has thrown."""
+    at.console += at.log()
+    got = at.mia.execute_async_script("""const done = arguments[0], db = window.viewd.db, row = (at) => [5000 + at, "mia", "thrown", true];
+        const live = db.live("tickets", () => { throw new Error("thrown by a test"); });
+        const asked = [...Array(30).keys()].map((at) => db.request({do: "write", entries: [{on: "tickets", [at % 3 ? "insert" : "delete"]: row(at)}]}).then(
+            (reply) => [at, reply.ok], (why) => [at, why.reply?.error ?? why.message]));
+        Promise.all(asked).then((found) => {
+          db.close(live);
+          done(found);
+        })""")
+    assert got == [[at, True if at % 3 else 13] for at in range(30)]  # she may take none away
+    until(lambda: {5001, 5029} <= {*at.mia.numbers()})
+    said = at.log()
+    assert any("thrown by a test" in it["message"] for it in said)
+    at.console += [it for it in said if "thrown by a test" not in it["message"]]
+    at.admin.execute_script("""window.viewd.db.request({do: "write", entries: [...Array(30).keys()].filter((at) => at % 3).map(
+        (at) => ({on: "tickets", delete: [5000 + at, "mia", "thrown", true]}))})""")
+    until(lambda: 5001 not in at.mia.numbers())
+
+
+def test_silence(at: Windows) -> None:
+    """A gateway that is silent for longer than a page waits is left, and tried again."""
+    states = at.mia.execute_async_script("""const done = arguments[0], states = [];
+        import("./viewd.js").then(({Viewd}) => new Viewd(location.href.replace(/^http/, "ws") + "live", "mia-demo", {silence: 2000, onState: (state, more) => {
+          states.push(more ? `${state}: ${more}` : state);
+          if (states.length === 5) done(states);
+        }}))""")
+    assert states == ["connecting", "live", "waiting: The gateway is silent.", "connecting", "live"]
+
+
 def test_kills(at: Windows) -> None:
     before = {desk: desk.tickets() for desk in (at.admin, at.mia, at.noah)}
     rights = at.admin.rights_shown()

@@ -43,6 +43,16 @@ def test_what_a_keeper_says() -> None:
                                          '{"open":false}\n{"begin":"a\xe4","epoch":"c"}\n')
 
 
+def test_what_a_gateway_decides() -> None:
+    step = b'{"as":"mia","do":"x"}\n{"once":"a"}\n{"from":7,"step":8}\n'
+    for text in (b'{"leads":8}\n', b'{"from":7,"step":8}\n', b'{"from":8,"step":10}\n'):
+        one = Door(io.BytesIO(HELLO + step + text), io.BytesIO())
+        one.hello()
+        assert one.decided(7, 60, 1, 1 << 20) == [[b'{"as":"mia","do":"x"}', b'{"once":"a"}']]
+        with pytest.raises(Ended, match="leads behind step 8, and says"):
+            one.decided(8, 60, 1, 1 << 20)
+
+
 def test_what_is_on_disk_is_heard() -> None:
     given, other = os.pipe()
     with os.fdopen(given, "rb") as lines, os.fdopen(other, "wb", buffering=0) as says:

@@ -1,15 +1,20 @@
 """A gateway that leads a log (docs/LOG.md): what it decides goes to its keeper first, and nobody is told before that has it."""
+import contextlib
 import json
 import pathlib
 import secrets
 import select
+import signal
+import socket
+import struct
 import time
 
 import pytest
 
 from names import by_name
-from test_log import BEGIN, EPOCH, GO_ON, ROLE, TABLE, Keeper, here, insert  # noqa: F401
-from wire import Ended, Line, Wire
+from ports import free_port
+from test_log import BEGIN, EPOCH, GO_ON, ROLE, SECRET, TABLE, Keeper, begun_at, here, insert  # noqa: F401
+from wire import PATIENCE, Ended, Line, Wire
 
 LEAD = '{"lead":true}'
 WRITE = {"do": "write", "entries": [{"on": "notes", "insert": [7, "salt"]}]}
@@ -53,7 +58,7 @@ def is_silent(wire: Wire, seconds: float = 0.3) -> bool:
 
 def reply(wire: Wire) -> Line:
     while True:
-        line = json.loads(wire.line())
+        line: Line = json.loads(wire.line())
         if "id" in line:
             return line
 
@@ -151,21 +156,48 @@ def test_what_was_not_kept_is_nowhere(here: pathlib.Path) -> None:  # noqa: F811
     assert reply(mia) == {"answer": {"ok": True}, "again": True, "at": f"{EPOCH}.1", "id": 1}
 
 
+@pytest.mark.parametrize("is_stopped", (True, False))
+def test_who_leads_takes_no_other_keeper(is_stopped: bool, here: pathlib.Path) -> None:  # noqa: F811
+    """At a port: one that comes as the other goes would have it take for kept what the log has not."""
+    port = free_port()
+    gate = Keeper(here, ("--log", str(port), "--log-secret-file", here / "secret"))
+    first, told = begun_at(port), b""
+    first.sendall(f"{LEAD}\n".encode())
+    while b'{"leads":3}' not in told:
+        told += first.recv(1 << 16)
+    mia = come(gate)
+    mia.say(by_name(f"{EPOCH}.0", WRITE, None, 1))
+    while b'{"from":3,"step":4}' not in told:
+        told += first.recv(1 << 16)
+    first.setsockopt(socket.SOL_SOCKET, socket.SO_LINGER, struct.pack("ii", 1, 0))
+    if is_stopped:
+        gate.process.send_signal(signal.SIGSTOP)
+    first.close()
+    with contextlib.suppress(ConnectionError), socket.create_connection(("127.0.0.1", port), PATIENCE) as second:
+        second.sendall(f'{{"secret":"{SECRET}"}}\n{GO_ON}\n{LEAD}\n'.encode())
+        gate.process.send_signal(signal.SIGCONT)
+        assert gate.process.wait(PATIENCE) == 4
+    with pytest.raises(Ended):
+        reply(mia)
+    assert b"salt" not in (here / "journal").read_bytes()
+
+
 def test_many_wait_for_one_answer_of_the_log(here: pathlib.Path) -> None:  # noqa: F811
     """While a keeper is silent no more is read; all that has come meanwhile is decided at once."""
     keeper = leads(here)
     clients = [come(keeper) for _ in range(8)]
     for number, it in enumerate(clients):
         it.say(by_name(f"{EPOCH}.0", {"do": "write", "entries": [{"on": "notes", "insert": [number, "x"]}]}, None, number))
-    position, batches = 1, 0
-    while position < 9:
-        line = keeper.hear()
-        if line.startswith('{"from":'):
-            assert json.loads(line) == {"from": position, "step": position + 1}
-            position += 1
-            if not select.select([keeper.given], [], [], 0.3)[0] and b"\n" not in keeper.read:
-                keeper.say('{"kept":%d}' % position)
-                batches += 1
+    position, kept, batches, end = 1, 1, 0, time.monotonic() + PATIENCE
+    while kept < 9:
+        if b"\n" in keeper.read or select.select([keeper.given], [], [], 0.3)[0]:
+            if (line := keeper.hear()).startswith('{"from":'):
+                assert json.loads(line) == {"from": position, "step": position + 1}
+                position += 1
+        elif position > kept:  # it says no more
+            keeper.say('{"kept":%d}' % position)
+            kept, batches = position, batches + 1
+        assert time.monotonic() < end, (position, kept)
     assert batches <= 4
     assert all(reply(it)["answer"] == {"ok": True} for it in clients)
 

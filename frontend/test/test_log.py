@@ -197,19 +197,46 @@ def test_clients_come_in_when_that_is_said(here: pathlib.Path) -> None:
     keeper = begun(here)
     with pytest.raises(Ended, match="503"):
         Wire(keeper.port, "mia-demo")
-    keeper.say('{"open":true}')
-    end = time.monotonic() + PATIENCE
-    while True:
-        try:
-            mia = keeper.enter()
-            break
-        except Ended:
-            assert time.monotonic() < end
+    mia = opened(keeper)
     keeper.say('{"open":false}')
     with pytest.raises(Ended, match="1013"):
         mia.line()
     with pytest.raises(Ended, match="503"):
         Wire(keeper.port, "mia-demo")
+    assert keeper.end() == 0
+
+
+def opened(keeper: Keeper, role: str = "mia") -> Wire:
+    """A client, once it may come in."""
+    keeper.say('{"open":true}')
+    end = time.monotonic() + PATIENCE
+    while True:
+        try:
+            return keeper.enter(role)
+        except Ended:
+            assert time.monotonic() < end
+
+
+def test_a_step_is_one_message(here: pathlib.Path) -> None:
+    """Whatever it has within: each number of a client is told once what differs, and rows that come and go are told to nobody."""
+    early = time.monotonic() + 18  # later a line that says that the gateway is there may be among these
+    keeper = begun(here)
+    keeper.say('{"as":"admin","do":"create_view","name":"ids","owner":"mia","query":"select id from notes"}', '{"from":10,"step":11}')
+    assert keeper.hear() == '{"on_disk":11}'
+    mia = opened(keeper)
+    for number, on in enumerate(("notes", "ids", "notes"), 1):
+        assert mia.ask({"do": "subscribe", "on": on})[0].endswith(f'"ok":true,"sub":{number}}}')
+    had = mia.messages
+    passing = [line for number in range(100, 600) for line in (insert(number), insert(number).replace('"insert"', '"delete"'))]
+    keeper.say(*passing, insert(2), *passing, insert(3), '{"from":11,"step":12}')
+    assert keeper.hear() == '{"on_disk":12}'
+    both = '{"changes":[[1,[2,"milk"]],[1,[3,"milk"]]],"sub":%d}'
+    assert sorted(mia.event()) == [both % 1, both % 3, '{"changes":[[1,[2]],[1,[3]]],"sub":2}']
+    assert mia.messages == had + 1 and mia.lines == [] or time.monotonic() > early
+    keeper.say(*passing, '{"from":12,"step":13}', insert(4), '{"from":13,"step":14}')
+    while keeper.hear() != '{"on_disk":14}':
+        pass
+    assert len(mia.event()) == 3 and (mia.messages == had + 2 or time.monotonic() > early)
     assert keeper.end() == 0
 
 

@@ -4,11 +4,12 @@ connections, kills, restarts, compactions, copies and renewed tokens.
 
 GATEWAY and VIEWD name other programs than those that are built: a compaction asks viewd."""
 import json
+import time
 
 from names import GONE, MOST, WRITERS, Trials, Writer, answer, by_name, holding, place_of, rows, token_line
 from test_journal import compacted, needs_viewd
 from trial import insert, serving, until
-from wire import TOP, Line, Wire
+from wire import PATIENCE, TOP, Line, Wire
 
 
 def test_the_protocols_conversation_is_held() -> None:
@@ -141,6 +142,20 @@ def test_who_is_refused_often_has_to_wait() -> None:
         mia = gate.knock("mia 1")
         assert answer(mia, waits)["answer"] == {"ok": True} and answer(mia, waits)["again"]
         assert rows(gate) == there
+
+
+def test_who_waits_is_forgiven() -> None:
+    """Within a minute, by the same gateway."""
+    with holding() as gate:
+        mia, refused = gate.knock("mia 1"), 0
+        while refused < 4 * MOST and answer(mia, by_name(mia.place, GONE)) != {"undecided": 104}:
+            refused += 1
+        waits, start = by_name(mia.place, insert(1, "ann")), time.monotonic()
+        assert refused < 4 * MOST  # or they were forgiven in the midst of it again and again
+        while (told := answer(mia, waits)) == {"undecided": 104}:
+            assert time.monotonic() < start + 60 + PATIENCE
+            time.sleep(0.5)
+        assert told["answer"] == {"ok": True} and rows(gate) == {(1, "ann"): 1}
 
 
 def test_a_place_that_is_ahead_has_to_wait() -> None:

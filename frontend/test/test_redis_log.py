@@ -172,13 +172,19 @@ def tells_nobody(store: Store, cut: Callable[[Machine, bool], object], url: str)
         assert rows[9001, "ann"] == 1 == rows[9003, "ann"] and (9002, "ann") not in rows
 
 
-def test_a_log_begins_with_a_journal(store: Store, here: pathlib.Path) -> None:
-    """Its requests and names are the first steps, by its epoch. What was begun so and not ended goes on; nothing is added to a log with steps of its own."""
+def begun_with() -> tuple[list[tuple[bool, bytes]], str]:
+    """What a journal says with which a log begins, and the request with a name that it has."""
     texts = [(True, text_of({"as": "admin", **it})[1:].encode()) for it in BASE]
     name, request = by_name(f"{EPOCH}.0", insert(1, "ann")), text_of(insert(1, "ann")).encode()
     texts.append((False, b'"at":1,"by":"","as":"ann",' + request[1:]))
     words = json.loads(name)["once"].encode(), EPOCH.encode(), hashlib.sha256(request).hexdigest().encode()
-    texts.append((True, b'"once":"%s","at":"%s.0","by":"ann/","digest":"%s","done":{"ok":true}}' % words))
+    return [*texts, (True, b'"once":"%s","at":"%s.0","by":"ann/","digest":"%s","done":{"ok":true}}' % words)], name
+
+
+def test_a_log_begins_with_a_journal(store: Store, here: pathlib.Path) -> None:
+    """Its requests and names are the first steps, by its epoch. What was begun so and not ended goes on; nothing is added to a log with steps of its own, nor to one
+    of another epoch."""
+    texts, name = begun_with()
     journal = here / "journal"
     journal.write_bytes(chained(texts))
     count = len(BASE) + 1
@@ -200,7 +206,8 @@ def test_a_log_begins_with_a_journal(store: Store, here: pathlib.Path) -> None:
         assert shown(machine)["ann"] == {(1, "ann"): 1}
         machine.end()
     store.client.delete("desk:lease")
-    journal.write_bytes(chained([*texts, *((True, b'"as":"admin","do":"create_role","name":"%s"}' % it) for it in (b"eve", b"zed", b"zoe"))], EPOCH[::-1].encode()))
+    texts += [(True, b'"as":"admin","do":"create_role","name":"%s"}' % it) for it in (b"eve", b"zed", b"zoe")]
+    journal.write_bytes(chained(texts))
     other = opened(store)
     while other.more():
         pass
@@ -212,6 +219,27 @@ def test_a_log_begins_with_a_journal(store: Store, here: pathlib.Path) -> None:
     machine.launch()
     until(machine.leads, machine.said())
     assert store.count() == count + 1
+    machine.end()
+    journal.write_bytes(chained(texts, EPOCH[::-1].encode()))
+    store.client.delete("desk")
+    machine = Machine(store.url)
+    machine.more = ["--seed", journal]
+    ends(machine, 1, "was not begun with")
+    assert store.count() == 0
+
+
+def test_a_log_begins_with_a_compacted_journal(store: Store, here: pathlib.Path) -> None:
+    """Its names are not told, so its places are of another epoch: what was done there by a name is not done again."""
+    texts, name = begun_with()
+    journal = here / "journal"
+    journal.write_bytes(chained([(True, b'"holder":"ann/","at":"%s.0"}' % EPOCH.encode()), *texts]))
+    machine = Machine(store.url, lease=LONG)
+    machine.more = ["--seed", journal]
+    machine.launch()
+    until(machine.leads, machine.said())
+    assert store.count() == len(BASE) + 1 and store.client.get("desk:epoch").decode() != EPOCH
+    assert answer(machine.enter("ann"), name) == {"undecided": 103}
+    assert shown(machine)["ann"] == {(1, "ann"): 1}
     machine.end()
 
 

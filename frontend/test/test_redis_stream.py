@@ -71,6 +71,19 @@ def test_an_append_is_made_once(store: Store) -> None:
     assert len(store.steps()) == after[0]
 
 
+def test_what_is_promised_is_shown() -> None:
+    """Each row of what OPERATING says of logs names tests that are there."""
+    tests = "".join(it.read_text() for at in ("frontend/test", "clients/python/test") for it in (TOP / at).glob("test_*.py"))
+    document = (TOP / "docs/OPERATING.md").read_text()
+    rows = [row.split("|") for part in re.findall(r"(?ms)^\|[^\n]*\| shown by.*?\n\n", document) for row in part.splitlines()[2:] if row]
+    assert len(rows) > 20
+    for row in rows:
+        named = re.findall("`([a-z_]+(?:[.]py)?)`", row[-2])
+        assert named or row[-2].strip() == "the same", row
+        for it in named:
+            assert (TOP / "frontend/test" / it).is_file() if it.endswith(".py") else f"def test_{it}(" in tests, it
+
+
 def test_a_step_is_an_entry(store: Store) -> None:
     """As it is told, by who has no part in it."""
     written(store, 3)
@@ -197,7 +210,9 @@ class Told:
         self.at = end
 
     def hear(self, seconds: float) -> bytes:
-        raise door.Ended("enough")
+        if seconds:
+            raise door.Ended("enough")
+        return b""
 
     def __getattr__(self, name: str) -> Callable[..., None]:
         return lambda *_: self.words.append(name)

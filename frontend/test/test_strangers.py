@@ -11,7 +11,7 @@ import subprocess
 import time
 
 from trial import BASE, Rows, serving, total, until
-from wire import COMING, PATIENCE, PROGRAM, Ended, Gateway, Wire, frame, http, in_time, masked, request
+from wire import COMING, PATIENCE, PING, PONG, PROGRAM, Ended, Gateway, Line, Wire, digest, frame, http, in_time, masked, plain, request
 
 PIECES = [*'{}[],:"\\1- \n\t\r\x7f\u2028é😀', "\\u00", "\\ud8", "null", "true", "1e9", '"do"', '"write"', '"entries"', '"on"', '"notes"', '"insert"', '"delete"',
           '"id":', '"id":7,', '"as":"admin"', '"session":1', '{"do":"write","entries":[{"on":"notes","insert":[1,"', '"]}]}']
@@ -193,3 +193,155 @@ def test_who_has_no_token_holds_little_memory() -> None:
         grown = gate.memory() - before
         print(f"  {grown // 200:,} bytes for each of 200 who have no token", flush=True)
         assert answers == ['{"error":19}'] and grown < 200 * (96 << 10)
+
+
+DRIPS = {"a path": (b"GET /", b"a"), "fields": (b"GET / HTTP/1.1\r\n", b"a: b\r\n"), "empty lines": (b"\r\n", b"\r\n"), "pings": (request(), masked(b"x", PING)),
+         "pongs": (request(), masked(b"x", PONG)), "a token": (request() + masked(b"mia-demo" * 10)[:6], b"x"),
+         "empty fragments": (request() + frame(b"m", final=False), frame(b"", 0, final=False))}
+
+
+def test_who_never_comes_to_an_end_goes_in_time() -> None:
+    """A piece comes each half second, so that the connection is never silent, and no token does."""
+    with serving() as (gate, admin):
+        start, ends = time.monotonic(), dict[str, float]()
+        wires = {what: Wire(gate.port, open_it=False) for what in DRIPS}
+        for what, (first, _) in DRIPS.items():
+            wires[what].send(first)
+        while len(ends) < len(DRIPS):
+            assert time.monotonic() < start + COMING + PATIENCE, {*DRIPS} - {*ends}
+            time.sleep(0.5)
+            for what in {*DRIPS} - {*ends}:
+                with contextlib.suppress(BlockingIOError):
+                    try:
+                        wires[what].send(DRIPS[what][1])
+                        wires[what].socket.setblocking(True)
+                        if not wires[what].socket.recv(1 << 16, socket.MSG_DONTWAIT):
+                            raise ConnectionError
+                    except ConnectionError:
+                        ends[what] = time.monotonic() - start
+        print(f"  {ends}", flush=True)
+        assert min(ends.values()) > COMING - 2 and gate.said().count("it was no client in time") == len(DRIPS)
+        assert admin.ask({"do": "unsubscribe", "sub": 9}) == ['{"error":19}']
+
+
+def test_wrong_tokens_cost_little() -> None:
+    """However many tokens are known: the file is not read for one that is not."""
+    def spent(count: int) -> float:
+        gate = Gateway(start=False)
+        gate.know("admin", lines=tuple(f'"{digest(str(at))}" = "mia"' for at in range(count)))
+        gate.start()
+        gate.enter("admin")
+        before = gate.processor()
+        for at in range(60):
+            assert gate.knock(f"no {at}").code == 4401
+        took = gate.processor() - before
+        gate.end()
+        return took
+    few, many = (sum(spent(count) for _ in range(2)) for count in (200, 20_000))
+    print(f"  {few / 0.12:.2f} ms for a wrong token where 200 are known, {many / 0.12:.2f} where 20,000 are", flush=True)
+    assert many < 6 * few
+
+
+def test_strangers_fill_no_log() -> None:
+    """Who asks what cannot be, and who has no token: some lines a second, and how many are left out."""
+    with serving() as (gate, admin):
+        before, start = len(gate.said()), time.monotonic()
+        for _ in range(500):
+            assert plain(gate.port, b"\0\r\n\r\n").startswith(b"HTTP/1.1 400")
+        assert len(gate.said()) - before < 2000
+        for at in range(200):
+            assert gate.knock(f"no {at}").code == 4401
+        took = time.monotonic() - start
+        said = gate.said()[before:]
+        print(f"  {len(said):,} bytes of log in {took:.1f} s for 700 connections", flush=True)
+        assert len(said.splitlines()) < 25 * (took + 2) and max(map(len, said.splitlines())) < 200
+
+
+def figure(gate: Gateway, name: str) -> int:
+    [found] = [it for it in http(gate.port, "/metrics", "admin-demo")[2].decode().splitlines() if it.startswith(f"{name} ")]
+    return int(found.rpartition(" ")[2])
+
+
+def test_entries_and_ends_are_counted() -> None:
+    """A connection that is gone without a word is none that was dropped."""
+    with serving() as (gate, admin):
+        names = {"came": "gateway_came_total", "refused": "gateway_refused_total", "asked": "gateway_asked_total",
+                 **{why: f'gateway_ends_total{{why="{why}"}}' for why in ("closed", "late", "stuck", "told")}}
+
+        def figures() -> dict[str, int]:
+            return {what: figure(gate, name) for what, name in names.items()}
+        before, start = figures(), time.monotonic()
+        wires = [gate.enter("mia") for _ in range(3)]
+        assert [gate.knock("nobody").code for _ in range(4)] == [4401] * 4
+        is_late = time.monotonic() > start + 0.8 * COMING  # then some may have been tried twice
+        for wire in wires[:2]:
+            wire.shut()
+        gate.know("admin", "ann", "bob")
+        assert wires[2].end() == 4401
+        late = Wire(gate.port)
+        with contextlib.suppress(Ended):
+            while True:
+                late.more()
+
+        def found() -> dict[str, int]:
+            return {what: count - before[what] for what, count in figures().items()}
+        until(lambda: found()["closed"] >= 2 and found()["late"] >= 1, "an end is not counted")
+        now = found()
+        assert now.pop("asked") > 5 and (is_late or now == {"came": 3, "refused": 4, "closed": 2, "told": 1, "late": 1, "stuck": 0}), now
+        assert json.loads(http(gate.port, "/state", "admin-demo")[2])["dropped"] == 1
+
+
+def all_done(wire: Wire, requests: list[Line]) -> None:
+    """All are sent at once, and done."""
+    wire.send(b"".join(masked(json.dumps(it).encode()) for it in requests))
+    for _ in requests:
+        assert wire.event()[0] == '{"ok":true}'
+
+
+def test_a_large_shape_shuts_no_administrator_out() -> None:
+    """Who owns tables makes the shape large, and then much of it new: administrators are told each request once, and others wait for nothing."""
+    with serving() as (gate, admin):
+        for table in range(8):
+            using = " or ".join(f"id = {number}" for number in range(290))
+            all_done(admin, [{"do": "create_table", "name": f"t{table}", "owner": "ann", "columns": [["id", "int"]]},
+                             *({"do": "create_policy", "on": f"t{table}", "name": f"p{at}", "using": using} for at in range(32))])
+        admins, ann = [gate.enter("admin") for _ in range(3)], gate.enter("ann")
+        size = sum(map(len, admins[0].shape))
+        assert size > 800_000 and all(it.shape == admins[0].shape for it in admins)
+        before, sent = gate.processor(), figure(gate, "gateway_sent_bytes_total")
+        turns = [("grant", "revoke")[at % 2] for at in range(100)]
+        all_done(ann, [{"do": it, "on": "t0", "privileges": ["select"], "to": "bob"} for it in turns])
+        for wire in (admin, *admins):
+            assert [json.loads(line)["made"]["do"] for line in (wire.event()[0] for _ in turns)] == turns
+        took, sent = gate.processor() - before, figure(gate, "gateway_sent_bytes_total") - sent
+        print(f"  a shape of {size:,} bytes; 100 requests more: {sent:,} bytes to all, {took * 10:.2f} ms of processor each", flush=True)
+        assert sent < size // 4 and json.loads(http(gate.port, "/state", "admin-demo")[2])["dropped"] == 0
+
+
+def test_it_listens_where_it_is_told() -> None:
+    for host, family, others in (("127.0.0.1", socket.AF_INET, "127.0.0.2"), ("127.0.0.2", socket.AF_INET, "127.0.0.1"), ("::1", socket.AF_INET6, None)):
+        with contextlib.closing(socket.socket(family)) as probe:
+            try:
+                probe.bind((host, 0))
+            except OSError:
+                continue  # this host has no such address
+        gate = Gateway(start=False, words=() if host == "127.0.0.1" else ("--host", host))
+        gate.launch()
+        until(lambda: gate.process.poll() is not None or "listening on" in gate.said(), "it does not listen")
+        with contextlib.closing(socket.create_connection((host, gate.port), PATIENCE)) as it:
+            it.sendall(b"GET /healthz HTTP/1.1\r\nHost: x\r\n\r\n")
+            assert it.recv(12) == b"HTTP/1.1 200"
+        assert not (others and reached(others, gate.port)), host
+        gate.end()
+    for host, status, words in (("localhost", 1, "an option is not valid"), ("", 1, "an option is not valid"), ("192.0.2.1", 2, "cannot be listened on")):
+        gate = Gateway(start=False, words=("--host", host))
+        assert gate.launch().wait(PATIENCE) == status and words in gate.said(), (host, gate.said())
+        gate.end()
+
+
+def reached(host: str, port: int) -> bool:
+    try:
+        socket.create_connection((host, port), 1).close()
+        return True
+    except OSError:
+        return False

@@ -262,7 +262,7 @@ class Gateway:
         self.know(*roles)
         if journal is not None:
             self.journal.write_bytes(journal)
-        self.port, self.words = free_port(), words
+        self.port, self.words, self.env = free_port(), words, dict[str, str]()
         self.started: subprocess.Popen[bytes] | None = None
         self.running.append(self)
         if start:
@@ -294,9 +294,10 @@ class Gateway:
             for kind, size in ((resource.RLIMIT_FSIZE, most), (resource.RLIMIT_AS, memory), (resource.RLIMIT_NOFILE, files)):
                 if size is not None:
                     resource.setrlimit(kind, (size, size))
-        self.logs.append(self.folder / f"log.{len(self.logs)}")
-        with self.logs[-1].open("wb") as log:
-            self.started = subprocess.Popen(self.command(), stdin=subprocess.DEVNULL, stderr=log, preexec_fn=None if most is memory is files is None else limit)
+        with (path := self.folder / f"log.{len(self.logs)}").open("wb") as log:
+            self.logs.append(path)
+            self.started = subprocess.Popen(self.command(), stdin=subprocess.DEVNULL, stderr=log, env={**os.environ, **self.env},
+                                            preexec_fn=None if most is memory is files is None else limit)
         return self.process
 
     def start(self, most: int | None = None, memory: int | None = None) -> None:

@@ -282,11 +282,13 @@ $("out").onclick = () => {
   location.reload();
 };
 
-// A link may carry the token behind #. It is taken off, so that it stays in no history.
-const linked = new URLSearchParams(location.hash.slice(1)).get("token");
-if (linked) {
-  sessionStorage.token = linked;
+// A link may carry the token behind #. It is taken off the address; what the browser has noted of the link may stay in its history.
+const linked = () => new URLSearchParams(location.hash.slice(1)).get("token");
+if (linked()) {
+  sessionStorage.token = linked();
   history.replaceState(null, "", location.pathname);
 }
+// a further link in the same tab
+addEventListener("hashchange", () => linked() && location.reload());
 if (sessionStorage.token) enter(sessionStorage.token);
 else showDoor();

@@ -8,7 +8,8 @@
 // A live relation is a bag of rows: live.rows is a Map from a row's text to {row, copies}, and live.state is
 //   waiting (no answer yet), live, refused (live.why: the reply), ended (live.why: privilege or limit).
 // Its listener is called when a request is settled, so it never sees half of one; `changes` are pairs of copies and row,
-// null where the rows are all new. Across a lost connection, an end and a grant it subscribes again by itself.
+// null where the rows are all new. Across a lost connection, an end and a grant it subscribes again by itself. A gateway that says
+// nothing for `silence` milliseconds is left, and tried again: it says each 20 seconds that it is there.
 import {Shape} from "./shape.js";
 
 const NAMES = {1: "bad json", 2: "bad request", 3: "no session", 4: "session in use", 5: "unknown role", 6: "name taken",
@@ -47,6 +48,17 @@ export function text(value) {
   return marked.replaceAll(WRITTEN, "$1");
 }
 
+// What throws in a page's own function is told to the page, and keeps no line behind it from being read.
+const harmless = (listener) => (...words) => {
+  try {
+    listener(...words);
+  } catch (why) {
+    setTimeout(() => {
+      throw why;
+    });
+  }
+};
+
 class Live {
   rows = new Map();
   state = "waiting";
@@ -55,7 +67,7 @@ class Live {
   pending = []; // changes of a request that is not settled
   fresh = true; // nothing was shown since it was subscribed
   constructor(on, listener) {
-    Object.assign(this, {on, listener});
+    Object.assign(this, {on, listener: harmless(listener)});
   }
 
   take(changes) {
@@ -79,7 +91,8 @@ class Live {
 export class Viewd {
   role = null;
   shape = null; // for an administrator
-  #url; #token; #ws; #on; #tries = 0;
+  #url; #token; #ws = null; #on; #silence; #tries = 0;
+  #heard = 0; // when something came last
   #asked = []; // requests without a reply: replies come in their order
   #replied = []; // what to do when the request is settled
   #lives = new Set();
@@ -87,10 +100,13 @@ export class Viewd {
   #changed = new Set();
   #reshaped = false; // since the last event was settled
 
-  constructor(url, token, {onState = () => {}, onShape = () => {}, onLines = () => {}} = {}) {
+  constructor(url, token, {onState = () => {}, onShape = () => {}, onLines = () => {}, silence = 45_000} = {}) {
     this.#url = url;
     this.#token = token;
-    this.#on = {state: onState, shape: onShape, lines: onLines};
+    this.#on = {state: harmless(onState), shape: harmless(onShape), lines: harmless(onLines)};
+    this.#silence = silence;
+    setInterval(() => this.#watch(), Math.min(5000, silence / 4));
+    addEventListener("offline", () => this.#leave("This browser has no network."));
     this.#connect();
   }
 
@@ -121,13 +137,29 @@ export class Viewd {
   #connect() {
     this.#on.state("connecting");
     const ws = this.#ws = new WebSocket(this.#url);
+    this.#heard = Date.now();
     ws.onopen = () => ws.send(this.#token);
-    ws.onmessage = ({data}) => this.#take(data.split("\n").filter((line) => line));
+    ws.onmessage = ({data}) => {
+      this.#heard = Date.now();
+      this.#take(data.split("\n").filter((line) => line));
+    };
     ws.onclose = ({code, reason}) => this.#lost(code, reason);
   }
 
+  #watch() {
+    if (Date.now() - this.#heard > this.#silence) this.#leave("The gateway is silent.");
+  }
+
+  #leave(why) {
+    const ws = this.#ws;
+    if (!ws) return;
+    ws.onopen = ws.onmessage = ws.onclose = null;
+    ws.close();
+    this.#lost(1006, why);
+  }
+
   #lost(code, reason) {
-    this.role = null;
+    this.role = this.#ws = null;
     this.#bySub.clear();
     this.#changed.clear();
     for (const act of this.#replied.splice(0)) act();

@@ -22,6 +22,8 @@ def rt() -> Any:
     module.__file__ = path
     sys.modules[module.__name__] = module
     importlib.machinery.SourceFileLoader(module.__name__, path).exec_module(module)
+    # the kit looks anew at each library below a crate, along each way from one to another: two million times below the gateway
+    module.rtlib.Crate.below = functools.cache(module.rtlib.Crate.below)
     return module
 
 

@@ -156,7 +156,7 @@ async def follow(db: viewd.Db, cache: Cache, on: str) -> None:
 async def main(given: argparse.Namespace) -> int:
     cache = Cache(redis.from_url(given.redis, decode_responses=True), given.relation, given.key.split(","))
     try:
-        async with viewd.connect(given.url, token=os.environ.get("VIEWD_TOKEN") or sys.exit("cache: VIEWD_TOKEN has no token")) as db:
+        async with viewd.connect(given.url.split(), token=os.environ.get("VIEWD_TOKEN") or sys.exit("cache: VIEWD_TOKEN has no token")) as db:
             beat = asyncio.create_task(cache.beat(db))
             try:
                 await follow(db, cache, given.relation)
@@ -172,6 +172,6 @@ if __name__ == "__main__":
     words.add_argument("relation")
     words.add_argument("--key", required=True, help="the columns, with commas, that tell rows apart")
     words.add_argument("--redis", default="redis://127.0.0.1:6379")
-    words.add_argument("--url", default=os.environ.get("VIEWD_URL", "ws://127.0.0.1:8080/live"), help="the gateway; VIEWD_URL, or %(default)s")
+    words.add_argument("--url", default=os.environ.get("VIEWD_URL", "ws://127.0.0.1:8080/live"), help="the gateway, or several of one log; VIEWD_URL, or %(default)s")
     with contextlib.suppress(KeyboardInterrupt):
         sys.exit(asyncio.run(main(words.parse_args())))

@@ -197,7 +197,7 @@ def main(given: argparse.Namespace) -> int:
     try:
         with given.index.with_name(given.index.name + ".lock").open("w") as lock:
             fcntl.flock(lock, fcntl.LOCK_EX | fcntl.LOCK_NB)
-            with plain.connect(given.url, token=token) as db:
+            with plain.connect(given.url.split(), token=token) as db:
                 try:
                     follow(db, Index(given.index), given.relation, given.port)
                 except viewd.NotSent:
@@ -218,6 +218,6 @@ if __name__ == "__main__":
     words.add_argument("relation")
     words.add_argument("--index", type=pathlib.Path, required=True, help="the file of the index, made where it is missing, with others beside it")
     words.add_argument("--port", type=int, default=8081, help="on 127.0.0.1 (%(default)s)")
-    words.add_argument("--url", default=os.environ.get("VIEWD_URL", "ws://127.0.0.1:8080/live"), help="the gateway; VIEWD_URL, or %(default)s")
+    words.add_argument("--url", default=os.environ.get("VIEWD_URL", "ws://127.0.0.1:8080/live"), help="the gateway, or several of one log; VIEWD_URL, or %(default)s")
     with contextlib.suppress(KeyboardInterrupt):
         sys.exit(main(words.parse_args()))

@@ -92,10 +92,10 @@ export async function pause(wait) {
 }
 
 /** A client whose fake gateway has let it in, and that is ended behind the test. */
-export async function entered(t, how = {}, at = null) {
+export async function entered(t, how = {}, at = null, url = "ws://gateway/live") {
   Fake.all = [];
   const faults = [];
-  const db = connect("ws://gateway/live", {token: "t", WebSocket: Fake, onError: (why) => faults.push(why), shortest: 4, ...how});
+  const db = connect(url, {token: "t", WebSocket: Fake, onError: (why) => faults.push(why), shortest: 4, ...how});
   t.after(() => {
     db.end();
     assert.deepEqual(faults, []);

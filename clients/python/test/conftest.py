@@ -61,7 +61,8 @@ class Fake:
 
     all: list["Fake"] = []
 
-    def __init__(self) -> None:
+    def __init__(self, url: str) -> None:
+        self.url = url
         self.sent: list[str] = []
         self.told: asyncio.Queue = asyncio.Queue()
         self.is_closed = False
@@ -109,15 +110,15 @@ def fakes(monkeypatch):
     Fake.all = []
 
     async def opened(url: str, **_: object) -> Fake:
-        return Fake()
+        return Fake(url)
 
     monkeypatch.setattr("viewd.client.OPEN", opened)
     return Fake
 
 
-async def entered(at: str | None = None, **how) -> tuple[viewd.Db, Fake]:
+async def entered(at: str | None = None, url: str | list[str] = "ws://gateway/live", **how) -> tuple[viewd.Db, Fake]:
     """A client that its gateway has let in, and told where its holder's names stand, if it knows names."""
-    db = viewd.connect("ws://gateway/live", token="t", **{"shortest": 0.004, **how})
+    db = viewd.connect(url, token="t", **{"shortest": 0.004, **how})
     await turn()
     await Fake.all[-1].event({"protocol": 1, "role": "mia"}, *([] if at is None else [{"at": at, "names": 64}]))
     assert Fake.all[-1].sent == ["t"] and (db.role, db.protocol) == ("mia", 1)

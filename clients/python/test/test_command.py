@@ -11,6 +11,7 @@ import time
 
 import viewd
 from conftest import PATIENCE, TOP
+from ports import free_port
 from viewd.command import batches
 
 CLIENT = TOP / "clients/python/viewd-client"
@@ -231,6 +232,7 @@ def test_no_connection(gateway, tmp_path):
     token.write_text("mia-demo\n")
     assert ran(gateway, "export", "notes", "--token-file", token, role="nobody")[0] == 0
     assert ran(gateway, "export", "notes", "--token-file", tmp_path / "none")[0] == 2
+    assert [ran(gateway, "export", "notes", "--url", it)[0] for it in (f"ws://127.0.0.1:{free_port()}/live {gateway.url}", " ")] == [0, 2]
     gateway.kill()
     status, out, err = ran(gateway, "export", "notes", "--wait", "5")
     assert (status, out) == (3, "") and err.startswith(f"viewd-client: not sent: there is no gateway at {gateway.url}: ")

@@ -6,6 +6,7 @@ import inspect
 import json
 import logging
 import random
+import re
 import secrets
 import time
 from collections.abc import Awaitable, Callable, Mapping, Sequence
@@ -21,6 +22,7 @@ from .rows import Changes, Columns, Live, Relation, Report, User, Value, Where, 
 BYTES = 65_463  # of a message, at most
 LIMIT, TOO_MANY, TOO_LONG = 17, 20, 22
 WITHOUT_ID = (1, 2, 22)  # refusals of what could not be read, so that its id is not known
+ELSEWHERE = 100  # undecided, and not carried out here: the gateway follows a log that others decide
 LATE = 102  # undecided: the holder has had more names since its place than are kept
 AGAIN = 104  # undecided now, and to be sent again as it is
 OPEN_WRITES = 16  # by name, without an answer, at most: a gateway knows a holder's last 64 names, and one holder may have several clients
@@ -39,8 +41,8 @@ class Timing:
     """Seconds. The gateway says a line each 20 seconds."""
 
     silence: float = 30  # without a line, after which the connection is given up
-    patience: float = 30  # for which a request waits for a connection
-    shortest: float = 0.25  # before a second try; each further one waits twice as long, and chance takes up to a half off
+    patience: float = 30  # for which a request waits for a connection, and a write for a gateway that decides, if there are several addresses
+    shortest: float = 0.25  # before a second round over all addresses; each further one waits twice as long, and chance takes up to a half off
     longest: float = 30
     again: float = 30  # after which a relation that was too large or found no room, and a write that has to wait (104), are tried again
 
@@ -60,6 +62,8 @@ class Asked:
     at: str = ""
     rest: str = ""  # of the message, behind these
     sent: int = 0  # how often it was, and may have been carried out
+    end: asyncio.TimerHandle | None = None  # of the time for which it is taken to other gateways, as one has told that others decide
+    is_over: bool = False  # that time
 
     def come(self, came: Reply | ViewdError) -> None:
         if self.timer:
@@ -90,16 +94,21 @@ class _Connection:
     welcome: Reply | None = None  # the role, until the line behind it is here
     place: str | None = None  # where names of the holder stand, as the gateway told it last; None if it tells none
     late: list[Asked] = field(default_factory=list)  # writes by name that were told that their place is too old
+    goes: bool = False  # to the next address, as a write was told that others decide
     is_in: bool = False  # all that is told of the entry is here
     next_id: int = 1
     since: float = 0
 
 
 class Db:
-    """A client of a gateway. `connect` makes one, within a running loop; `async with` waits for its role, and ends it."""
+    """A client of a gateway. `connect` makes one, within a running loop; `async with` waits for its role, and ends it.
 
-    def __init__(self, url: str, token: Token, columns: Mapping[str, Columns] | None, nulls: bool, on_error: Report | None, timing: Timing):
-        self.url, self.nulls, self.timing = url, nulls, timing
+    There is one connection at a time, and a write that others decide takes it along to the next address: so what a write changed is here when it
+    is answered. A second connection for writes would spare relations the move, and leave their rows behind the answers."""
+
+    def __init__(self, urls: Sequence[str], token: Token, columns: Mapping[str, Columns] | None, nulls: bool, on_error: Report | None, timing: Timing):
+        self.urls, self.nulls, self.timing = [*urls], nulls, timing  # the address in use is in front
+        self._left = len(self.urls)  # addresses that are tried before the next wait
         self.role: str | None = None  # that the token opens, or None if nobody is in
         self.protocol: int | None = None  # the number that the gateway tells, or None if nobody is in, or it tells none
         self.state = "connecting"  # at first; `live`; `stale`: what is shown may be old, and another connection is tried; `closed`
@@ -283,6 +292,10 @@ class Db:
             except Exception as fault:
                 why = str(fault) or type(fault).__name__
             self._lost(why)
+            self._left -= 1
+            if self._left > 0:
+                continue
+            self._left = len(self.urls)
             wait = min(self.timing.longest, self.timing.shortest * 2 ** min(self._tries, 20))
             self._tries += 1
             await asyncio.sleep(wait * (0.5 + random.random() / 2))
@@ -290,7 +303,7 @@ class Db:
     async def _serve(self, token: str) -> None:
         words: dict[str, Any] = {"ping_interval": None, "max_size": None, "compression": None, "close_timeout": 0.2,
                                  "open_timeout": self.timing.silence}
-        socket = await OPEN(self.url, **words)
+        socket = await OPEN(self.urls[0], **words)
         connection = _Connection()
         sending = self._loop.create_task(self._send(socket, connection))
         try:
@@ -336,7 +349,7 @@ class Db:
         if connection is None:
             return
         if connection.since and time.monotonic() - connection.since > 10:
-            self._tries = 0
+            self._tries, self._left = 0, len(self.urls)
         for act in connection.replied:
             act()
         for asked in connection.asked:
@@ -350,6 +363,9 @@ class Db:
         if self.state == "closed":
             return
         self.why = why
+        # Who was late is told its place anew by the same gateway: another may know an older one.
+        if not (self._connection and self._connection.late):
+            self.urls.append(self.urls.pop(0))
         self._drop()
         for asked in self._waiting:
             if asked.timer is None:
@@ -417,7 +433,7 @@ class Db:
         assert connection is not None
         for asked in [*self._waiting]:
             by_name = asked.by_name and connection.place is not None
-            if connection.late or by_name and (sum(it.name is not None for it in connection.asked) + len(self._kept) >= OPEN_WRITES
+            if connection.late or connection.goes or by_name and (sum(it.name is not None for it in connection.asked) + len(self._kept) >= OPEN_WRITES
                                                or self._is_far(connection)):
                 return
             self._waiting.remove(asked)
@@ -453,11 +469,34 @@ class Db:
                 if not asked.reply.done():  # else nobody waits for it any more
                     self._ask_by_name(asked)
 
+        if asked.end:  # here it is decided
+            asked.end.cancel()
+            self._timers.discard(asked.end)
+        asked.end, asked.is_over = None, False
         if asked.sent == 1:
             asked.sent = 0  # it was not carried out
         self._kept.append(asked)
         timer = self._loop.call_later(self.timing.again, act)
         self._timers.add(timer)
+
+    # All goes to the next address once what was asked here is answered.
+    def _go_on(self, connection: _Connection, asked: Asked) -> None:
+        def end() -> None:
+            asked.is_over = True
+            self._timers.discard(timer)
+            if asked in self._kept:
+                self._kept.remove(asked)
+                asked.come(Undecided(ELSEWHERE))
+
+        if asked.reply.done():  # nobody waits for it any more
+            return
+        if asked.sent == 1:
+            asked.sent = 0  # it was not carried out
+        self._kept.append(asked)
+        connection.goes = True
+        if asked.end is None:
+            asked.end = timer = self._loop.call_later(self.timing.patience, end)
+            self._timers.add(timer)
 
     def _relation(self, on: str) -> Relation:
         if self.state == "closed":
@@ -595,6 +634,8 @@ class Db:
             code = said["undecided"]
             if code == AGAIN and asked.name is not None:
                 return self._keep_for_later(asked)
+            if code == ELSEWHERE and asked.name is not None and len(self.urls) > 1 and not asked.is_over:
+                return self._go_on(connection, asked)
             if code == LATE and asked.name is not None and asked.sent == 1:
                 asked.name = asked.timer = None
                 return connection.late.append(asked)
@@ -610,6 +651,8 @@ class Db:
         replied, connection.replied = connection.replied, []
         for act in replied:
             act()
+        if connection.goes and not connection.asked:
+            raise _Lost("it follows a log that others decide")
         # What was sent once, and came too late, was not carried out. Who comes anew is told another place, and sends it by another name.
         if connection.late and not connection.asked:
             raise _Lost("others of its holder have had many names")
@@ -642,15 +685,15 @@ def text(value: object) -> str:
     return json.dumps(value, separators=(",", ":"), ensure_ascii=False)
 
 
-def connect(url: str, *, token: Token, columns: Mapping[str, Columns] | None = None, nulls: bool = False,
+def connect(url: str | Sequence[str], *, token: Token, columns: Mapping[str, Columns] | None = None, nulls: bool = False,
             on_error: Report | None = None, **timing: float) -> Db:
-    """A client of the gateway at the address, as `ws://127.0.0.1:8080/live`, within a running loop.
+    """A client of the gateway at the address, as `ws://127.0.0.1:8080/live`, or of those of one log at several, within a running loop.
 
     `token` is a text, or a function that gives one, or an awaitable of it, for each try. `columns` are known beforehand, for a role that
     writes to what it may not read. With `nulls` a flag `NAME_null` right behind a column `NAME` is no column of its own, and says whether
     `NAME` is None. `on_error` is told what a listener or `where` raises; a log if it is left out. Other words are those of `Timing`, in
     seconds."""
-    for scheme in ("http", "https"):
-        if url.startswith(f"{scheme}://"):
-            url = f"ws{scheme[4:]}{url[len(scheme):]}"
-    return Db(url, token, columns, nulls, on_error, Timing(**timing))
+    urls = [re.sub("^http(s?)://", r"ws\1://", it) for it in ([url] if isinstance(url, str) else url)]
+    if not urls:
+        raise ViewdError("there is no address")
+    return Db(urls, token, columns, nulls, on_error, Timing(**timing))

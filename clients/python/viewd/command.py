@@ -323,7 +323,8 @@ def parser() -> argparse.ArgumentParser:
     form = argparse.RawDescriptionHelpFormatter
     whole = argparse.ArgumentParser("viewd-client", description="A client of viewd's gateway.", epilog=EPILOG, formatter_class=form)
     common = argparse.ArgumentParser(add_help=False)
-    common.add_argument("--url", default=os.environ.get("VIEWD_URL", "ws://127.0.0.1:8080/live"), help="the gateway; VIEWD_URL, or %(default)s")
+    common.add_argument("--url", default=os.environ.get("VIEWD_URL", "ws://127.0.0.1:8080/live"), type=addresses,
+                        help="the gateway, or several of one log with blanks between; VIEWD_URL, or %(default)s")
     common.add_argument("--token-file", type=pathlib.Path, metavar="FILE", help="a file with the token alone; by default VIEWD_TOKEN is the token")
     common.add_argument("--wait", type=float, default=10, metavar="SECONDS", help="for the gateway at first (%(default)s)")
     choice = argparse.ArgumentParser(add_help=False)
@@ -361,6 +362,13 @@ def parser() -> argparse.ArgumentParser:
     return whole
 
 
+def addresses(words: str) -> list[str]:
+    """What --url says."""
+    if not words.split():
+        raise argparse.ArgumentTypeError("there is no address")
+    return words.split()
+
+
 def token_of(words: argparse.Namespace) -> str:
     """The token. Raises Wrong."""
     try:
@@ -380,7 +388,7 @@ async def done(words: argparse.Namespace) -> None:
             async with asyncio.timeout(words.wait):
                 await db.__aenter__()
         except TimeoutError:
-            raise NotSent(f"there is no gateway at {words.url}" + (f": {db.why}" if db.why else "")) from None
+            raise NotSent(f"there is no gateway at {' or '.join(words.url)}" + (f": {db.why}" if db.why else "")) from None
         db.on_state(lambda state, why: None if state == "closed" else say(f"{state}: {why}; trying again" if why else f"{state} again"))
         await words.act(db, words)
         sys.stdout.flush()

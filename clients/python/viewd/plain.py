@@ -223,7 +223,7 @@ async def _next(changes: Changes) -> list[Change]:
     return await changes.__anext__()
 
 
-def connect(url: str, *, token: Token, columns: Mapping[str, Columns] | None = None, nulls: bool = False,
+def connect(url: str | Sequence[str], *, token: Token, columns: Mapping[str, Columns] | None = None, nulls: bool = False,
             on_error: Report | None = None, **timing: float) -> PlainDb:
     """A client of the gateway at the address; the words are those of `viewd.connect`."""
     return PlainDb(lambda: client.connect(url, token=token, columns=columns, nulls=nulls, on_error=on_error, **timing))
