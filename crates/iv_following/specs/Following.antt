@@ -73,6 +73,9 @@ pub record House : Type 0 where
   pub may : Bool
   pub lead : Option Lead
 
+abbrev pub house : Desk → Bool → Option Lead → House
+house desk may lead = record { desk = desk; may = may; lead = lead }
+
 -- what an act does: the texts of a step are followed as one record; clients may come in; nobody may, and all are closed; the gateway, which has
 -- led no log, leads; what it has decided is kept; else nothing
 abbrev pub IsHeeded : Option Log → Act → House → House → Type 0

@@ -5,6 +5,7 @@ ghost use Rattle.iv_following.specs.Following.{said_log};
 ghost use Rattle.iv_following.specs.Guests.{IsGuest, has_led, is_known};
 
 use crate::keeper::{Keeper, Means};
+use crate::leading::Lead;
 use crate::shown::{Shown, shown_in};
 use crate::wire::Wire;
 use iv_desk::Desk;
@@ -162,6 +163,28 @@ impl Guest {
     pub(crate) fn settle(&mut self, desk: &Desk) -> Result<(), AllocError> {
         match &mut self.stage {
             Stage::Known(keeper) => keeper.told.settle(desk),
+            Stage::Unknown(_, _) => Ok(()),
+        }
+    }
+
+    /// A keeper is told from where the gateway leads, if that is owed.
+    ///
+    /// # Errors
+    /// `AllocError` if a growth of memory was refused.
+    pub(crate) fn lead(&mut self, desk: &Desk) -> Result<(), AllocError> {
+        match &mut self.stage {
+            Stage::Known(keeper) => keeper.told.lead(desk),
+            Stage::Unknown(_, _) => Ok(()),
+        }
+    }
+
+    /// A keeper is told what the gateway has decided, if it was not.
+    ///
+    /// # Errors
+    /// `AllocError` if a growth of memory was refused.
+    pub(crate) fn decide(&mut self, lead: &mut Lead, desk: &Desk) -> Result<(), AllocError> {
+        match &mut self.stage {
+            Stage::Known(keeper) => keeper.told.decide(lead, desk),
             Stage::Unknown(_, _) => Ok(()),
         }
     }

@@ -1,5 +1,5 @@
 //! `Lead`: how far a log is led, and what its keeper is told of that.
-ghost use Rattle.std.specs.Prelude.{◌≡◌, ◌++◌, ◌∷◌, [], IfErr, OnOk, Some, false, if◌then◌else◌};
+ghost use Rattle.std.specs.Prelude.{◌≡◌, ◌++◌, ◌∷◌, [], IfErr, OnErr, OnOk, Some, false, if◌then◌else◌};
 ghost use Rattle.iv_gate.specs.Arriving.{position, settled_at};
 ghost use Rattle.iv_desk.specs.Desks.{IsDesk};
 ghost use Rattle.iv_desk.specs.Front.{Front};
@@ -41,6 +41,7 @@ impl Lead {
     pub(crate) fn keep(&mut self, position: u64) -> Result<(), iv_door::Fault>
         ensures kept { OnOk result (IsKept position self.old self.new) }
         ensures fault { IfErr result (λ f. fault_of f ≡ Some (not_decided position self.old.kept self.old.told)) }
+        ensures fails { OnErr result (self.new ≡ self.old) }
     {
         if position < self.kept || self.told < position {
             return Err(iv_door::Fault::NotDecided(position, self.kept, self.told));

@@ -2,23 +2,11 @@
 ghost use Rattle.std.specs.Prelude.{◌≡◌, ◌^◌, ◌-◌, OnOk, is_some, true};
 ghost use Rattle.iv_rows.specs.Options.{if_some};
 ghost use Rattle.iv_following.specs.Guests.{has_leader};
+ghost use Rattle.iv_following.specs.Rounds.{has_ended};
 
 use crate::following::Following;
-use crate::guest::{Guest, Stage};
-use crate::telling::Told;
 use iv_desk::Desk;
 use iv_running::Fault;
-
-/// What the keeper is told, if one is there.
-fn told_to(guest: &mut Option<Guest>) -> Option<&mut Told> {
-    match guest {
-        Some(guest) => match &mut guest.stage {
-            Stage::Known(keeper) => Some(&mut keeper.told),
-            Stage::Unknown(_, _) => None,
-        },
-        None => None,
-    }
-}
 
 impl Following {
     /// Whether the log is led.
@@ -42,31 +30,29 @@ impl Following {
     ///
     /// # Errors
     /// `Memory` if a growth of memory was refused.
-    pub fn say_lead(&mut self, desk: &Desk) -> Result<(), Fault> {
-        match told_to(&mut self.guest) {
-            None => Ok(()),
-            Some(told) => match told.lead(desk) {
-                Ok(()) => Ok(()),
-                Err(error) => Err(Fault::from(error)),
-            },
+    pub fn say_lead(&mut self, desk: &Desk) -> Result<(), Fault>
+        ensures { has_ended self.old ≡ true → has_ended self.new ≡ true }
+    {
+        if let Some(guest) = &mut self.guest {
+            guest.lead(desk)?;
         }
+        Ok(())
     }
 
     /// The keeper is told what the gateway has decided, if it was not.
     ///
     /// # Errors
     /// `Memory` if a growth of memory was refused.
-    pub fn say_steps(&mut self, desk: &Desk) -> Result<(), Fault> {
+    pub fn say_steps(&mut self, desk: &Desk) -> Result<(), Fault>
+        ensures { has_ended self.old ≡ true → has_ended self.new ≡ true }
+    {
         let Some(lead) = &mut self.means.lead else {
             return Ok(());
         };
-        match told_to(&mut self.guest) {
-            None => Ok(()),
-            Some(told) => match told.decide(lead, desk) {
-                Ok(()) => Ok(()),
-                Err(error) => Err(Fault::from(error)),
-            },
+        if let Some(guest) = &mut self.guest {
+            guest.decide(lead, desk)?;
         }
+        Ok(())
     }
 
     /// Whether the keeper is there that has said that the gateway leads.
