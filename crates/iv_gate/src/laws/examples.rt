@@ -5,7 +5,9 @@ ghost use Rattle.iv_machine.specs.declared.Cause.TheVariants as cause;
 ghost use Rattle.iv_message.specs.Told.{denied, granted, over, settled, undecided};
 ghost use Rattle.iv_gate.specs.Arriving.{decided_here, fault_of, gap, not_accepted, other_log, position, takes};
 ghost use Rattle.iv_gate.specs.Gate.{decides};
-ghost use Rattle.iv_gate.specs.Worked.{ahead_ask, asks, both_rows, by_ann, done_and_told, foreign_ask, foreign_step, given_again, is_done, later, leads, led_on, led_twice, notes, put, puts, reads_notes, reads_of, steps_in, sums_made, taken, taken_and_given, taken_before, told_more, too_large, total, without_right, writes, wrote};
+ghost use Rattle.iv_gate.specs.Worked.{ahead_ask, asks, both_rows, by_ann, done_and_told, foreign_ask, foreign_step, given_again, is_done, later};
+ghost use Rattle.iv_gate.specs.Worked.{leads, led_on, led_twice, notes, put, puts, reads_notes, reads_of, steps_in, sums_made, taken};
+ghost use Rattle.iv_gate.specs.Worked.{taken_and_given, taken_before, told_more, too_large, total, without_right, writes, wrote};
 
 /// By a step that takes a right, brings rows and gives it again, who reads is told the rows, once, and no end; where the right is not given
 /// again, the end, and no row. If a later step gives it, that is told, though ann had the right to write.
