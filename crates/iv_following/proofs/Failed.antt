@@ -30,6 +30,7 @@ none_is_memory (code.NoEntry line to) not = λ h. cc
 none_is_memory (code.NotAccepted entry to refusal) not = λ h. cc
 none_is_memory (code.NotNew name to) not = λ h. cc
 none_is_memory (code.NotDecided to kept told) not = λ h. cc
+none_is_memory (code.DecidedHere to) not = λ h. cc
 none_is_memory code.Memory not = λ h. not refl
 
 pub failed_at_log : (o : Option Fault) (was now : List ℕ) → o ≢ None → ((f : Fault) → o ≡ Some f → IsLineTold f was now) → IsFailed ends.Log o was now

@@ -1,13 +1,13 @@
 -- What a keeper is told of what is not taken of it, what becomes of the desk, and how the program ends.
-use Rattle.std.specs.Prelude.{◌≡◌, ℕ, false, List, [], ◌∷◌, ◌++◌, Option, Some, None}
+use Rattle.std.specs.Prelude.{◌≡◌, ℕ, false, true, List, [], ◌∷◌, ◌++◌, Option, Some, None, is_some}
 use Rattle.iv_records.specs.Journal.{record_of}
 use Rattle.iv_gate.specs.Gate.{Log}
 use Rattle.iv_desk.specs.Front.{Front}
 use Rattle.iv_desk.specs.Desks.{IsDesk}
 use Rattle.iv_desk.specs.declared.desk.Desk.{Desk}
 use Rattle.iv_door.specs.Answers.{Fault, fault_line, not_decided}
-use Rattle.iv_door.specs.Talk.{Act, Hears, Talk, acts, ended, fails, kept, recalled, shut}
-use Rattle.iv_running.specs.Running.{Leads}
+use Rattle.iv_door.specs.Talk.{Act, Hears, Talk, acts, ended, fails, kept, led, recalled, shut}
+use Rattle.iv_running.specs.Running.{Leads, Serves}
 use Rattle.iv_running.specs.declared.fault.Fault.{Fault as End}
 use Rattle.iv_running.specs.declared.fault.Fault.TheVariants as ends
 use Rattle.iv_following.specs.Following.{HeedsAll, House, IsTold, Lead}
@@ -51,14 +51,20 @@ IsUnkept n lead was now ends.Desk = lead ≡ None
 IsUnkept n lead was now ends.Memory = Unit {0}
 IsUnkept n lead was now _ = ⊥
 
+-- the gateway leads the log already
+abbrev pub IsUnled : Option Lead → End → Type 0
+IsUnled lead ends.Desk = is_some lead ≡ true
+IsUnled lead _ = ⊥
+
 -- an act is not carried out: a step, of which the desk may have some; a recall, which changes nothing there; that nobody may come in, which nobody
--- may any more all the same; that the log has what was decided, which changes nothing. No other act fails
+-- may any more all the same; that the gateway leads, or that the log has what was decided, which changes nothing. No other act fails
 abbrev pub IsUnheeded : Option Log → Act → House → (was : List ℕ) → End → House → (now : List ℕ) → Type 0
 IsUnheeded log (ended from to texts) x was end y now =
     Leads x.desk y.desk × (y ≡ record x { desk = y.desk }) × IsUntaken log from to texts x.desk was now end
 IsUnheeded log recalled x was end y now = (y ≡ x) × IsUnread end
 IsUnheeded log (kept n) x was end y now = (y ≡ x) × IsUnkept n x.lead was now end
-IsUnheeded log shut x was end y now = Leads x.desk y.desk × (y ≡ record x { desk = y.desk; may = false }) × (now ≡ was)
+IsUnheeded log led x was end y now = (y ≡ x) × (now ≡ was) × IsUnled x.lead end
+IsUnheeded log shut x was end y now = Serves x.desk y.desk × (y ≡ record x { desk = y.desk; may = false }) × (now ≡ was)
 IsUnheeded log _ x was end y now = ⊥
 
 -- no line is heard, since memory was refused; since what is said cannot be, which the keeper is told; or it is heard, and not carried out

@@ -20,7 +20,7 @@ use Rattle.iv_door.specs.Answers.{Fault, decided_here, gap, no_entry, not_accept
 use Rattle.iv_door.specs.Leading.{lines_from}
 use Rattle.iv_door.specs.Talk.{Act, Hears, Talk, acts, ended, kept, led, nothing, opened, shut}
 use Rattle.iv_running.specs.Logs.{HasLines, recalled_in}
-use Rattle.iv_running.specs.Running.{IsFollowed, Leads}
+use Rattle.iv_running.specs.Running.{IsFollowed, Serves}
 
 -- a log as a keeper says it
 abbrev pub said_log : Log → door.Log
@@ -55,15 +55,21 @@ pub record Lead : Type 0 where
 
 -- it leads from where it is: all up to there was brought by its keeper
 abbrev pub IsLed : Desk → Desk → Lead → Type 0
-IsLed x y a = (d : Front) → IsDesk d x → IsDesk (by_event event.led d) y × (d.gate.dead ≡ false → a ≡ record { told = position d.gate; kept = position d.gate })
+IsLed x y a = (d : Front) → IsDesk d x → IsDesk (by_event event.led d) y
+    × (d.gate.dead ≡ false → a ≡ record { told = position d.gate; kept = position d.gate })
 
 -- no less is in the log than before, and nothing that the keeper was not told
 abbrev pub IsKept : ℕ → Lead → Lead → Type 0
 IsKept n a b = (a.kept ≤ n) × (n ≤ a.told) × (b ≡ record a { kept = n })
 
--- what the keeper is told of what the gateway has decided and the journal has not: once, as steps from where that is
+-- what the keeper is told of what the gateway has decided and the journal has not: nothing if it was told all, else steps from where that is.
+-- Each is told once if it was told nothing that the journal has not: nobody decides before the journal has all that was told
 abbrev pub steps_told : Gate → Lead → List ℕ
 steps_told g a = if a.told == position g then [] else lines_from (settled_at g) (journal_of (drop g.kept g.entries))
+
+-- it is told them, behind what it was to be told
+abbrev pub AreTold : Gate → Lead → (was : List ℕ) → Lead → (now : List ℕ) → Type 0
+AreTold g a was b now = (now ≡ was ++ steps_told g a) × (b ≡ record a { told = position g })
 
 -- ---- acts
 
@@ -81,7 +87,7 @@ house desk may lead = record { desk = desk; may = may; lead = lead }
 abbrev pub IsHeeded : Option Log → Act → House → House → Type 0
 IsHeeded log (ended from to texts) x y = (l : Log) × (log ≡ Some l) × IsFollowed l from (record_of texts) x.desk y.desk × (y ≡ record x { desk = y.desk })
 IsHeeded log opened x y = y ≡ record x { may = true }
-IsHeeded log shut x y = Leads x.desk y.desk × (y ≡ record x { desk = y.desk; may = false })
+IsHeeded log shut x y = Serves x.desk y.desk × (y ≡ record x { desk = y.desk; may = false })
 IsHeeded log led x y = (x.lead ≡ None) × (a : Lead) × IsLed x.desk y.desk a × (y ≡ record x { desk = y.desk; lead = Some a })
 IsHeeded log (kept n) x y = (a : Lead) × (x.lead ≡ Some a) × (b : Lead) × IsKept n a b × (y ≡ record x { lead = Some b })
 IsHeeded log _ x y = y ≡ x

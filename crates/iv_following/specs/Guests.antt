@@ -1,5 +1,5 @@
 -- Who comes to a port as a keeper, and by what it is one.
-use Rattle.std.specs.Prelude.{◌≡◌, ◌⊎◌, ◌<◌, ◌≤◌, ℕ, Bool, true, false, List, ◌++◌, bytes_eq, codes, length, Option, Some, None, option_map}
+use Rattle.std.specs.Prelude.{◌≡◌, ◌⊎◌, ◌<◌, ◌≤◌, ℕ, Bool, true, false, List, [], ◌++◌, bytes_eq, codes, length, Option, Some, None, option_map}
 use Rattle.iv_rows.specs.Options.{if_some}
 use Rattle.iv_records.specs.Cuts.{cut_at}
 use Rattle.iv_gate.specs.Gate.{Log}
@@ -44,8 +44,16 @@ abbrev pub is_known : Stage → Bool
 is_known (Known k) = true
 is_known (Unknown said until) = false
 
+-- what it is to be told; nobody else is told anything
+abbrev pub out_of : Stage → List ℕ
+out_of (Known k) = k.told.out.items
+out_of (Unknown said until) = []
+
 abbrev pub is_there : Option Stage → Bool
 is_there s = if_some s false is_known
+
+abbrev pub out_to : Option Stage → List ℕ
+out_to s = if_some s [] out_of
 
 abbrev pub stage_of : Option Guest → Option Stage
 stage_of o = option_map (λ g. g.stage) o

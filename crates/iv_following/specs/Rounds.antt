@@ -1,5 +1,6 @@
 -- What comes of a keeper in a round, and what is done with it.
-use Rattle.std.specs.Prelude.{◌≡◌, ◌&&◌, Bool, Option, Some, None, is_none}
+use Rattle.std.specs.Prelude.{◌≡◌, ℕ, ◌^◌, ◌-◌, ◌&&◌, Bool, Option, Some, None, is_none}
+use Rattle.iv_rows.specs.Options.{if_some}
 use Rattle.iv_gate.specs.Gate.{Log}
 use Rattle.iv_running.specs.declared.fault.Fault.{Fault as End}
 use Rattle.iv_following.specs.Following.{HeedsAll, House}
@@ -19,6 +20,10 @@ IsHeardOf log (Some (Unknown said until)) x s y = (s ≡ Some (Unknown said unti
 abbrev pub IsBrokenOf : Option Log → Option Stage → House → End → Option Stage → House → Type 0
 IsBrokenOf log (Some (Known k)) x end (Some (Known m)) y = IsBroken log k.talk x end y m.told.out.items
 IsBrokenOf log _ x end s y = ⊥
+
+-- up to where what the gateway has decided is in the log: the greatest number if it leads none
+abbrev pub kept_of : Following → ℕ
+kept_of f = if_some f.means.lead (2 ^ 64 - 1) (λ a. a.kept)
 
 -- it ends with its keeper, who has gone: no other comes
 abbrev pub has_ended : Following → Bool

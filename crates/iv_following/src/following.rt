@@ -1,6 +1,6 @@
 //! `Following`: the log that is followed, and who has come as its keeper.
 ghost use Rattle.std.specs.Prelude.{◌≡◌, IfErr, IfOk, OnOk, Some, false, is_some, true};
-ghost use Rattle.iv_running.specs.Running.{Leads};
+ghost use Rattle.iv_running.specs.Running.{Leads, Serves};
 ghost use Rattle.iv_following.specs.Following.{house};
 ghost use Rattle.iv_following.specs.Guests.{has_keeper, has_leader, stage_of};
 ghost use Rattle.iv_following.specs.Rounds.{IsBrokenOf, IsHeardOf, has_ended};
@@ -166,7 +166,7 @@ impl Following {
 
     /// While no keeper is there, nobody is let in, and who is there goes.
     fn shut_without(&self, desk: &mut Desk, server: &mut Server) -> Result<(), Fault>
-        ensures leads { Leads desk.old desk.new }
+        ensures serves { Serves desk.old desk.new }
         ensures shut { has_keeper self.now.guest ≡ false → server.new.open ≡ false }
     {
         if self.has_keeper() {

@@ -1,8 +1,10 @@
 //! `Guest`: who has come by a way: the keeper, or somebody who has yet to show the secret. What is a keeper's goes with it.
-ghost use Rattle.std.specs.Prelude.{◌≡◌, ◌++◌, IfOk, OnOk, Some, option_map};
+ghost use Rattle.std.specs.Prelude.{◌≡◌, ◌++◌, IfOk, OnOk, Some, false, option_map, true};
+ghost use Rattle.iv_desk.specs.Desks.{IsDesk};
+ghost use Rattle.iv_desk.specs.Front.{Front};
 ghost use Rattle.iv_door.specs.Talk.{at_start};
-ghost use Rattle.iv_following.specs.Following.{said_log};
-ghost use Rattle.iv_following.specs.Guests.{IsGuest, has_led, is_known};
+ghost use Rattle.iv_following.specs.Following.{AreTold, said_log};
+ghost use Rattle.iv_following.specs.Guests.{IsGuest, has_led, is_known, out_of};
 
 use crate::keeper::{Keeper, Means};
 use crate::leading::Lead;
@@ -182,7 +184,11 @@ impl Guest {
     ///
     /// # Errors
     /// `AllocError` if a growth of memory was refused.
-    pub(crate) fn decide(&mut self, lead: &mut Lead, desk: &Desk) -> Result<(), AllocError> {
+    pub(crate) fn decide(&mut self, lead: &mut Lead, desk: &Desk) -> Result<(), AllocError>
+        ensures told { OnOk result ((d : Front) → IsDesk d desk.now → d.gate.dead ≡ false → is_known self.old.stage ≡ true
+            → AreTold d.gate lead.old (out_of self.old.stage) lead.new (out_of self.new.stage)) }
+        ensures kept { lead.new.kept ≡ lead.old.kept }
+    {
         match &mut self.stage {
             Stage::Known(keeper) => keeper.told.decide(lead, desk),
             Stage::Unknown(_, _) => Ok(()),

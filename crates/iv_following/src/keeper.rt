@@ -3,7 +3,7 @@ ghost use Rattle.std.specs.Prelude.{◌≡◌, [], IfErr, IfOk, None, OnErr, OnO
 ghost use Rattle.iv_door.specs.Talk.{at_start, ended};
 ghost use Rattle.iv_door.specs.Views.{act_of};
 ghost use Rattle.iv_running.specs.Running.{Leads};
-ghost use Rattle.iv_following.specs.Failing.{IsBroken, IsUnheard, IsUnheeded, IsUnkept, IsUntaken};
+ghost use Rattle.iv_following.specs.Failing.{IsBroken, IsUnheard, IsUnheeded, IsUnkept, IsUnled, IsUntaken};
 ghost use Rattle.iv_following.specs.Following.{HeedsAll, IsHeard, IsHeeded, IsKept, IsLed, Lead as Leading, house, said_log};
 
 use crate::leading::{Lead, begin_to_lead};
@@ -91,6 +91,8 @@ fn end_step(
 fn take_lead(means: &mut Means, desk: &mut Desk, told: &mut Told) -> Result<(), Fault>
     ensures leads { Leads desk.old desk.new }
     ensures led { OnOk result ((means.old.lead ≡ None) × (a : Leading) × IsLed desk.old desk.new a × (means.new.lead ≡ Some a)) }
+    ensures fault { IfErr result (IsUnled means.old.lead) }
+    ensures fails { OnErr result ((desk.new ≡ desk.old) × (means.new.lead ≡ means.old.lead) × (told.new.out.items ≡ told.old.out.items)) }
     ensures same { means.new.log ≡ means.old.log }
 {
     match &means.lead {

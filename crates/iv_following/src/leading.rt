@@ -92,6 +92,7 @@ impl Told {
         ensures told { OnOk result ((d : Front) → IsDesk d desk.now → d.gate.dead ≡ false
             → self.new.out.items ≡ self.old.out.items ++ steps_told d.gate lead.old) }
         ensures lead { OnOk result ((d : Front) → IsDesk d desk.now → d.gate.dead ≡ false → lead.new ≡ record lead.old { told = position d.gate }) }
+        ensures kept { lead.new.kept ≡ lead.old.kept }
     {
         let position = desk.position();
         if lead.told == position {

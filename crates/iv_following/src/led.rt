@@ -1,8 +1,10 @@
 //! What the keeper of a log that is led is told in a round, and that the gateway is over once that keeper has gone.
-ghost use Rattle.std.specs.Prelude.{◌≡◌, ◌^◌, ◌-◌, OnOk, is_some, true};
-ghost use Rattle.iv_rows.specs.Options.{if_some};
-ghost use Rattle.iv_following.specs.Guests.{has_leader};
-ghost use Rattle.iv_following.specs.Rounds.{has_ended};
+ghost use Rattle.std.specs.Prelude.{◌≡◌, IfSome, OnOk, false, is_some, true};
+ghost use Rattle.iv_desk.specs.Desks.{IsDesk};
+ghost use Rattle.iv_desk.specs.Front.{Front};
+ghost use Rattle.iv_following.specs.Following.{AreTold};
+ghost use Rattle.iv_following.specs.Guests.{has_keeper, has_leader, out_to, stage_of};
+ghost use Rattle.iv_following.specs.Rounds.{has_ended, kept_of};
 
 use crate::following::Following;
 use iv_desk::Desk;
@@ -18,7 +20,7 @@ impl Following {
 
     /// Up to where what the gateway has decided is in the log: the greatest number if it leads none.
     pub fn kept(&self) -> u64
-        ensures { result ≡ if_some self.now.means.lead (2 ^ 64 - 1) (λ a. a.kept) }
+        ensures { result ≡ kept_of self.now }
     {
         match &self.means.lead {
             None => u64::MAX,
@@ -31,7 +33,8 @@ impl Following {
     /// # Errors
     /// `Memory` if a growth of memory was refused.
     pub fn say_lead(&mut self, desk: &Desk) -> Result<(), Fault>
-        ensures { has_ended self.old ≡ true → has_ended self.new ≡ true }
+        ensures ended { has_ended self.old ≡ true → has_ended self.new ≡ true }
+        ensures kept { self.new.means ≡ self.old.means }
     {
         if let Some(guest) = &mut self.guest {
             guest.lead(desk)?;
@@ -44,15 +47,23 @@ impl Following {
     /// # Errors
     /// `Memory` if a growth of memory was refused.
     pub fn say_steps(&mut self, desk: &Desk) -> Result<(), Fault>
-        ensures { has_ended self.old ≡ true → has_ended self.new ≡ true }
+        ensures ended { has_ended self.old ≡ true → has_ended self.new ≡ true }
+        ensures kept { kept_of self.new ≡ kept_of self.old }
+        ensures leads { is_some self.new.means.lead ≡ is_some self.old.means.lead }
+        ensures told { OnOk result ((d : Front) → IsDesk d desk.now → d.gate.dead ≡ false → has_keeper self.old.guest ≡ true
+            → IfSome self.old.means.lead (λ a. IfSome self.new.means.lead (λ b.
+            AreTold d.gate a (out_to (stage_of self.old.guest)) b (out_to (stage_of self.new.guest))))) }
     {
         let Some(lead) = &mut self.means.lead else {
             return Ok(());
         };
-        if let Some(guest) = &mut self.guest {
-            guest.decide(lead, desk)?;
+        match &mut self.guest {
+            None => Ok(()),
+            Some(guest) => match guest.decide(lead, desk) {
+                Ok(()) => Ok(()),
+                Err(error) => Err(Fault::from(error)),
+            },
         }
-        Ok(())
     }
 
     /// Whether the keeper is there that has said that the gateway leads.
