@@ -198,7 +198,8 @@ impl Admission {
         ensures web { OnOk result (self.new.known.web ≡ web_on self.old self.new.second) }
         ensures looked { OnOk result (self.new.looked ≡ (self.new.second % 10 == 0)) }
     {
-        self.read(read_tokens(rt, file));
+        let entries = read_tokens(rt, file);
+        self.read(entries);
         self.open_at(desk, second_now(rt))
     }
 
