@@ -1,5 +1,6 @@
 -- Which tokens a desk is to know, second by second, and which web tokens are known on.
-use Rattle.std.specs.Prelude.{◌≡◌, ◌⊎◌, ℕ, ◌%◌, ◌==◌, ◌&&◌, ◌||◌, Bool, true, false, not, if◌then◌else◌, List, [], ◌∷◌, ◌++◌, codes, filter, nat_lt, Option, Some, None, option_and_then, Result, Ok, Err}
+use Rattle.std.specs.Prelude.{◌≡◌, ◌⊎◌, ℕ, ◌%◌, ◌==◌, ◌&&◌, ◌||◌, Bool, true, false, not, if◌then◌else◌, List, [], ◌∷◌, ◌++◌, codes, filter, length}
+use Rattle.std.specs.Prelude.{nat_lt, Option, Some, None, option_and_then, Result, Ok, Err}
 use Rattle.iv_clients.specs.Tokens.{Token}
 use Rattle.iv_gate.specs.Events.{known}
 use Rattle.iv_tokens.specs.declared.web.Judged.{Judged}
@@ -27,13 +28,14 @@ IsToldOf tokens x y = (d : Front) → IsDesk d x → IsCalledOut dismissed (by_e
 abbrev pub IsHanded : Known → List Token → (x y : Desk) → Type 0
 IsHanded k tokens x y = IsToldOf tokens x y ⊎ ((y ≡ x) × (handed_on k ≡ Some tokens))
 
--- these tokens of a file are known, and no web token, and they were handed on
+-- these tokens of a file are known, and no web token, and they were handed on; texts are judged if there is a secret
 pub record IsBegun (es : List Entry) (a : Admission) (ts : List Token) : Type 0 where
   pub entries : a.known.entries ≡ es
   pub web : a.known.web ≡ []
   pub tokens : ts ≡ tokens_of a
   pub handed : handed_on a.known ≡ Some ts
   pub admins : a.admins.tokens.items ≡ admins_among ts
+  pub judges : a.judges ≡ not (length a.known.secret == 0)
 
 -- the tokens of administrators are those among the tokens that were handed on last
 abbrev pub HasAdmins : Admission → Type 0

@@ -1,13 +1,15 @@
 //! `Admission`: the tokens that the desk is to know, as far as a second says, and web tokens that are presented.
-ghost use Rattle.std.specs.Prelude.{◌≡◌, ◌<◌, ◌≤◌, ◌+◌, ◌-◌, ◌%◌, ◌==◌, ◌&&◌, ℕ, IfOk, List, None, Ok, OnOk, Some, codes, if◌then◌else◌, length, map, not, slice_get, true};
+ghost use Rattle.std.specs.Prelude.{◌≡◌, ◌<◌, ◌≤◌, ◌+◌, ◌-◌, ◌%◌, ◌==◌, ◌&&◌, ℕ, IfOk, List, None, Ok, OnOk, Some, codes, if◌then◌else◌, length, map};
+ghost use Rattle.std.specs.Prelude.{not, option_map, slice_get, true, unwrap_or};
 ghost use Rattle.std.specs.List.{remove};
 ghost use Rattle.httparse.specs.Grammar.{ReadsRequest, RequestHead};
 ghost use Rattle.httparse.specs.Spans.{name_and_value};
 ghost use Rattle.iv_pages.specs.Asking.{field_in, most_fields, window};
 ghost use Rattle.iv_peer.specs.Socket.{fresh};
 ghost use Rattle.iv_tokens.specs.Web.{Web as Seen, handed_on, known_at, told};
-ghost use Rattle.iv_running.specs.Running.{Leads};
-ghost use Rattle.iv_admission.specs.Admitting.{HasAdmins, IsBegun, IsHanded, IsLater, IsSameBase, IsSameBut, IsToldOf, answer_beside, answer_for, in_use, is_beyond, is_in_use, opens_admin, tokens_of, web_after, web_on, with_granted};
+ghost use Rattle.iv_running.specs.Running.{Serves};
+ghost use Rattle.iv_admission.specs.Admitting.{HasAdmins, IsBegun, IsHanded, IsLater, IsSameBase, IsSameBut, IsToldOf, answer_beside, answer_for};
+ghost use Rattle.iv_admission.specs.Admitting.{in_use, is_beyond, is_in_use, opens_admin, tokens_of, web_after, web_on, with_granted};
 ghost use Rattle.iv_admission.specs.ByToken.{are_by, are_of, with_count};
 ghost use Rattle.std.specs.Global.{Vec};
 
@@ -63,7 +65,7 @@ fn first_handed(
     requires { known.old.handed ≡ None }
     ensures tokens { IfOk result (λ ts. ts.items ≡ known_at second known.new) }
     ensures handed { OnOk result (handed_on known.new ≡ Some (known_at second known.new)) }
-    ensures keeps { (known.new.entries ≡ known.old.entries) × (known.new.web ≡ known.old.web) }
+    ensures keeps { (known.new.entries ≡ known.old.entries) × (known.new.secret ≡ known.old.secret) × (known.new.web ≡ known.old.web) }
 {
     match known.at(alloc, second)? {
         Some(tokens) => Ok(tokens),
@@ -79,7 +81,8 @@ impl Admission {
         entries: Vec<Entry>,
         second: u64,
     ) -> Result<(Admission, Vec<Token>), AllocError>
-        ensures { IfOk result (λ p. IsBegun entries.items p.0 p.1.items) }
+        ensures begun { IfOk result (λ p. IsBegun entries.items p.0 p.1.items) }
+        ensures secret { IfOk result (λ p. p.0.known.secret ≡ secret.items) }
     {
         let judges = !secret.is_empty();
         let mut known = KnownTokens::new(alloc, secret, entries);
@@ -117,7 +120,7 @@ impl Admission {
 
     /// Has the desk know the tokens that are known now, if these are others than those that it knows. Who came by another is closed.
     fn open(&mut self, desk: &mut Desk) -> Result<(), Fault>
-        ensures leads { Leads desk.old desk.new }
+        ensures serves { Serves desk.old desk.new }
         ensures handed { OnOk result (IsHanded self.old.known (tokens_of self.old) desk.old desk.new) }
         ensures kept { OnOk result (handed_on self.new.known ≡ Some (tokens_of self.old)) }
         ensures same { IsSameBut self.old self.new × (self.new.known.web ≡ self.old.known.web) }
@@ -151,7 +154,7 @@ impl Admission {
     /// It is a further second. Has the desk know the tokens that are known then, if these are others than those that it knows. Who came by
     /// another is closed.
     fn open_at(&mut self, desk: &mut Desk, second: u64) -> Result<(), Fault>
-        ensures leads { Leads desk.old desk.new }
+        ensures serves { Serves desk.old desk.new }
         ensures handed { OnOk result (IsHanded self.old.known (tokens_of self.new) desk.old desk.new) }
         ensures kept { OnOk result (handed_on self.new.known ≡ Some (tokens_of self.new)) }
         ensures admins { HasAdmins self.old → OnOk result (HasAdmins self.new) }
@@ -164,13 +167,14 @@ impl Admission {
         self.open(desk)
     }
 
-    /// The file of tokens is read again, if it has changed.
-    fn read(&mut self, rt: &HostRuntime, file: &mut TokenFile)
+    /// The file of tokens was read again, if it has changed: these are its entries.
+    fn read(&mut self, entries: Option<Vec<Entry>>)
         ensures later { IsLater self.old.known self.new.known }
+        ensures entries { self.new.known.entries ≡ unwrap_or (option_map (λ es. es.items) entries) self.old.known.entries }
         ensures web { self.new.known.web ≡ self.old.known.web }
         ensures keeps { IsSameBase self.old self.new × (self.new.admins ≡ self.old.admins) }
     {
-        if let Some(entries) = read_tokens(rt, file) {
+        if let Some(entries) = entries {
             self.known.read(entries);
         }
     }
@@ -186,7 +190,7 @@ impl Admission {
         desk: &mut Desk,
         file: &mut TokenFile,
     ) -> Result<(), Fault>
-        ensures leads { Leads desk.old desk.new }
+        ensures serves { Serves desk.old desk.new }
         ensures handed { OnOk result (IsHanded self.old.known (tokens_of self.new) desk.old desk.new) }
         ensures kept { OnOk result (handed_on self.new.known ≡ Some (tokens_of self.new)) }
         ensures admins { HasAdmins self.old → OnOk result (HasAdmins self.new) }
@@ -194,7 +198,8 @@ impl Admission {
         ensures web { OnOk result (self.new.known.web ≡ web_on self.old self.new.second) }
         ensures looked { OnOk result (self.new.looked ≡ (self.new.second % 10 == 0)) }
     {
-        self.read(rt, file);
+        let entries = read_tokens(rt, file);
+        self.read(entries);
         self.open_at(desk, second_now(rt))
     }
 
@@ -282,7 +287,7 @@ impl Admission {
     /// # Errors
     /// As of `look`.
     pub fn present(&mut self, desk: &mut Desk, text: &[u8]) -> Result<Judged, Fault>
-        ensures leads { Leads desk.old desk.new }
+        ensures serves { Serves desk.old desk.new }
         ensures judged { IfOk result (λ j. j ≡ told (answer_for self.old text.now)) }
         ensures web { OnOk result (self.new.known.web ≡ web_after self.old text.now) }
         ensures same { OnOk result (IsSameBut self.old self.new) }

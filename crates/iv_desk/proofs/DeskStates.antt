@@ -52,6 +52,13 @@ pub IsBehind-by_event : LeavesMarks → (d : Front) (e : Event) → IsWell e →
 IsBehind-by_event k d e w v x slots b is same =
     record { alive = dead-next k d.gate e w b.alive ∙ (same ∙ b.alive); gate = is; places = b.places; lives = b.lives }
 
+-- its gateway goes on by an event
+pub IsDesk-by_event : LeavesMarks → (e : Event) → IsWell e → ((g : Gate) → (marked g e).dead ≡ g.dead) → (v : Gateway) (x : Desk) → x.dead ≡ false
+    → ((g : Gate) → IsGate g x.gateway → IsGate (next g e) v) → (d : Front) → IsDesk d x → IsDesk (by_event e d) (record x { gateway = v })
+IsDesk-by_event k e w same v x live is d b =
+    let a = IsBehind-IsDesk d x b live in
+    IsDesk-IsBehind (by_event e d) (record x { gateway = v }) (IsBehind-by_event k d e w x.gateway v x.places.items a (is d.gate a.gate) (same d.gate)) live
+
 -- nothing happens to a dead one
 pub IsDesk-rests : ((g : Gate) (e : Event) → g.dead ≡ true → next g e ≡ g) → (e : Event) (d : Front) (x : Desk) → IsDesk d x → x.dead ≡ true → IsDesk (by_event e d) x
 IsDesk-rests rests e d x b h = subst (λ (g : Gate). IsDesk (record d { gate = g }) x) (sym (rests d.gate e (sym b.dead ∙ h))) b

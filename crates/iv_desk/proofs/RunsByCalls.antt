@@ -3,6 +3,7 @@ use Rattle.std.proofs.Common.{◌≡◌, ℕ, Bool, true, false, cond, List, [],
 use Rattle.iv_rows.specs.Options.{if_some}
 use Rattle.iv_clients.specs.Clients.{Shown, client_at}
 use Rattle.iv_clients.specs.Tokens.{Token}
+use Rattle.iv_gate.specs.Events.{Event}
 use Rattle.iv_gate.specs.Gate.{Gate, Head}
 use Rattle.iv_gate.specs.Restoring.{Restores, gate_at_start}
 use Rattle.iv_gate.specs.Runs.{Runs}
@@ -21,17 +22,17 @@ pub FrontRuns-Restores : (cap most places : ℕ) (tokens : List Token) (head : H
 FrontRuns-Restores cap most places tokens head sent journal g r runs = starts g places runs (λ m. ap (λ (x : Gate). client_at x.clients m) r.leads.gate ∙ client_at-replicate most m)
 
 -- what goes on from a run is one
-pub FrontRuns-GoesOn : (cap : ℕ) (d e : Front) → FrontRuns cap d → GoesOn d e → FrontRuns cap e
-FrontRuns-GoesOn cap d e r stays = r
-FrontRuns-GoesOn cap d e r (then_happens b f g a h) = goes_on b f (FrontRuns-GoesOn cap d b r g) a h
-FrontRuns-GoesOn cap d e r (then_closes b m code words g a t) = closes b m code words (FrontRuns-GoesOn cap d b r g) a t
+pub FrontRuns-GoesOn : (may : Front → Event → Bool) (cap : ℕ) (d e : Front) → FrontRuns cap d → GoesOn may d e → FrontRuns cap e
+FrontRuns-GoesOn may cap d e r stays = r
+FrontRuns-GoesOn may cap d e r (then_happens b f g a h is) = goes_on b f (FrontRuns-GoesOn may cap d b r g) a h
+FrontRuns-GoesOn may cap d e r (then_closes b m code words g a t) = closes b m code words (FrontRuns-GoesOn may cap d b r g) a t
 
-pub GoesOn-IsHeardBy : (m : ℕ) (d e : Front) (hearing : Hearing) → d.gate.dead ≡ false → IsHeardBy d m (socket_at d m) hearing e → GoesOn d e
-GoesOn-IsHeardBy m d e hearing a h = by (socket_at d m) refl h
+pub GoesOn-IsHeardBy : (may : Front → Event → Bool) (m : ℕ) (d e : Front) (hearing : Hearing) → d.gate.dead ≡ false → IsHeardBy d m (socket_at d m) hearing e → GoesOn may d e
+GoesOn-IsHeardBy may m d e hearing a h = by (socket_at d m) refl h
   where
-    by : (o : Option Socket) → socket_at d m ≡ o → IsHeardBy d m o hearing e → GoesOn d e
-    by None k h = subst (GoesOn d) (sym h.1) stays
-    by (Some s) k h = subst (GoesOn d) (sym h.4) (then_happens d (with_both m h.0 h.1 d) stays a (hears m s h.1 h.0 k h.2))
+    by : (o : Option Socket) → socket_at d m ≡ o → IsHeardBy d m o hearing e → GoesOn may d e
+    by None k h = subst (GoesOn may d) (sym h.1) stays
+    by (Some s) k h = subst (GoesOn may d) (sym h.4) (then_happens d (with_both m h.0 h.1 d) stays a (hears m s h.1 h.0 k h.2) refl)
 
 pub dead-offered : LeavesMarks → (m : ℕ) (d : Front) → d.gate.dead ≡ false → (offered m d).gate.dead ≡ false
 dead-offered k m d a = by (socket_at d m)
@@ -40,13 +41,14 @@ dead-offered k m d a = by (socket_at d m)
     by None = a
     by (Some s) = dead-offered_to k d.gate m s a
 
-pub GoesOn-offered : LeavesMarks → (b : Front) (ms : List ℕ) (d : Front) → GoesOn b d → d.gate.dead ≡ false → GoesOn b (at_each offered ms d)
-GoesOn-offered k b [] d g a = g
-GoesOn-offered k b (m ∷ ms) d g a = GoesOn-offered k b ms (offered m d) (then_happens d (offered m d) g a (offers m)) (dead-offered k m d a)
+pub GoesOn-offered : (may : Front → Event → Bool) → LeavesMarks → (b : Front) (ms : List ℕ) (d : Front) → GoesOn may b d → d.gate.dead ≡ false → GoesOn may b (at_each offered ms d)
+GoesOn-offered may k b [] d g a = g
+GoesOn-offered may k b (m ∷ ms) d g a = GoesOn-offered may k b ms (offered m d) (then_happens d (offered m d) g a (offers m) refl) (dead-offered k m d a)
 
-pub GoesOn-dismissed : (b : Front) (ms : List ℕ) (d : Front) → GoesOn b d → d.gate.dead ≡ false → GoesOn b (at_each dismissed ms d)
-GoesOn-dismissed b [] d g a = g
-GoesOn-dismissed b (m ∷ ms) d g a = GoesOn-dismissed b ms (dismissed m d) (then_happens d (dismissed m d) g a (dismisses m)) (by (is_dropped d.gate m))
+pub GoesOn-dismissed : (may : Front → Event → Bool) (b : Front) (ms : List ℕ) (d : Front) → GoesOn may b d → d.gate.dead ≡ false → GoesOn may b (at_each dismissed ms d)
+GoesOn-dismissed may b [] d g a = g
+GoesOn-dismissed may b (m ∷ ms) d g a =
+    GoesOn-dismissed may b ms (dismissed m d) (then_happens d (dismissed m d) g a (dismisses m) refl) (by (is_dropped d.gate m))
   where
     by : (b : Bool) → (cond b (at_socket m turned_away d) d).gate.dead ≡ false
     by true = a

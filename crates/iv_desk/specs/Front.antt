@@ -151,9 +151,18 @@ pub data FrontRuns (cap : ℕ) : Front → Type 0 where
   closes : (d : Front) (m code : ℕ) (words : List ℕ) → FrontRuns cap d → d.gate.dead ≡ false → may_tell code words ≡ true
       → FrontRuns cap (at_socket m (closed code words) d)
 
--- where a front goes on to: nowhere, or while it is alive anything happens, and sockets are closed from outside
-pub data GoesOn (d : Front) : Front → Type 0 where
-  stays : GoesOn d d
-  then_happens : (e f : Front) → GoesOn d e → e.gate.dead ≡ false → Happens e f → GoesOn d f
-  then_closes : (e : Front) (m code : ℕ) (words : List ℕ) → GoesOn d e → e.gate.dead ≡ false → may_tell code words ≡ true
-      → GoesOn d (at_socket m (closed code words) e)
+-- what happens to a socket may happen, which tokens are known, and a failure; of any other event of the gateway alone `may` says whether it may
+abbrev pub may_happen : (may : Front → Event → Bool) → (d e : Front) → Happens d e → Bool
+may_happen may d e syncs = may d synced
+may_happen may d e (arrives s is) = may d (arrived s)
+may_happen may d e leads = may d led
+may_happen may d e ticks = may d ticked
+may_happen may d e forgives = may d forgave
+may_happen may d e _ = true
+
+-- where a front goes on to: nowhere, or while it is alive something happens that may, and sockets are closed from outside
+pub data GoesOn (may : Front → Event → Bool) (d : Front) : Front → Type 0 where
+  stays : GoesOn may d d
+  then_happens : (e f : Front) → GoesOn may d e → e.gate.dead ≡ false → (h : Happens e f) → may_happen may e f h ≡ true → GoesOn may d f
+  then_closes : (e : Front) (m code : ℕ) (words : List ℕ) → GoesOn may d e → e.gate.dead ≡ false → may_tell code words ≡ true
+      → GoesOn may d (at_socket m (closed code words) e)

@@ -63,7 +63,8 @@ impl Desk {
     /// Those of the gateway's `restore`. The desk is dead then.
     pub fn restore(&mut self, journal: &[Line<'_>]) -> Result<(), RestoreFault>
         ensures restored { OnOk result ((d : Front) → IsNew d.gate → IsDesk d self.old → IsRestored d journal.now self.new) }
-        ensures damaged { (place : ℕ) → result ≡ Err (RestoreFault.Damaged place) → (d : Front) → IsNew d.gate → IsDesk d self.old → IsDamagedAt d.gate journal.now place }
+        ensures damaged { (place : ℕ) → result ≡ Err (RestoreFault.Damaged place) → (d : Front) → IsNew d.gate → IsDesk d self.old
+            → IsDamagedAt d.gate journal.now place }
         ensures fails { OnErr result ((d : Front) → IsDesk d self.old → IsDesk (by_event failed d) self.new) }
     {
         if self.dead {

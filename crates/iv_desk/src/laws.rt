@@ -1,7 +1,8 @@
 //! Laws of the sockets before a gateway. Each is the contract of a function that does nothing.
-ghost use Rattle.std.specs.Prelude.{◌≡◌, ℕ, List, false};
+ghost use Rattle.std.specs.Prelude.{◌≡◌, ℕ, Bool, List, false};
 ghost use Rattle.iv_clients.specs.Clients.{Shown};
 ghost use Rattle.iv_clients.specs.Tokens.{Token};
+ghost use Rattle.iv_gate.specs.Events.{Event};
 ghost use Rattle.iv_gate.specs.Gate.{Gate, Head};
 ghost use Rattle.iv_gate.specs.Restoring.{Restores, gate_at_start};
 ghost use Rattle.iv_gate.specs.Runs.{Runs};
@@ -57,10 +58,11 @@ pub fn sockets_are_closed_for_cause()
 pub fn calls_lead_from_runs_to_runs()
     ensures restores { (cap most places : ℕ) (tokens : List Token) (head : Head) (sent : List Shown) (journal : List Line) (g : Gate)
         → Restores (gate_at_start cap tokens most head sent) journal g → Runs cap g → FrontRuns cap (front_at_start g places) }
-    ensures runs { (cap : ℕ) (d e : Front) → FrontRuns cap d → GoesOn d e → FrontRuns cap e }
-    ensures hears { (m : ℕ) (d e : Front) (hearing : Hearing) → d.gate.dead ≡ false → IsHeardBy d m (socket_at d m) hearing e → GoesOn d e }
-    ensures offers { (ms : List ℕ) (d : Front) → d.gate.dead ≡ false → GoesOn d (at_each offered ms d) }
-    ensures dismisses { (ms : List ℕ) (d : Front) → d.gate.dead ≡ false → GoesOn d (at_each dismissed ms d) }
+    ensures runs { (may : Front → Event → Bool) (cap : ℕ) (d e : Front) → FrontRuns cap d → GoesOn may d e → FrontRuns cap e }
+    ensures hears { (may : Front → Event → Bool) (m : ℕ) (d e : Front) (hearing : Hearing) → d.gate.dead ≡ false
+        → IsHeardBy d m (socket_at d m) hearing e → GoesOn may d e }
+    ensures offers { (may : Front → Event → Bool) (ms : List ℕ) (d : Front) → d.gate.dead ≡ false → GoesOn may d (at_each offered ms d) }
+    ensures dismisses { (may : Front → Event → Bool) (ms : List ℕ) (d : Front) → d.gate.dead ≡ false → GoesOn may d (at_each dismissed ms d) }
 {
     events_leave_their_marks();
 }

@@ -6,7 +6,8 @@ use Rattle.std.proofs.lemmas.List.Concat.{flat_map-append}
 use Rattle.iv_rows.specs.Options.{if_some}
 use Rattle.iv_journal.specs.Journal.{Line}
 use Rattle.iv_records.specs.Journal.{Entry, journal_of, name_text, position_text, record_of, request_text, texts_of}
-use Rattle.iv_door.specs.Leading.{AreNext, LeadsAsAKeeper, line_from, lines_from, said_line, step_said, steps_said}
+use Rattle.iv_gate.specs.Arriving.{AreNext}
+use Rattle.iv_door.specs.Leading.{LeadsAsAKeeper, line_from, lines_from, said_line, step_said, steps_said}
 use Rattle.iv_door.specs.Said.{brings, ends}
 
 abbrev part : List ℕ → Line

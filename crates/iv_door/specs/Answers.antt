@@ -21,6 +21,7 @@ pub data Fault : Type 0 where
   not_accepted : (entry to refusal : ℕ) → Fault
   not_new : (name to : ℕ) → Fault
   not_decided : (kept from to : ℕ) → Fault
+  decided_here : (to : ℕ) → Fault
 
 -- ---- words
 
@@ -31,11 +32,14 @@ words_of (wrong_time line) = codes "line " ++ (decimal line ++ codes " comes at 
 words_of no_log = codes "no log is followed yet: begin one"
 words_of (other_log l) = codes "the log " ++ (l.name ++ (codes " of epoch " ++ (l.epoch ++ codes " is followed here: another one needs a new journal file")))
 words_of no_room = codes "a step is too long"
-words_of (gap to from position) = codes "step " ++ (decimal to ++ (codes " is from " ++ (decimal from ++ (codes ", and the position is " ++ decimal position))))
+words_of (gap to from position) =
+    codes "step " ++ (decimal to ++ (codes " is from " ++ (decimal from ++ (codes ", and the position is " ++ decimal position))))
 words_of (no_entry line to) = codes "line " ++ (decimal line ++ (codes " of step " ++ (decimal to ++ codes " is no entry")))
-words_of (not_accepted entry to refusal) = codes "entry " ++ (decimal entry ++ (codes " of step " ++ (decimal to ++ (codes " is refused by " ++ decimal refusal))))
+words_of (not_accepted entry to refusal) =
+    codes "entry " ++ (decimal entry ++ (codes " of step " ++ (decimal to ++ (codes " is refused by " ++ decimal refusal))))
 words_of (not_new name to) = codes "name " ++ (decimal name ++ (codes " of step " ++ (decimal to ++ codes " may have an answer already")))
 words_of (not_decided kept from to) = codes "kept " ++ (decimal kept ++ (codes " is not from " ++ (decimal from ++ (codes " to " ++ decimal to))))
+words_of (decided_here to) = codes "step " ++ (decimal to ++ codes " is brought, and the gateway leads")
 
 -- ---- lines
 

@@ -1,7 +1,8 @@
 -- What a gateway that leads says of the records that it decides: the lines by which a keeper brings steps to one that follows.
-use Rattle.std.specs.Prelude.{◌≡◌, ℕ, ◌+◌, if◌then◌else◌, List, [], ◌∷◌, ◌++◌, codes, decimal, flat_map, map, Some}
+use Rattle.std.specs.Prelude.{◌≡◌, ℕ, ◌+◌, if◌then◌else◌, List, [], ◌∷◌, ◌++◌, codes, decimal, flat_map, map}
 use Rattle.iv_journal.specs.Journal.{Line}
 use Rattle.iv_records.specs.Journal.{Entry, journal_of, name_text, request_text}
+use Rattle.iv_gate.specs.Arriving.{AreNext}
 use Rattle.iv_door.specs.Said.{Said, brings, ends, line_of}
 
 -- ---- as lines of a journal
@@ -27,11 +28,6 @@ step_said p e = map brings (map request_text e.requests ++ map name_text e.names
 abbrev pub steps_said : ℕ → List Entry → List Said
 steps_said p [] = []
 steps_said p (e ∷ es) = step_said p e ++ steps_said (p + 1) es
-
--- positions go on by one
-abbrev pub AreNext : ℕ → List Entry → Type 0
-AreNext p [] = Unit {0}
-AreNext p (e ∷ es) = (e.position ≡ Some (p + 1)) × AreNext (p + 1) es
 
 -- what a gateway that leads says of entries is what a keeper says to bring them as steps, to one that follows
 abbrev pub LeadsAsAKeeper : Type 0

@@ -1,5 +1,6 @@
 -- A keeper's talk: how what it says is heard, line by line, however its bytes come.
-use Rattle.std.specs.Prelude.{◌≡◌, ◌≢◌, ◌<◌, ◌≤◌, ℕ, ◌+◌, ◌==◌, ◌&&◌, not, Bool, true, false, if◌then◌else◌, List, [], ◌∷◌, ◌++◌, bytes_eq, length, nat_le, nat_lt, Option, None, Some}
+use Rattle.std.specs.Prelude.{◌≡◌, ◌≢◌, ◌<◌, ◌≤◌, ℕ, ◌+◌, ◌==◌, ◌&&◌, not, Bool, true, false, if◌then◌else◌, List, [], ◌∷◌, ◌++◌, bytes_eq, length}
+use Rattle.std.specs.Prelude.{nat_le, nat_lt, Option, None, Some}
 use Rattle.std.specs.List.{list_any}
 use Rattle.iv_rows.specs.Options.{if_some}
 use Rattle.iv_records.specs.Journal.{position_text}
@@ -86,7 +87,8 @@ is_between t = length t.texts == 0
 
 abbrev pub says : Talk → Said → Heard × Talk
 says t (begins l) = before t (if_some t.log (acts begun, record t { log = Some l; follows = true }) (λ k. (fails (other_log k), t)))
-says t (goes_on l) = before t (if_some t.log (fails no_log, t) (λ k. if is_same k l then (acts gone_on, record t { follows = true }) else (fails (other_log k), t)))
+says t (goes_on l) = before t (
+    if_some t.log (fails no_log, t) (λ k. if is_same k l then (acts gone_on, record t { follows = true }) else (fails (other_log k), t)))
 says t recalls = before t (if_some t.log (fails no_log, t) (λ k. (acts recalled, t)))
 says t (brings text) = bringing t (if has_room t text then (acts brought, with_text text t) else (fails no_room, t))
 says t (ends from to) = bringing t (acts (ended from to (t.texts ++ position_text to ∷ [])), stepped t)

@@ -1,6 +1,7 @@
 -- For contracts of the code: what its values are to the definitions.
 use Rattle.std.specs.Prelude.{◌≡◌, ℕ, ◌+◌, List, ◌∷◌, ◌++◌, false, map, true, Option, None, Some}
 use Rattle.iv_door.specs.Answers.{Fault, too_long, no_line, wrong_time, no_log, other_log, no_room, gap, no_entry, not_accepted, not_new, not_decided}
+use Rattle.iv_door.specs.Answers.{decided_here}
 use Rattle.iv_door.specs.Said as spec
 use Rattle.iv_door.specs.Talk.{Act, Heard, Talk, acts, fails, has_newline, nothing, begun, gone_on, recalled, brought, ended, opened, shut, led, kept}
 use Rattle.iv_door.specs.declared.said.Said.{Said}
@@ -57,6 +58,7 @@ fault_of (fault.NoEntry line to) = Some (no_entry line to)
 fault_of (fault.NotAccepted entry to refusal) = Some (not_accepted entry to refusal)
 fault_of (fault.NotNew name to) = Some (not_new name to)
 fault_of (fault.NotDecided number from to) = Some (not_decided number from to)
+fault_of (fault.DecidedHere to) = Some (decided_here to)
 fault_of fault.Memory = None
 
 abbrev pub heard_of : Option ActCode → Heard
@@ -71,4 +73,5 @@ IsFailingBy P (Some f) = (t : Talk) × P (fails f, t)
 -- the first line of what is unread is passed, if it has its end
 abbrev pub IsPassed : Talk → Option (List ℕ) → Talk → Type 0
 IsPassed t None u = (has_newline t.unread ≡ false) × (u ≡ t)
-IsPassed t (Some line) u = (rest : List ℕ) × (t.unread ≡ line ++ 10 ∷ rest) × (has_newline line ≡ false) × (u ≡ record t { unread = rest; lines = t.lines + 1 })
+IsPassed t (Some line) u = (rest : List ℕ) × (t.unread ≡ line ++ 10 ∷ rest)
+    × (has_newline line ≡ false) × (u ≡ record t { unread = rest; lines = t.lines + 1 })

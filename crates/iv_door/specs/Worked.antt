@@ -9,7 +9,8 @@ example = record { name = codes "example"; epoch = codes "0123456789abcdef012345
 
 -- what is said, and its lines
 abbrev pub said : List Said
-said = begins example ∷ brings (codes "\"as\":\"admin\",\"do\":\"create_role\",\"name\":\"mia\"}") ∷ ends 0 12 ∷ opens ∷ shuts ∷ recalls ∷ goes_on example ∷ leads ∷ keeps 14 ∷ []
+said = begins example ∷ brings (codes "\"as\":\"admin\",\"do\":\"create_role\",\"name\":\"mia\"}")
+    ∷ ends 0 12 ∷ opens ∷ shuts ∷ recalls ∷ goes_on example ∷ leads ∷ keeps 14 ∷ []
 
 abbrev pub said_lines : List (List ℕ)
 said_lines =

@@ -34,6 +34,8 @@ pub enum Fault {
     NotNew(u64, u64),
     /// The first position is said to be kept, and it is not from the second, which was, to the third, which the keeper was told.
     NotDecided(u64, u64, u64),
+    /// The step to a position is brought, and the gateway leads.
+    DecidedHere(u64),
     /// A growth of memory was refused.
     Memory,
 }
@@ -175,6 +177,12 @@ pub fn push_words(out: &mut Vec<u8>, fault: &Fault) -> Result<(), AllocError>
             b" may have an answer already",
         ),
         Fault::NotDecided(kept, from, to) => push_undecided(out, *kept, *from, *to),
+        Fault::DecidedHere(to) => push_with(
+            out,
+            b"step ",
+            *to,
+            b" is brought, and the gateway leads",
+        ),
         Fault::Memory => Ok(()),
     }
 }

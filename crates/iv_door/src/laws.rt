@@ -14,7 +14,7 @@ pub fn told_lines_are_these()
     ensures { told ≡ told_lines }
 {}
 
-/// What a gateway that leads says of entries whose positions go on by one is what a keeper says to bring them as steps: who follows hears it so.
+/// What a gateway that leads says of entries whose positions go on by one is what a keeper says to bring them as steps.
 pub fn leaders_speak_as_keepers()
     ensures { LeadsAsAKeeper }
 {}

@@ -117,6 +117,13 @@ impl Talk {
         self.follows
     }
 
+    /// Whether the keeper has said that the gateway leads.
+    pub fn leads(&self) -> bool
+        ensures { result ≡ self.now.leads }
+    {
+        self.leads
+    }
+
     /// The bytes that were not heard yet.
     fn unread(&self) -> &[u8]
         ensures { result.now ≡ self.now.unread }

@@ -1,3 +1,4 @@
+pub mod Failed
 pub mod Heeded
 pub mod StepLines
 pub mod ToldLines

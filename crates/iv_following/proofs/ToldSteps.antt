@@ -7,7 +7,7 @@ use Rattle.iv_gate.specs.Arriving as gate
 use Rattle.iv_gate.specs.Gate.{Gate, Log}
 use Rattle.iv_gateway.specs.Arriving.{IsFaultOf}
 use Rattle.iv_gateway.specs.declared.arriving.StepFault.{StepFault}
-use Rattle.iv_gateway.specs.declared.arriving.StepFault.TheVariants.{Dead, Gap, Memory, NotAccepted, NotNew, OtherLog}
+use Rattle.iv_gateway.specs.declared.arriving.StepFault.TheVariants.{Dead, Gap, Led, Memory, NotAccepted, NotNew, OtherLog}
 use Rattle.iv_arrivals.specs.Reads.{step_in}
 use Rattle.iv_door.specs.Answers.{Fault, no_entry}
 use Rattle.iv_running.specs.Running.{IsUntaken}
@@ -27,6 +27,7 @@ pub told_step : (log k : Log) (from to : ℕ) (T xs : List Line) (g : Gate) (fau
     → IfSome o (IsTold log from to T g)
 told_step log k from to T xs g Memory o e f u told none = subst (λ (z : Option Fault). IfSome z (IsTold log from to T g)) (sym (none refl)) tt
 told_step log k from to T xs g Dead o e f u told none = by_step log k from to T xs g u.0 o e f u.1 (told u.0 u.2)
+told_step log k from to T xs g Led o e f u told none = by_step log k from to T xs g u.0 o e f u.1 (told u.0 u.2)
 told_step log k from to T xs g OtherLog o e f u told none = by_step log k from to T xs g u.0 o e f u.1 (told u.0 u.2)
 told_step log k from to T xs g (Gap p) o e f u told none = by_step log k from to T xs g u.0 o e f u.1 (told u.0 u.2)
 told_step log k from to T xs g (NotAccepted n why) o e f u told none = by_step log k from to T xs g u.0 o e f u.1 (told u.0 u.2)

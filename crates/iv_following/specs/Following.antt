@@ -16,11 +16,11 @@ use Rattle.iv_desk.specs.Desks.{IsDesk}
 use Rattle.iv_desk.specs.Front.{Front, by_event}
 use Rattle.iv_desk.specs.declared.desk.Desk.{Desk}
 use Rattle.iv_door.specs.Said as door
-use Rattle.iv_door.specs.Answers.{Fault, gap, no_entry, not_accepted, not_new, other_log, recalled}
+use Rattle.iv_door.specs.Answers.{Fault, decided_here, gap, no_entry, not_accepted, not_new, other_log, recalled}
 use Rattle.iv_door.specs.Leading.{lines_from}
 use Rattle.iv_door.specs.Talk.{Act, Hears, Talk, acts, ended, kept, led, nothing, opened, shut}
 use Rattle.iv_running.specs.Logs.{HasLines, recalled_in}
-use Rattle.iv_running.specs.Running.{IsFollowed, Leads}
+use Rattle.iv_running.specs.Running.{IsFollowed, Serves}
 
 -- a log as a keeper says it
 abbrev pub said_log : Log → door.Log
@@ -34,6 +34,7 @@ IsNumberOf why n = get (codes "error") (object (refused_members why)) ≡ Some (
 
 -- what a keeper is told of the gateway's fault of a step
 abbrev pub IsToldOf : (log : Log) (from to : ℕ) → gate.Fault → Fault → Type 0
+IsToldOf log from to gate.decided_here f = f ≡ decided_here to
 IsToldOf log from to gate.other_log f = f ≡ other_log (said_log log)
 IsToldOf log from to (gate.gap position) f = f ≡ gap to from position
 IsToldOf log from to (gate.not_accepted entry why) f = (n : ℕ) × IsNumberOf why n × (f ≡ not_accepted entry to n)
@@ -54,15 +55,21 @@ pub record Lead : Type 0 where
 
 -- it leads from where it is: all up to there was brought by its keeper
 abbrev pub IsLed : Desk → Desk → Lead → Type 0
-IsLed x y a = (d : Front) → IsDesk d x → IsDesk (by_event event.led d) y × (d.gate.dead ≡ false → a ≡ record { told = position d.gate; kept = position d.gate })
+IsLed x y a = (d : Front) → IsDesk d x → IsDesk (by_event event.led d) y
+    × (d.gate.dead ≡ false → a ≡ record { told = position d.gate; kept = position d.gate })
 
 -- no less is in the log than before, and nothing that the keeper was not told
 abbrev pub IsKept : ℕ → Lead → Lead → Type 0
 IsKept n a b = (a.kept ≤ n) × (n ≤ a.told) × (b ≡ record a { kept = n })
 
--- what the keeper is told of what the gateway has decided and the journal has not: once, as steps from where that is
+-- what the keeper is told of what the gateway has decided and the journal has not: nothing if it was told all, else steps from where that is.
+-- Each is told once if it was told nothing that the journal has not: nobody decides before the journal has all that was told
 abbrev pub steps_told : Gate → Lead → List ℕ
 steps_told g a = if a.told == position g then [] else lines_from (settled_at g) (journal_of (drop g.kept g.entries))
+
+-- it is told them, behind what it was to be told
+abbrev pub AreTold : Gate → Lead → (was : List ℕ) → Lead → (now : List ℕ) → Type 0
+AreTold g a was b now = (now ≡ was ++ steps_told g a) × (b ≡ record a { told = position g })
 
 -- ---- acts
 
@@ -72,13 +79,16 @@ pub record House : Type 0 where
   pub may : Bool
   pub lead : Option Lead
 
--- what an act does: the texts of a step are followed as one record; clients may come in; nobody may, and all are closed; the gateway leads; what
--- it has decided is kept; else nothing
+abbrev pub house : Desk → Bool → Option Lead → House
+house desk may lead = record { desk = desk; may = may; lead = lead }
+
+-- what an act does: the texts of a step are followed as one record; clients may come in; nobody may, and all are closed; the gateway, which has
+-- led no log, leads; what it has decided is kept; else nothing
 abbrev pub IsHeeded : Option Log → Act → House → House → Type 0
 IsHeeded log (ended from to texts) x y = (l : Log) × (log ≡ Some l) × IsFollowed l from (record_of texts) x.desk y.desk × (y ≡ record x { desk = y.desk })
 IsHeeded log opened x y = y ≡ record x { may = true }
-IsHeeded log shut x y = Leads x.desk y.desk × (y ≡ record x { desk = y.desk; may = false })
-IsHeeded log led x y = (a : Lead) × IsLed x.desk y.desk a × (y ≡ record x { desk = y.desk; lead = Some a })
+IsHeeded log shut x y = Serves x.desk y.desk × (y ≡ record x { desk = y.desk; may = false })
+IsHeeded log led x y = (x.lead ≡ None) × (a : Lead) × IsLed x.desk y.desk a × (y ≡ record x { desk = y.desk; lead = Some a })
 IsHeeded log (kept n) x y = (a : Lead) × (x.lead ≡ Some a) × (b : Lead) × IsKept n a b × (y ≡ record x { lead = Some b })
 IsHeeded log _ x y = y ≡ x
 

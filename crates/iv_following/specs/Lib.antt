@@ -1,2 +1,4 @@
+pub mod Failing
 pub mod Following
 pub mod Guests
+pub mod Rounds

@@ -1,4 +1,7 @@
 //! Who comes as a keeper and goes, and the bytes that it says and is told.
+ghost use Rattle.std.specs.Prelude.{◌≡◌, true};
+ghost use Rattle.iv_following.specs.Rounds.{has_ended};
+
 use crate::following::Following;
 use crate::guest::Guest;
 use crate::wire::{COMING, Got, PIECE, SAID, TOLD, Wire};
@@ -138,7 +141,9 @@ impl Following {
     // ---- what is told
 
     /// Sends what the system takes, to a guest who goes if the way is broken.
-    pub(crate) fn send_out(&mut self, poll: &Poll) {
+    pub(crate) fn send_out(&mut self, poll: &Poll)
+        ensures { has_ended self.old ≡ true → has_ended self.new ≡ true }
+    {
         let is_whole = match &mut self.guest {
             None => true,
             Some(guest) => guest.send(poll),

@@ -1,7 +1,9 @@
 //! `Following`: the log that is followed, and who has come as its keeper.
-ghost use Rattle.std.specs.Prelude.{◌≡◌, OnOk, false};
-ghost use Rattle.iv_running.specs.Running.{Leads};
-ghost use Rattle.iv_following.specs.Guests.{has_keeper};
+ghost use Rattle.std.specs.Prelude.{◌≡◌, IfErr, IfOk, OnOk, Some, false, is_some, true};
+ghost use Rattle.iv_running.specs.Running.{Leads, Serves};
+ghost use Rattle.iv_following.specs.Following.{house};
+ghost use Rattle.iv_following.specs.Guests.{has_keeper, has_leader, stage_of};
+ghost use Rattle.iv_following.specs.Rounds.{IsBrokenOf, IsHeardOf, has_ended};
 
 use crate::guest::{Guest, Stage};
 use crate::keeper::{Keeper, Means};
@@ -51,7 +53,12 @@ fn hear_guest(
     server: &mut Server,
     guest: &mut Guest,
 ) -> Result<bool, Fault>
-    ensures { Leads desk.old desk.new }
+    ensures leads { Leads desk.old desk.new }
+    ensures heard { OnOk result (IsHeardOf means.old.log (Some guest.old.stage) (house desk.old server.old.open means.old.lead)
+        (Some guest.new.stage) (house desk.new server.new.open means.new.lead)) }
+    ensures breaks { IfErr result (λ f. IsBrokenOf means.old.log (Some guest.old.stage) (house desk.old server.old.open means.old.lead) f
+        (Some guest.new.stage) (house desk.new server.new.open means.new.lead)) }
+    ensures same { means.new.log ≡ means.old.log }
 {
     match &mut guest.stage {
         Stage::Unknown(_, _) => Ok(false),
@@ -141,12 +148,14 @@ impl Following {
     }
 
     /// Whether it ends with its keeper, who has gone.
-    pub(crate) fn has_ended(&self) -> bool {
+    pub(crate) fn has_ended(&self) -> bool
+        ensures { result ≡ has_ended self.now }
+    {
         self.listener.is_none() && self.guest.is_none()
     }
 
     /// Whether a keeper is there.
-    pub(crate) fn has_keeper(&self) -> bool
+    fn has_keeper(&self) -> bool
         ensures { result ≡ has_keeper self.now.guest }
     {
         match &self.guest {
@@ -157,7 +166,7 @@ impl Following {
 
     /// While no keeper is there, nobody is let in, and who is there goes.
     fn shut_without(&self, desk: &mut Desk, server: &mut Server) -> Result<(), Fault>
-        ensures leads { Leads desk.old desk.new }
+        ensures serves { Serves desk.old desk.new }
         ensures shut { has_keeper self.now.guest ≡ false → server.new.open ≡ false }
     {
         if self.has_keeper() {
@@ -168,7 +177,11 @@ impl Following {
 
     /// Hears what has come of a keeper. Whether the next round is to come at once.
     fn hear_keeper(&mut self, desk: &mut Desk, server: &mut Server) -> Result<bool, Fault>
-        ensures { Leads desk.old desk.new }
+        ensures leads { Leads desk.old desk.new }
+        ensures heard { OnOk result (IsHeardOf self.old.means.log (stage_of self.old.guest) (house desk.old server.old.open self.old.means.lead)
+            (stage_of self.new.guest) (house desk.new server.new.open self.new.means.lead)) }
+        ensures breaks { IfErr result (λ f. IsBrokenOf self.old.means.log (stage_of self.old.guest) (house desk.old server.old.open self.old.means.lead) f
+            (stage_of self.new.guest) (house desk.new server.new.open self.new.means.lead)) }
     {
         match &mut self.guest {
             None => Ok(false),
@@ -178,7 +191,8 @@ impl Following {
 
     /// The next round is to come at once if something may be read now.
     fn hurry(&mut self)
-        ensures { self.new.guest ≡ self.old.guest }
+        ensures guest { self.new.guest ≡ self.old.guest }
+        ensures means { self.new.means ≡ self.old.means }
     {
         if let Some(guest) = &self.guest {
             if guest.is_read() {
@@ -202,6 +216,8 @@ impl Following {
     ) -> Result<bool, Fault>
         ensures leads { Leads desk.old desk.new }
         ensures shut { OnOk result (has_keeper self.new.guest ≡ false → server.new.open ≡ false) }
+        ensures over { OnOk result (is_some self.new.means.lead ≡ true → has_leader self.new.guest ≡ true) }
+        ensures ended { IfOk result (λ ends. ends ≡ has_ended self.new) }
     {
         self.again = false;
         self.note(events);
@@ -224,7 +240,9 @@ impl Following {
     ///
     /// # Errors
     /// `Memory` if a growth of memory was refused.
-    pub fn tell(&mut self, desk: &Desk, poll: &Poll) -> Result<(), Fault> {
+    pub fn tell(&mut self, desk: &Desk, poll: &Poll) -> Result<(), Fault>
+        ensures { has_ended self.old ≡ true → has_ended self.new ≡ true }
+    {
         if let Some(guest) = &mut self.guest {
             guest.settle(desk)?;
         }

@@ -1,10 +1,13 @@
 //! `Guest`: who has come by a way: the keeper, or somebody who has yet to show the secret. What is a keeper's goes with it.
-ghost use Rattle.std.specs.Prelude.{◌≡◌, ◌++◌, IfOk, OnOk, Some, option_map};
+ghost use Rattle.std.specs.Prelude.{◌≡◌, ◌++◌, IfOk, OnOk, Some, false, option_map, true};
+ghost use Rattle.iv_desk.specs.Desks.{IsDesk};
+ghost use Rattle.iv_desk.specs.Front.{Front};
 ghost use Rattle.iv_door.specs.Talk.{at_start};
-ghost use Rattle.iv_following.specs.Following.{said_log};
-ghost use Rattle.iv_following.specs.Guests.{IsGuest, is_known};
+ghost use Rattle.iv_following.specs.Following.{AreTold, said_log};
+ghost use Rattle.iv_following.specs.Guests.{IsGuest, has_led, is_known, out_of};
 
 use crate::keeper::{Keeper, Means};
+use crate::leading::Lead;
 use crate::shown::{Shown, shown_in};
 use crate::wire::Wire;
 use iv_desk::Desk;
@@ -113,6 +116,16 @@ impl Guest {
         }
     }
 
+    /// Whether it is the keeper, and has said that the gateway leads.
+    pub(crate) fn has_led(&self) -> bool
+        ensures { result ≡ has_led self.now.stage }
+    {
+        match &self.stage {
+            Stage::Known(keeper) => keeper.talk.leads(),
+            Stage::Unknown(_, _) => false,
+        }
+    }
+
     /// Whether it had to show the secret before now.
     pub(crate) fn is_late(&self, now: u64) -> bool {
         match &self.stage {
@@ -152,6 +165,32 @@ impl Guest {
     pub(crate) fn settle(&mut self, desk: &Desk) -> Result<(), AllocError> {
         match &mut self.stage {
             Stage::Known(keeper) => keeper.told.settle(desk),
+            Stage::Unknown(_, _) => Ok(()),
+        }
+    }
+
+    /// A keeper is told from where the gateway leads, if that is owed.
+    ///
+    /// # Errors
+    /// `AllocError` if a growth of memory was refused.
+    pub(crate) fn lead(&mut self, desk: &Desk) -> Result<(), AllocError> {
+        match &mut self.stage {
+            Stage::Known(keeper) => keeper.told.lead(desk),
+            Stage::Unknown(_, _) => Ok(()),
+        }
+    }
+
+    /// A keeper is told what the gateway has decided, if it was not.
+    ///
+    /// # Errors
+    /// `AllocError` if a growth of memory was refused.
+    pub(crate) fn decide(&mut self, lead: &mut Lead, desk: &Desk) -> Result<(), AllocError>
+        ensures told { OnOk result ((d : Front) → IsDesk d desk.now → d.gate.dead ≡ false → is_known self.old.stage ≡ true
+            → AreTold d.gate lead.old (out_of self.old.stage) lead.new (out_of self.new.stage)) }
+        ensures kept { lead.new.kept ≡ lead.old.kept }
+    {
+        match &mut self.stage {
+            Stage::Known(keeper) => keeper.told.decide(lead, desk),
             Stage::Unknown(_, _) => Ok(()),
         }
     }

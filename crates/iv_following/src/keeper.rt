@@ -1,9 +1,10 @@
 //! `Keeper`: what a keeper says, and what is done with that; `Means`: what that is done with.
-ghost use Rattle.std.specs.Prelude.{◌≡◌, [], IfOk, OnOk, Some, false, map, option_map, true};
+ghost use Rattle.std.specs.Prelude.{◌≡◌, [], IfErr, IfOk, None, OnErr, OnOk, Some, false, map, option_map, true};
 ghost use Rattle.iv_door.specs.Talk.{at_start, ended};
 ghost use Rattle.iv_door.specs.Views.{act_of};
 ghost use Rattle.iv_running.specs.Running.{Leads};
-ghost use Rattle.iv_following.specs.Following.{HeedsAll, IsHeard, IsHeeded, IsKept, Lead as Leading, said_log};
+ghost use Rattle.iv_following.specs.Failing.{IsBroken, IsUnheard, IsUnheeded, IsUnkept, IsUnled, IsUntaken};
+ghost use Rattle.iv_following.specs.Following.{HeedsAll, IsHeard, IsHeeded, IsKept, IsLed, Lead as Leading, house, said_log};
 
 use crate::leading::{Lead, begin_to_lead};
 use crate::logs::said_logs;
@@ -61,12 +62,15 @@ fn end_step(
 ) -> Result<(), Fault>
     ensures leads { Leads desk.old desk.new }
     ensures heeded { OnOk result (IsHeeded means.old.log (ended from to (map (λ v. v.items) texts.now))
-        (record { desk = desk.old; may = server.old.open; lead = means.old.lead }) (record { desk = desk.new; may = server.new.open; lead = means.new.lead })) }
+        (house desk.old server.old.open means.old.lead) (house desk.new server.new.open means.new.lead)) }
     ensures owed { OnOk result (told.new.owes ≡ true) }
+    ensures fault { IfErr result (IsUntaken means.old.log from to (map (λ v. v.items) texts.now) desk.old told.old.out.items told.new.out.items) }
+    ensures keeps { (server.new.open ≡ server.old.open) × (means.new.lead ≡ means.old.lead) }
     ensures same { means.new.log ≡ means.old.log }
 {
-    let Some(log) = &means.log else {
-        return Err(Fault::Desk);
+    let log = match &means.log {
+        None => return Err(Fault::Desk),
+        Some(log) => log,
     };
     told.owes = true;
     match take_step(
@@ -78,17 +82,34 @@ fn end_step(
         texts,
         &mut means.scratch,
     ) {
-        Ok(()) => match server.share_none(desk) {
-            Ok(()) => Ok(()),
-            Err(fault) => Err(fault),
-        },
+        Ok(()) => server.share_none(desk),
         Err(fault) => Err(told.fail(&means.rt, &fault)),
+    }
+}
+
+/// The gateway leads the log, if it did not.
+fn take_lead(means: &mut Means, desk: &mut Desk, told: &mut Told) -> Result<(), Fault>
+    ensures leads { Leads desk.old desk.new }
+    ensures led { OnOk result ((means.old.lead ≡ None) × (a : Leading) × IsLed desk.old desk.new a × (means.new.lead ≡ Some a)) }
+    ensures fault { IfErr result (IsUnled means.old.lead) }
+    ensures fails { OnErr result ((desk.new ≡ desk.old) × (means.new.lead ≡ means.old.lead) × (told.new.out.items ≡ told.old.out.items)) }
+    ensures same { means.new.log ≡ means.old.log }
+{
+    match &means.lead {
+        Some(_) => Err(Fault::Desk),
+        None => {
+            means.lead = Some(begin_to_lead(desk));
+            told.leads = true;
+            Ok(())
+        }
     }
 }
 
 /// What was decided is in the log up to a position.
 fn keep(means: &mut Means, told: &mut Told, position: u64) -> Result<(), Fault>
     ensures kept { OnOk result ((a : Leading) × (means.old.lead ≡ Some a) × (b : Leading) × IsKept position a b × (means.new.lead ≡ Some b)) }
+    ensures fault { IfErr result (IsUnkept position means.old.lead told.old.out.items told.new.out.items) }
+    ensures fails { OnErr result (means.new.lead ≡ means.old.lead) }
     ensures owed { OnOk result (told.new.owes ≡ true) }
     ensures same { means.new.log ≡ means.old.log }
 {
@@ -111,8 +132,10 @@ fn heed(
     act: Act,
 ) -> Result<(), Fault>
     ensures leads { Leads desk.old desk.new }
-    ensures heeded { OnOk result (IsHeeded means.old.log (act_of act) (record { desk = desk.old; may = server.old.open; lead = means.old.lead })
-        (record { desk = desk.new; may = server.new.open; lead = means.new.lead })) }
+    ensures heeded { OnOk result (IsHeeded means.old.log (act_of act)
+        (house desk.old server.old.open means.old.lead) (house desk.new server.new.open means.new.lead)) }
+    ensures fault { IfErr result (λ f. IsUnheeded means.old.log (act_of act) (house desk.old server.old.open means.old.lead) told.old.out.items
+        f (house desk.new server.new.open means.new.lead) told.new.out.items) }
     ensures same { means.new.log ≡ means.old.log }
 {
     match act {
@@ -124,11 +147,7 @@ fn heed(
             Ok(())
         }
         Act::Shut => server.shut(desk),
-        Act::Led => {
-            means.lead = Some(begin_to_lead(desk));
-            told.leads = true;
-            Ok(())
-        }
+        Act::Led => take_lead(means, desk, told),
         Act::Kept(position) => keep(means, told, position),
     }
 }
@@ -159,7 +178,9 @@ impl Keeper {
     ) -> Result<bool, Fault>
         ensures leads { Leads desk.old desk.new }
         ensures heard { IfOk result (λ is. IsHeard means.old.log is self.old.talk self.new.talk
-            (record { desk = desk.old; may = server.old.open; lead = means.old.lead }) (record { desk = desk.new; may = server.new.open; lead = means.new.lead })) }
+            (house desk.old server.old.open means.old.lead) (house desk.new server.new.open means.new.lead)) }
+        ensures fault { IfErr result (λ f. IsUnheard means.old.log self.old.talk (house desk.old server.old.open means.old.lead) self.old.told.out.items
+            f (house desk.new server.new.open means.new.lead) self.new.told.out.items) }
         ensures same { means.new.log ≡ means.old.log }
     {
         match self.talk.hear() {
@@ -184,8 +205,11 @@ impl Keeper {
         server: &mut Server,
     ) -> Result<bool, Fault>
         ensures leads { Leads desk.old desk.new }
-        ensures heeds { OnOk result (HeedsAll means.old.log self.old.talk (record { desk = desk.old; may = server.old.open; lead = means.old.lead })
-            self.new.talk (record { desk = desk.new; may = server.new.open; lead = means.new.lead })) }
+        ensures heeds { OnOk result (HeedsAll means.old.log self.old.talk (house desk.old server.old.open means.old.lead)
+            self.new.talk (house desk.new server.new.open means.new.lead)) }
+        ensures breaks { IfErr result (λ f. IsBroken means.old.log self.old.talk (house desk.old server.old.open means.old.lead)
+            f (house desk.new server.new.open means.new.lead) self.new.told.out.items) }
+        ensures same { means.new.log ≡ means.old.log }
     {
         self.late = true;
         'lines: for _ in 0..u32::MAX {

@@ -1,5 +1,5 @@
 //! `Lead`: how far a log is led, and what its keeper is told of that.
-ghost use Rattle.std.specs.Prelude.{◌≡◌, ◌++◌, ◌∷◌, [], IfErr, OnOk, Some, false, if◌then◌else◌};
+ghost use Rattle.std.specs.Prelude.{◌≡◌, ◌++◌, ◌∷◌, [], IfErr, OnErr, OnOk, Some, false, if◌then◌else◌};
 ghost use Rattle.iv_gate.specs.Arriving.{position, settled_at};
 ghost use Rattle.iv_desk.specs.Desks.{IsDesk};
 ghost use Rattle.iv_desk.specs.Front.{Front};
@@ -41,6 +41,7 @@ impl Lead {
     pub(crate) fn keep(&mut self, position: u64) -> Result<(), iv_door::Fault>
         ensures kept { OnOk result (IsKept position self.old self.new) }
         ensures fault { IfErr result (λ f. fault_of f ≡ Some (not_decided position self.old.kept self.old.told)) }
+        ensures fails { OnErr result (self.new ≡ self.old) }
     {
         if position < self.kept || self.told < position {
             return Err(iv_door::Fault::NotDecided(position, self.kept, self.told));
@@ -71,14 +72,15 @@ impl Told {
     pub(crate) fn lead(&mut self, desk: &Desk) -> Result<(), AllocError>
         ensures told { OnOk result ((d : Front) → IsDesk d desk.now → d.gate.dead ≡ false → self.new.out.items ≡ self.old.out.items ++ (if self.old.leads
             then (if self.old.owes then on_disk (settled_at d.gate) ++ 10 ∷ [] else []) ++ (answer.leads (settled_at d.gate) ++ 10 ∷ []) else [])) }
+        ensures once { OnOk result (self.new.leads ≡ false) }
     {
         if !self.leads {
             return Ok(());
         }
-        self.leads = false;
         self.settle(desk)?;
         push_leads(&mut self.out, desk.settled_at())?;
         self.out.push(b'\n')?;
+        self.leads = false;
         Ok(())
     }
 
@@ -90,6 +92,7 @@ impl Told {
         ensures told { OnOk result ((d : Front) → IsDesk d desk.now → d.gate.dead ≡ false
             → self.new.out.items ≡ self.old.out.items ++ steps_told d.gate lead.old) }
         ensures lead { OnOk result ((d : Front) → IsDesk d desk.now → d.gate.dead ≡ false → lead.new ≡ record lead.old { told = position d.gate }) }
+        ensures kept { lead.new.kept ≡ lead.old.kept }
     {
         let position = desk.position();
         if lead.told == position {

@@ -90,6 +90,7 @@ fn fault_of(alloc: Global, log: &Log, from: u64, to: u64, fault: &StepFault) -> 
     ensures memory { fault.now ≡ NoMemory → door.fault_of result ≡ None }
 {
     match fault {
+        StepFault::Led => Fault::DecidedHere(to),
         StepFault::Gap(position) => Fault::Gap(to, from, *position),
         StepFault::NotAccepted(entry, refusal) => {
             Fault::NotAccepted(*entry as u64, to, number_of(refusal) as u64)

@@ -1,13 +1,13 @@
 //! `Told`: what a keeper is told: what is held, what is on disk, what was recalled, and why nothing more is taken.
-ghost use Rattle.std.specs.Prelude.{◌≡◌, ◌++◌, ◌∷◌, [], OnOk, Some, false, if◌then◌else◌, option_map, true};
+ghost use Rattle.std.specs.Prelude.{◌≡◌, ◌≢◌, ◌++◌, ◌∷◌, [], IfErr, None, OnOk, Some, false, if◌then◌else◌, option_map, true};
 ghost use Rattle.iv_gate.specs.Arriving.{settled_at};
 ghost use Rattle.iv_desk.specs.Desks.{IsDesk};
 ghost use Rattle.iv_desk.specs.Front.{Front};
 ghost use Rattle.iv_door.specs.Answers as answer;
-ghost use Rattle.iv_door.specs.Answers.{fault_line, hello, on_disk};
+ghost use Rattle.iv_door.specs.Answers.{hello, on_disk};
 ghost use Rattle.iv_door.specs.Views.{fault_of};
+ghost use Rattle.iv_following.specs.Failing.{IsFailed, IsLineTold, IsUnread};
 ghost use Rattle.iv_following.specs.Following.{IsRecalled};
-ghost use Rattle.iv_running.specs.declared.fault.Fault.TheVariants.{Log as AtLog};
 
 use iv_desk::Desk;
 use iv_door::{Log, push_fault, push_hello, push_on_disk, push_recalled, push_words};
@@ -84,6 +84,15 @@ impl Told {
         Ok(())
     }
 
+    /// Appends requests, and the line at their end.
+    fn push_recall(&mut self, requests: &[u8], position: u64) -> Result<(), AllocError>
+        ensures { OnOk result (self.new.out.items ≡ self.old.out.items ++ (requests.now ++ (answer.recalled position ++ 10 ∷ []))) }
+    {
+        self.out.extend_from_slice(requests)?;
+        self.end_recall(position)?;
+        Ok(())
+    }
+
     /// Appends what the journal has, which is all on disk, up to a position.
     ///
     /// # Errors
@@ -94,7 +103,8 @@ impl Told {
         path: &str,
         position: u64,
     ) -> Result<(), Fault>
-        ensures { OnOk result (IsRecalled position self.old.out.items self.new.out.items) }
+        ensures recalled { OnOk result (IsRecalled position self.old.out.items self.new.out.items) }
+        ensures fault { IfErr result IsUnread }
     {
         let Ok(bytes) = fs::read(rt, path) else {
             return Err(Fault::Journal);
@@ -102,9 +112,10 @@ impl Told {
         let Ok(requests) = recalled_in(rt, path, &bytes) else {
             return Err(Fault::Journal);
         };
-        self.out.extend_from_slice(&requests)?;
-        self.end_recall(position)?;
-        Ok(())
+        match self.push_recall(&requests, position) {
+            Ok(()) => Ok(()),
+            Err(_) => Err(Fault::Memory),
+        }
     }
 
     /// Appends up to where the journal has the log, if that is owed.
@@ -127,7 +138,7 @@ impl Told {
 
     /// Appends the line of a fault.
     fn push_fault(&mut self, fault: &iv_door::Fault) -> Result<(), AllocError>
-        ensures { OnOk result ((f : answer.Fault) → fault_of fault.now ≡ Some f → self.new.out.items ≡ self.old.out.items ++ (fault_line f ++ 10 ∷ [])) }
+        ensures { OnOk result ((f : answer.Fault) → fault_of fault.now ≡ Some f → IsLineTold f self.old.out.items self.new.out.items) }
     {
         push_fault(&mut self.out, fault)?;
         self.out.push(b'\n')?;
@@ -136,11 +147,19 @@ impl Told {
 
     /// Why nothing more is taken: the keeper is to be told, and it is said.
     pub(crate) fn fail(&mut self, rt: &HostRuntime, fault: &iv_door::Fault) -> Fault
-        ensures { (f : answer.Fault) → fault_of fault.now ≡ Some f → result ≡ AtLog → self.new.out.items ≡ self.old.out.items ++ (fault_line f ++ 10 ∷ []) }
+        ensures { IsFailed result (fault_of fault.now) self.old.out.items self.new.out.items }
     {
-        if matches!(fault, iv_door::Fault::Memory) {
-            return Fault::Memory;
-        }
+        let iv_door::Fault::Memory = fault else {
+            return self.fail_told(rt, fault);
+        };
+        Fault::Memory
+    }
+
+    /// The same, of what is not want of memory.
+    fn fail_told(&mut self, rt: &HostRuntime, fault: &iv_door::Fault) -> Fault
+        requires { fault_of fault.now ≢ None }
+        ensures { IsFailed result (fault_of fault.now) self.old.out.items self.new.out.items }
+    {
         let Ok(()) = self.push_fault(fault) else {
             return Fault::Memory;
         };

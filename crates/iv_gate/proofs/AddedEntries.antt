@@ -22,7 +22,7 @@ use Rattle.iv_records.specs.Journal.{Entry, IsEntry, IsNamed, IsRequest, Request
 use Rattle.iv_records.specs.Laws.{ClaimsAreWell, HoldersAreText}
 use Rattle.iv_records.specs.Names.{Claim, limits, is_count}
 use Rattle.iv_records.proofs.CutParts.{but_last-push}
-use Rattle.iv_gate.specs.Arriving.{Fault, Step, entry_of, fact_of, fault_of, first_known, gap, was_taken, is_log, is_new, not_accepted, not_new, other_log, position}
+use Rattle.iv_gate.specs.Arriving.{Fault, Step, decided_here, entry_of, fact_of, fault_of, first_known, gap, was_taken, is_log, is_new, not_accepted, not_new, other_log, position}
 use Rattle.iv_gate.specs.Gate.{Gate, answer_text, asked_by, came, went, entries_of, is_accepted, known_at, known_of, may_have, names_of, next_position, is_elsewhere}
 use Rattle.iv_gate.specs.Restoring.{are_rising}
 use Rattle.iv_gate.proofs.NameVerdicts.{is_new-verdict, first_known-append}
@@ -265,8 +265,13 @@ pub record IsNext (g : Gate) (s : Step) : Type 0 where
 
 pub IsNext-fault_of : (g : Gate) (s : Step) → is_some (fault_of g s) ≡ false → was_taken g s ≡ false → IsNext g s
 IsNext-fault_of g s f b =
-    by (if_some g.head.log false (is_log s.log)) ((s.from == position g) && nat_lt s.from s.to) refl (first_known 1 s.names (known_of g)) refl (ap (λ t. is_some (cond t None later)) (sym b) ∙ f)
+    by (if_some g.head.log false (is_log s.log)) ((s.from == position g) && nat_lt s.from s.to) refl (first_known 1 s.names (known_of g)) refl
+    (ap (λ t. is_some (cond t None later)) (sym b) ∙ follows g.leads (cond (was_taken g s) None later) f)
   where
+    follows : (leads : Bool) (o : Option Fault) → is_some (cond leads (Some decided_here) o) ≡ false → is_some o ≡ false
+    follows true o h = absurd (false≢true (sym h))
+    follows false o h = h
+
     refusal : Option Fault
     refusal = option_map (λ (p : ℕ × Refusal). not_accepted p.0 p.1) (first_refused 1 (map fact_of s.requests) (shared g.machine))
 

@@ -64,4 +64,5 @@ pub mod RequestFates
 pub mod QueryTexts
 pub mod LogPositions
 pub mod NextEntries
+pub mod LedEntries
 pub mod UndecidedNames

@@ -23,7 +23,7 @@ use Rattle.iv_gate.proofs.EventMarks.{entries-next, marks-next, marks_behind, ne
 
 -- ---- positions of entries
 
-position_append : (p : ℕ) (es fs : List Entry) → position_of p (es ++ fs) ≡ position_of (position_of p es) fs
+pub position_append : (p : ℕ) (es fs : List Entry) → position_of p (es ++ fs) ≡ position_of (position_of p es) fs
 position_append p [] fs = refl
 position_append p (e ∷ es) fs = position_append (unwrap_or e.position p) es fs
 

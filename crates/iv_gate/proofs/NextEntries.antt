@@ -1,5 +1,5 @@
 -- What a message adds is one entry at most, at the next position.
-use Rattle.std.proofs.Common.{◌≡◌, inl, inr, ℕ, Bool, true, false, cond, List, [], ◌∷◌, ◌++◌, length, Option, Some, None, refl, ap, ◌∙◌, sym, subst, append-nil}
+use Rattle.std.proofs.Common.{◌≡◌, inl, inr, ℕ, Bool, true, false, cond, ◌&&◌, is_some, not, List, [], ◌∷◌, ◌++◌, length, Option, Some, None, refl, ap, ◌∙◌, sym, subst, append-nil}
 use Rattle.std.specs.Prelude.{drop}
 use Rattle.iv_rows.specs.Options.{if_some}
 use Rattle.iv_machine.specs.Act.{Act, begin, finish, create_role, create_table, create_view, grant, revoke, grant_role, revoke_role, row_security, create_policy, drop_policy, subscribe, unsubscribe, write, Reply}
@@ -9,7 +9,7 @@ use Rattle.iv_records.specs.Journal.{Entry, Request, claim_said, said_by}
 use Rattle.iv_records.specs.Names.{Claim}
 use Rattle.iv_once.specs.Names.{Ask, Verdict, carry, again, another, late, foreign, ahead, over, verdict}
 use Rattle.iv_gate.specs.Events.{message}
-use Rattle.iv_gate.specs.Gate.{Gate, answering, asked_by, entries_of, hears, is_accepted, is_elsewhere, may_have, names_of, next_position, said}
+use Rattle.iv_gate.specs.Gate.{Gate, answering, asked_by, entries_of, hears, is_accepted, is_elsewhere, is_follower, may_have, names_of, next_position, said}
 use Rattle.iv_gate.specs.Implied.{AddsNext}
 use Rattle.iv_gate.specs.Replies.{added_by}
 use Rattle.iv_gate.proofs.GrownTexts.{drop-append_front}
@@ -17,17 +17,21 @@ use Rattle.iv_gate.proofs.OwnReplies.{act_added, asked, carried_reply, decided_a
 use Rattle.iv_gate.proofs.StepRelations.{request_of}
 
 module _ (g : Gate) where
-  entry_next : (q : Request) (name : Option Ask) (r : Reply) (b : Bool)
+  entry_next : (q : Request) (name : Option Ask) (r : Reply) → is_follower g ≡ false → (b : Bool)
       → AddsNext g (cond b (record { requests = cond (is_accepted r) (q ∷ []) []; names = answering name r; position = next_position g } ∷ []) [])
-  entry_next q name r true = inr (record { requests = cond (is_accepted r) (q ∷ []) []; names = answering name r; position = next_position g }, refl, refl)
-  entry_next q name r false = inl refl
+  entry_next q name r f true = inr (record { requests = cond (is_accepted r) (q ∷ []) []; names = answering name r; position = next_position g }, refl, refl, f)
+  entry_next q name r f false = inl refl
+
+  here : (name : Option Ask) → is_elsewhere g name ≡ false → is_follower g ≡ false
+  here None h = ap (λ b. b && not (is_some (next_position g))) h
+  here (Some a) h = h
 
   decided_next : (q : Request) (name : Option Ask) → AddsNext g (decided_added g q name)
-  decided_next q name = by (is_elsewhere g name)
+  decided_next q name = by (is_elsewhere g name) refl
     where
-      by : (b : Bool) → AddsNext g (cond b [] (entries_of (next_position g) q name (carried_reply g q)))
-      by true = inl refl
-      by false = entry_next q name (carried_reply g q) _
+      by : (b : Bool) → is_elsewhere g name ≡ b → AddsNext g (cond b [] (entries_of (next_position g) q name (carried_reply g q)))
+      by true e = inl refl
+      by false e = entry_next q name (carried_reply g q) (here name e) _
 
   verdict_next : (q : Request) (a : Ask) (v : Verdict) → AddsNext g (verdict_added g q a v)
   verdict_next q a carry = decided_next q (Some a)

@@ -1,5 +1,6 @@
 -- Steps of the log that is followed: which are taken, and what is told of one.
-use Rattle.std.specs.Prelude.{ℕ, ◌+◌, ◌==◌, ◌&&◌, not, Bool, false, true, if◌then◌else◌, List, [], ◌∷◌, ◌++◌, map, filter, bytes_eq, nat_le, nat_lt, take, Option, Some, None, is_some, option_map}
+use Rattle.std.specs.Prelude.{◌≡◌, ℕ, ◌+◌, ◌==◌, ◌&&◌, not, Bool, false, true, if◌then◌else◌, List, [], ◌∷◌, ◌++◌, map, filter, bytes_eq, nat_le, nat_lt}
+use Rattle.std.specs.Prelude.{take, Option, Some, None, is_some, option_map}
 use Rattle.std.specs.List.{list_any}
 use Rattle.iv_rows.specs.Options.{if_some}
 use Rattle.iv_access.specs.Rights.{Name}
@@ -23,9 +24,10 @@ pub record Step : Type 0 where
   pub requests : List Request
   pub names : List Named
 
--- why one is not taken: it is of another log; it does not begin at the position; a request of it is refused; a name of it may have an answer
--- already. Requests and names count from 1
+-- why one is not taken: the gateway decides the log itself; it is of another log; it does not begin at the position; a request of it is refused; a
+-- name of it may have an answer already. Requests and names count from 1
 pub data Fault : Type 0 where
+  decided_here : Fault
   other_log : Fault
   gap : (position : ℕ) → Fault
   not_accepted : (request : ℕ) → Refusal → Fault
@@ -45,6 +47,11 @@ position g = position_of g.head.position g.entries
 abbrev pub settled_at : Gate → ℕ
 settled_at g = position_of g.head.position (take g.kept g.entries)
 
+-- each entry is one position further than the one before it
+abbrev pub AreNext : ℕ → List Entry → Type 0
+AreNext p [] = Unit {0}
+AreNext p (e ∷ es) = (e.position ≡ Some (p + 1)) × AreNext (p + 1) es
+
 -- it has no answer yet
 abbrev pub is_new : Known → Ask → Bool
 is_new k a = once.is_new limits k a
@@ -59,10 +66,12 @@ was_taken g s = if_some g.head.log false (is_log s.log) && nat_le s.to (position
 
 abbrev pub fault_of : Gate → Step → Option Fault
 fault_of g s =
+    if g.leads then Some decided_here else (
     if was_taken g s then None else (
     if not (if_some g.head.log false (is_log s.log)) then Some other_log else (
     if not ((s.from == position g) && nat_lt s.from s.to) then Some (gap (position g)) else (
-    if_some (first_known 1 s.names (known_of g)) (option_map (λ p. not_accepted p.0 p.1) (first_refused 1 (map fact_of s.requests) (shared g.machine))) Some)))
+    if_some (first_known 1 s.names (known_of g))
+    (option_map (λ p. not_accepted p.0 p.1) (first_refused 1 (map fact_of s.requests) (shared g.machine))) Some))))
 
 -- what the journal is to have of it
 abbrev pub entry_of : Step → Entry

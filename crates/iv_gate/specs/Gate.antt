@@ -1,5 +1,6 @@
 -- The gateway: the access machine, its sessions by role, the feeds that clients share, the clients, and the journal's entries.
-use Rattle.std.specs.Prelude.{ℕ, ◌+◌, ◌==◌, ◌&&◌, ◌||◌, not, Bool, true, false, if◌then◌else◌, List, [], ◌∷◌, ◌++◌, codes, drop, map, filter, flat_map, length, nat_lt, slice_set, Option, Some, None, option_and_then, option_map, unwrap_or, is_some}
+use Rattle.std.specs.Prelude.{ℕ, ◌+◌, ◌==◌, ◌&&◌, ◌||◌, not, Bool, true, false, if◌then◌else◌, List, [], ◌∷◌, ◌++◌, codes, drop, map, filter}
+use Rattle.std.specs.Prelude.{flat_map, length, nat_lt, slice_set, Option, Some, None, option_and_then, option_map, unwrap_or, is_some}
 use Rattle.std.specs.List.{list_any}
 use Rattle.sha2.specs.Sha256.{sha256}
 use Rattle.serde_json.specs.Data.{Data, object}
@@ -12,7 +13,8 @@ use Rattle.iv_access.specs.Privileges.{acts_as, has, role_of}
 use Rattle.iv_access.specs.Rights.{Name}
 use Rattle.iv_access.specs.declared.privilege.Privilege.{Privilege}
 use Rattle.iv_access.specs.declared.privilege.Privilege.TheVariants.{Select, Insert, Update, Delete}
-use Rattle.iv_machine.specs.Act.{Act, begin, finish, create_table, create_view, grant, grant_role, subscribe, unsubscribe, Command, Line, reply, Reply, done, subscribed, refused, limit, no_session, too_many, unknown_subscription}
+use Rattle.iv_machine.specs.Act.{Act, begin, finish, create_table, create_view, grant, grant_role, subscribe, unsubscribe, Command, Line, reply}
+use Rattle.iv_machine.specs.Act.{Reply, done, subscribed, refused, limit, no_session, too_many, unknown_subscription}
 use Rattle.iv_machine.specs.Machine.{Outcome, step}
 use Rattle.iv_machine.specs.State.{Frame, State}
 use Rattle.iv_lines.specs.Texts.{reply_members}
@@ -21,7 +23,8 @@ use Rattle.iv_message.specs.Told.{Told, replied, opened, fault, unasked, granted
 use Rattle.iv_once.specs.Names.{Ask, Known, Named, Names, Place, Verdict, carry, again, another, late, foreign, blamed, learned, own_of, spent_more, verdict}
 use Rattle.iv_once.specs.Names as once
 use Rattle.iv_clients.specs.Bounds.{most_subs}
-use Rattle.iv_clients.specs.Clients.{Client, Shown, Slots, at_all, at_client, client_at, closing, followed_by, following, fresh, has_role, is_followed, is_free, may_say, moved, own_lines, saying, settling, staying, telling, told_one}
+use Rattle.iv_clients.specs.Clients.{Client, Shown, Slots, at_all, at_client, client_at, closing, followed_by, following, fresh, has_role}
+use Rattle.iv_clients.specs.Clients.{is_followed, is_free, may_say, moved, own_lines, saying, settling, staying, telling, told_one}
 use Rattle.iv_clients.specs.Clients as clients
 use Rattle.iv_clients.specs.Feeds.{Feed, Seat, feed_for, feed_of, feeds_left, is_of_role, is_reading, next_seat, room_for, seat_of, without_feed, without_seat}
 use Rattle.iv_records.specs.Journal.{Entry, Request, claim_said, is_shape, is_shared, line_said, names_in, position_of, said_by, shape_for, shape_of}
@@ -82,7 +85,8 @@ has_on f role p rel = if_some (role_of f.rights role) false (λ r. if_some (name
 
 -- the role has some privilege on the relation
 abbrev pub has_some : Frame → Name → Name → Bool
-has_some f role rel = if_some (role_of f.rights role) false (λ r. if_some (named f.catalog rel) false (λ e. list_any (λ p. has f.rights r p e.rel) each_privilege))
+has_some f role rel = if_some (role_of f.rights role) false (λ r.
+    if_some (named f.catalog rel) false (λ e. list_any (λ p. has f.rights r p e.rel) each_privilege))
 
 -- the role is the other, or a member of it
 abbrev pub is_member : Frame → Name → Name → Bool
@@ -229,7 +233,11 @@ known_by k (e ∷ es) = known_by (learned limits (once.named e) k) es
 
 -- what is known of names before the first entry: no name
 abbrev pub known_at : Head → Known
-known_at h = record { epoch = h.epoch; owns = λ holder. option_map (λ p. record { epoch = p.epoch; count = p.count; recent = [] }) (h.places holder); holders = h.holders }
+known_at h = record {
+  epoch = h.epoch;
+  owns = λ holder. option_map (λ p. record { epoch = p.epoch; count = p.count; recent = [] }) (h.places holder);
+  holders = h.holders;
+}
 
 -- what is known of names: what the journal says of them
 abbrev pub known_of : Gate → Known

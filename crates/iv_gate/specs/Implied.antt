@@ -1,5 +1,5 @@
 -- What the laws imply, in other words; nobody has to believe it beside them.
-use Rattle.std.specs.Prelude.{◌≡◌, ◌≢◌, ◌⊎◌, ◌≤◌, ◌<◌, ◌+◌, ℕ, false, true, List, [], ◌∷◌, Contains, length, nat_lt, Some, is_some, ℤ}
+use Rattle.std.specs.Prelude.{◌≡◌, ◌≢◌, ◌⊎◌, ◌≤◌, ◌<◌, ◌+◌, ℕ, false, true, List, [], ◌∷◌, Contains, drop, length, nat_lt, Some, is_some, ℤ}
 use Rattle.std.specs.List.{AllByRecursion, list_any}
 use Rattle.iv_rows.specs.Cell.{Cell}
 use Rattle.iv_access.specs.declared.privilege.Privilege.{Privilege}
@@ -12,10 +12,10 @@ use Rattle.iv_records.specs.Names.{limits}
 use Rattle.iv_clients.specs.Tokens.{Token}
 use Rattle.iv_journal.specs.Journal.{Line}
 use Rattle.iv_once.specs.Names.{Ask}
-use Rattle.iv_gate.specs.Arriving.{Step, position, settled_at}
-use Rattle.iv_gate.specs.Events.{Event, arrived, next}
+use Rattle.iv_gate.specs.Arriving.{AreNext, Step, position, settled_at}
+use Rattle.iv_gate.specs.Events.{Event, after, arrived, next}
 use Rattle.iv_records.specs.Journal.{Entry}
-use Rattle.iv_gate.specs.Gate.{Gate, has_on, has_some, most_shape, next_position, place_at, shape_text}
+use Rattle.iv_gate.specs.Gate.{Gate, has_on, has_some, is_follower, most_shape, next_position, place_at, shape_text}
 use Rattle.iv_gate.specs.Replies.{ByClient, count_of, told_by}
 use Rattle.iv_gate.specs.Restoring.{Restores, gate_at_start}
 use Rattle.iv_gate.specs.Runs.{LeavesOnDisk}
@@ -67,9 +67,19 @@ abbrev pub PositionsLast : (cap : ℕ) → Gate → Type 0
 PositionsLast cap g = (disk : List Line) (tokens : List Token) (most : ℕ) (h : Gate) → LeavesOnDisk g disk
     → Restores (gate_at_start cap tokens most g.head g.sent) disk h → (settled_at g ≤ settled_at h) × (settled_at h ≤ position g)
 
--- what a client's message adds: nothing, or one entry, which stands at the next position where the gateway leads its log
+-- what a client's message adds: nothing, or, unless others lead the log, one entry, which is at the next position if the gateway leads it
 abbrev pub AddsNext : Gate → List Entry → Type 0
-AddsNext g es = (es ≡ []) ⊎ ((e : Entry) × (es ≡ e ∷ []) × (e.position ≡ next_position g))
+AddsNext g es = (es ≡ []) ⊎ ((e : Entry) × (es ≡ e ∷ []) × (e.position ≡ next_position g) × (is_follower g ≡ false))
+
+-- it leads its log, of which all is on disk
+pub record LeadsFromDisk (g : Gate) : Type 0 where
+  pub log : is_some g.head.log ≡ true
+  pub leads : g.leads ≡ true
+  pub disk : g.kept ≡ length g.entries
+
+-- whatever happens then, what is not on disk yet is the next steps of the log
+abbrev pub DecidesNext : Gate → List Event → Type 0
+DecidesNext g es = LeadsFromDisk g → let h = after g es in AreNext (settled_at h) (drop h.kept h.entries)
 
 -- ---- names
 

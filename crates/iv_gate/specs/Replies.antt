@@ -1,5 +1,6 @@
 -- What a client is replied.
-use Rattle.std.specs.Prelude.{◌≡◌, ◌≢◌, ◌≤◌, ◌<◌, bytes_eq, codes, count_by, ◌⊎◌, ℕ, ◌+◌, ◌==◌, ◌&&◌, Bool, true, false, if◌then◌else◌, List, [], ◌∷◌, Contains, filter, drop, take, reverse, length, slice_get, Option, Some, None, is_some}
+use Rattle.std.specs.Prelude.{◌≡◌, ◌≢◌, ◌≤◌, ◌<◌, bytes_eq, codes, count_by, ◌⊎◌, ℕ, ◌+◌, ◌==◌, ◌&&◌, Bool, true, false, if◌then◌else◌, List, [], ◌∷◌}
+use Rattle.std.specs.Prelude.{Contains, filter, drop, take, reverse, length, slice_get, Option, Some, None, is_some}
 use Rattle.std.specs.List.{AllByRecursion}
 use Rattle.serde_json.specs.Data.{Data}
 use Rattle.iv_rows.specs.Columns.{Column}
@@ -17,7 +18,8 @@ use Rattle.iv_records.specs.Journal.{Entry, Request, claim_said, line_said, name
 use Rattle.iv_records.specs.Names.{Claim, limits, place_text}
 use Rattle.iv_once.specs.Names.{Ask, Named}
 use Rattle.iv_gate.specs.Events.{Event, message, next}
-use Rattle.iv_gate.specs.Gate.{Gate, answer_text, asked_by, columns_in, entries_of, has_shape_room, in_session, is_follower, known_of, may_have, next_position, place_at, reply_in}
+use Rattle.iv_gate.specs.Gate.{Gate, answer_text, asked_by, columns_in, entries_of, has_shape_room, in_session, is_follower, known_of, may_have}
+use Rattle.iv_gate.specs.Gate.{next_position, place_at, reply_in}
 
 -- ---- clients
 
@@ -160,7 +162,8 @@ IsReplyToShared g c id q (Some k) t es = IsNamedReply g c id q (asked_by c q.lin
 -- the reply to a client's act
 abbrev pub IsReplyToAct : Gate → Client → Option Data → List ℕ → Act → Told → List Entry → Type 0
 IsReplyToAct g c id text (subscribe rel) t es = (es ≡ []) × ((IsFull g c rel × (t ≡ replied id (refused too_many))) ⊎ IsReadingReply g c id rel t)
-IsReplyToAct g c id text (unsubscribe own) t es = (es ≡ []) × (t ≡ replied id (if is_some (followed_by c.subs own) then done else refused unknown_subscription))
+IsReplyToAct g c id text (unsubscribe own) t es = (es ≡ [])
+    × (t ≡ replied id (if is_some (followed_by c.subs own) then done else refused unknown_subscription))
 IsReplyToAct g c id text (begin role) t es = (es ≡ []) × (t ≡ fault 2)
 IsReplyToAct g c id text finish t es = (es ≡ []) × (t ≡ fault 2)
 IsReplyToAct g c id text act t es = IsReplyToShared g c id (record { role = c.role; line = line_said text; act = act }) (claim_said text) t es
@@ -186,7 +189,8 @@ heard_by m c e = None
 -- a client is told first the reply to its own message that is heard, and no other reply; and the journal is to have of it what the reply says
 pub record AreReplied (g : Gate) (e : Event) : Type 0 where
   pub own : ByClient g e (λ m c d. (text : List ℕ) → heard_by m c e ≡ Some text
-      → (reply : Told) × (others : List Told) × (told_by c d ≡ reply ∷ others) × IsReplyTo g c text (said_by text) reply (added_by g e) × (replies others ≡ []))
+      → (reply : Told) × (others : List Told) × (told_by c d ≡ reply ∷ others)
+      × IsReplyTo g c text (said_by text) reply (added_by g e) × (replies others ≡ []))
   pub others : ByClient g e (λ m c d. heard_by m c e ≡ None → replies (told_by c d) ≡ [])
 
 abbrev pub is_opened : Told → Bool

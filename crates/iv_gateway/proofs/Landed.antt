@@ -19,7 +19,7 @@ use Rattle.iv_steps.specs.Laws.{RefusalsAreFound}
 use Rattle.iv_steps.specs.Steps.{Fact, first_refused, is_shared, is_well_fact, shared, stepped}
 use Rattle.iv_command.specs.Views.{refusal_of}
 use Rattle.iv_records.specs.Journal.{Entry, IsRequest, Request, is_shape, names_in, record_of, texts_of}
-use Rattle.iv_gate.specs.Arriving.{Fault, Step, entry_of, fact_of, fault_of, first_known, gap, was_taken, is_log, landed, not_accepted, not_new, other_log, position, takes}
+use Rattle.iv_gate.specs.Arriving.{Fault, Step, decided_here, entry_of, fact_of, fault_of, first_known, gap, was_taken, is_log, landed, not_accepted, not_new, other_log, position, takes}
 use Rattle.iv_gate.specs.Gate.{Gate, entered, known_of, names_of, shape_text}
 use Rattle.iv_gateway.specs.Arriving.{IsFaultOf, IsLanded, IsNotLanded, IsRefusedBy, IsTakenBy}
 use Rattle.iv_arrivals.specs.Entering.{all_pushed, shape_in}
@@ -101,6 +101,7 @@ none_refused found qs g o w h = none_if (first_refused 1 (map fact_of qs) (share
 
 pub refused_lands : (g : Gate) (s : Step) (es : List Entry) (facts : List Fact) (f : StepFault) → first_known 1 s.names (known_of g) ≡ None → facts ≡ map fact_of s.requests
     → IsRefusedBy (entered g es) facts f → IsNotLanded g s f
+refused_lands g s es facts fault.Led n e h = h
 refused_lands g s es facts fault.OtherLog n e h = h
 refused_lands g s es facts (fault.Gap p) n e h = h
 refused_lands g s es facts (fault.NotAccepted q why) n e h = (n, ap (λ fs. first_refused 1 fs (shared g.machine)) (sym e) ∙ h)
@@ -121,55 +122,61 @@ is_ours g s = if_some g.head.log false (is_log s.log)
 abbrev begins : Gate → Step → Bool
 begins g s = (s.from == position g) && nat_lt s.from s.to
 
-abbrev fault_by : (ours past next : Bool) → ℕ → Option Fault → Option (ℕ × Refusal) → Option Fault
-fault_by ours past next at names first = cond (ours && past) None (
+abbrev fault_by : (leads ours past next : Bool) → ℕ → Option Fault → Option (ℕ × Refusal) → Option Fault
+fault_by leads ours past next at names first = cond leads (Some decided_here) (cond (ours && past) None (
     cond (not ours) (Some other_log) (
-    cond (not next) (Some (gap at)) (if_some names (option_map (λ p. not_accepted p.0 p.1) first) Some)))
+    cond (not next) (Some (gap at)) (if_some names (option_map (λ p. not_accepted p.0 p.1) first) Some))))
 
-fault_is : (g : Gate) (s : Step) (ours past next : Bool) (names : Option Fault) (first : Option (ℕ × Refusal)) → is_ours g s ≡ ours → nat_le s.to (position g) ≡ past
+fault_is : (g : Gate) (s : Step) (ours past next : Bool) (names : Option Fault) (first : Option (ℕ × Refusal)) → g.leads ≡ false → is_ours g s ≡ ours → nat_le s.to (position g) ≡ past
     → begins g s ≡ next → first_known 1 s.names (known_of g) ≡ names → first_refused 1 (map fact_of s.requests) (shared g.machine) ≡ first
-    → fault_of g s ≡ fault_by ours past next (position g) names first
-fault_is g s ours past next names first o p n k f = λ i. fault_by (o i) (p i) (n i) (position g) (k i) (f i)
+    → fault_of g s ≡ fault_by false ours past next (position g) names first
+fault_is g s ours past next names first l o p n k f = λ i. fault_by (l i) (o i) (p i) (n i) (position g) (k i) (f i)
 
 takes_as : (g : Gate) (s : Step) (f : Option Fault) (b : Bool) (o : Option Outcome) → fault_of g s ≡ f → was_taken g s ≡ b → stepped (map fact_of s.requests) g.machine ≡ o
     → takes g s ≡ cond (is_some f) (record g { dead = true }) (cond b g (if_some o g (landed g (entry_of s))))
 takes_as g s f b o e h k = λ i. cond (is_some (e i)) (record g { dead = true }) (cond (h i) g (if_some (k i) g (landed g (entry_of s))))
 
-pub of_another : (g : Gate) (s : Step) → is_ours g s ≡ false → IsFaultOf g s fault.OtherLog
-of_another g s o = fault_is g s false (nat_le s.to (position g)) (begins g s) (first_known 1 s.names (known_of g))
-    (first_refused 1 (map fact_of s.requests) (shared g.machine)) o refl refl refl refl
+-- who leads takes none
+pub is_led : (g : Gate) (s : Step) → g.leads ≡ true → IsFaultOf g s fault.Led
+is_led g s l = λ i. fault_by (l i) (is_ours g s) (nat_le s.to (position g)) (begins g s) (position g) (first_known 1 s.names (known_of g))
+    (first_refused 1 (map fact_of s.requests) (shared g.machine))
 
-pub IsAlive-was_taken : (g : Gate) (s : Step) (x : Gateway) → is_ours g s ≡ true → nat_le s.to (position g) ≡ true → IsAlive g x → IsTakenBy g s false × IsAlive (takes g s) x
-IsAlive-was_taken g s x o p b =
+pub of_another : (g : Gate) (s : Step) → g.leads ≡ false → is_ours g s ≡ false → IsFaultOf g s fault.OtherLog
+of_another g s l o = fault_is g s false (nat_le s.to (position g)) (begins g s) (first_known 1 s.names (known_of g))
+    (first_refused 1 (map fact_of s.requests) (shared g.machine)) l o refl refl refl refl
+
+pub IsAlive-was_taken : (g : Gate) (s : Step) (x : Gateway) → g.leads ≡ false → is_ours g s ≡ true → nat_le s.to (position g) ≡ true → IsAlive g x → IsTakenBy g s false × IsAlive (takes g s) x
+IsAlive-was_taken g s x l o p b =
     let none : fault_of g s ≡ None = fault_is g s true true (begins g s) (first_known 1 s.names (known_of g))
-    (first_refused 1 (map fact_of s.requests) (shared g.machine)) o p refl refl refl in
+    (first_refused 1 (map fact_of s.requests) (shared g.machine)) l o p refl refl refl in
     let past : was_taken g s ≡ true = λ i. o i && p i in (
       record { none = none; new = ap not (sym past) },
       subst (λ h. IsAlive h x) (sym (takes_as g s None true (stepped (map fact_of s.requests) g.machine) none past refl)) b,
     )
 
-pub has_gap : (g : Gate) (s : Step) (at : ℕ) → is_ours g s ≡ true → nat_le s.to (position g) ≡ false → begins g s ≡ false → at ≡ position g → IsFaultOf g s (fault.Gap at)
-has_gap g s at o p n e =
-    fault_is g s true false false (first_known 1 s.names (known_of g)) (first_refused 1 (map fact_of s.requests) (shared g.machine)) o p n refl refl
+pub has_gap : (g : Gate) (s : Step) (at : ℕ) → g.leads ≡ false → is_ours g s ≡ true → nat_le s.to (position g) ≡ false → begins g s ≡ false → at ≡ position g → IsFaultOf g s (fault.Gap at)
+has_gap g s at l o p n e =
+    fault_is g s true false false (first_known 1 s.names (known_of g)) (first_refused 1 (map fact_of s.requests) (shared g.machine)) l o p n refl refl
     ∙ ap (λ z. Some (gap z)) (sym e)
 
-pub has_landed : (g : Gate) (s : Step) (x : Gateway) → is_ours g s ≡ true → nat_le s.to (position g) ≡ false → begins g s ≡ true → IsLanded g s x
+pub has_landed : (g : Gate) (s : Step) (x : Gateway) → g.leads ≡ false → is_ours g s ≡ true → nat_le s.to (position g) ≡ false → begins g s ≡ true → IsLanded g s x
     → IsTakenBy g s true × IsAlive (takes g s) x
-has_landed g s x o p n w =
-    let none : fault_of g s ≡ None = fault_is g s true false true None None o p n w.new w.accepted in
+has_landed g s x l o p n w =
+    let none : fault_of g s ≡ None = fault_is g s true false true None None l o p n w.new w.accepted in
     let past : was_taken g s ≡ false = λ i. o i && p i in (
       record { none = none; new = ap not (sym past) },
       subst (λ h. IsAlive h x) (sym (takes_as g s None false (Some w.outcome) none past w.is)) w.gate,
     )
 
-pub not_landed : (g : Gate) (s : Step) (f : StepFault) → is_ours g s ≡ true → nat_le s.to (position g) ≡ false → begins g s ≡ true → IsNotLanded g s f → IsFaultOf g s f
-not_landed g s fault.OtherLog o p n h = absurd h
-not_landed g s (fault.Gap at) o p n h = absurd h
-not_landed g s (fault.NotAccepted q why) o p n h = fault_is g s true false true None (Some (q, refusal_of why)) o p n h.0 h.1
-not_landed g s (fault.NotNew k) o p n h =
-    fault_is g s true false true (Some (not_new k)) (first_refused 1 (map fact_of s.requests) (shared g.machine)) o p n h refl
-not_landed g s fault.Memory o p n h = tt
-not_landed g s fault.Dead o p n h = tt
+pub not_landed : (g : Gate) (s : Step) (f : StepFault) → g.leads ≡ false → is_ours g s ≡ true → nat_le s.to (position g) ≡ false → begins g s ≡ true → IsNotLanded g s f → IsFaultOf g s f
+not_landed g s fault.Led l o p n h = absurd h
+not_landed g s fault.OtherLog l o p n h = absurd h
+not_landed g s (fault.Gap at) l o p n h = absurd h
+not_landed g s (fault.NotAccepted q why) l o p n h = fault_is g s true false true None (Some (q, refusal_of why)) l o p n h.0 h.1
+not_landed g s (fault.NotNew k) l o p n h =
+    fault_is g s true false true (Some (not_new k)) (first_refused 1 (map fact_of s.requests) (shared g.machine)) l o p n h refl
+not_landed g s fault.Memory l o p n h = tt
+not_landed g s fault.Dead l o p n h = tt
 
 -- what is taken kills nothing
 pub taken_lives : (g : Gate) (s : Step) → fault_of g s ≡ None → (takes g s).dead ≡ g.dead

@@ -5,7 +5,7 @@ use Rattle.iv_machine.specs.Act.{Line}
 use Rattle.iv_machine.specs.Machine.{Outcome}
 use Rattle.iv_once.specs.Names as once
 use Rattle.iv_steps.specs.Steps.{Fact, first_refused, shared, stepped}
-use Rattle.iv_gate.specs.Arriving.{Step, entry_of, fact_of, fault_of, first_known, gap, was_taken, landed, not_accepted, not_new, other_log}
+use Rattle.iv_gate.specs.Arriving.{Step, decided_here, entry_of, fact_of, fault_of, first_known, gap, was_taken, landed, not_accepted, not_new, other_log}
 use Rattle.iv_gate.specs.Gate.{Gate, entered, known_of, shape_text}
 use Rattle.iv_gateway.specs.Views.{IsAlive}
 use Rattle.iv_gateway.specs.declared.arriving.StepFault.{StepFault}
@@ -19,6 +19,7 @@ pub record IsTakenBy (g : Gate) (s : Step) (is : Bool) : Type 0 where
 
 -- why it is not; where memory was refused, or the gateway was dead, nothing is said of it
 abbrev pub IsFaultOf : Gate → Step → StepFault → Type 0
+IsFaultOf g s fault.Led = fault_of g s ≡ Some decided_here
 IsFaultOf g s fault.OtherLog = fault_of g s ≡ Some other_log
 IsFaultOf g s (fault.Gap position) = fault_of g s ≡ Some (gap position)
 IsFaultOf g s (fault.NotAccepted request why) = fault_of g s ≡ Some (not_accepted request (refusal_of why))

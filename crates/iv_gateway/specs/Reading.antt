@@ -25,7 +25,8 @@ doubled t k = None
 
 -- client m is told that feed t is opened for it, and follows it
 abbrev pub follows_new : Gate → ℕ → Option Data → Name → ℕ → Gate
-follows_new g m id rel t = let h = tells g m (opened id (next_own g m) (columns_in g.machine rel)) in record h { clients = at_client m (following t) h.clients }
+follows_new g m id rel t = let h = tells g m (opened id (next_own g m) (columns_in g.machine rel)) in
+    record h { clients = at_client m (following t) h.clients }
 
 -- in a further session of the role, if one can be begun
 abbrev pub reads_further : Gate → ℕ → Option Data → Name → Name → Gate

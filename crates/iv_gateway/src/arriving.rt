@@ -31,6 +31,8 @@ use std::alloc::AllocError;
 /// Why a step is not taken. The gateway is dead then.
 #[derive(Drop)]
 pub enum StepFault {
+    /// The gateway decides the log itself.
+    Led,
     /// It is of another log, or none is followed.
     OtherLog,
     /// It does not begin at the position, which is told, or leads nowhere.
@@ -96,6 +98,10 @@ impl Gateway {
         ensures gate { IfOk result (λ is. (g : Gate) → IsAlive g self.old → IsTakenBy g step is × IsAlive (takes g step) self.new) }
         ensures fault { IfErr result (λ f. (g : Gate) → IsAlive g self.old → IsFaultOf g step f) }
     {
+        if self.leads {
+            drop(step);
+            return Err(StepFault::Led);
+        }
         if !step.is_of(&self.log) {
             drop(step);
             return Err(StepFault::OtherLog);

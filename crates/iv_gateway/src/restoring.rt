@@ -10,7 +10,8 @@ ghost use Rattle.iv_gate.specs.Events.{failed, next};
 ghost use Rattle.iv_gate.specs.Gate.{Gate};
 ghost use Rattle.iv_gate.specs.Restoring.{IsDamagedAt};
 ghost use Rattle.iv_steps.specs.Steps.{all_carried, carried, passed};
-ghost use Rattle.iv_gateway.specs.Replays.{AreNamesReplayed, HasReplayed, IsNameReplayed, IsNew, IsPassed, IsRecordReplayed, IsReplayed, IsReplaying, IsRestored, IsStepReplayed, behind, part, with_request};
+ghost use Rattle.iv_gateway.specs.Replays.{AreNamesReplayed, HasReplayed, IsNameReplayed, IsNew, IsPassed, IsRecordReplayed, IsReplayed, IsReplaying};
+ghost use Rattle.iv_gateway.specs.Replays.{IsRestored, IsStepReplayed, behind, part, with_request};
 ghost use Rattle.iv_gateway.specs.Views.{IsAlive, IsGate};
 
 use crate::gateway::Gateway;

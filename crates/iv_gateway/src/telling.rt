@@ -33,7 +33,8 @@ impl Gateway {
         id: &Option<Id>,
         reply: &Reply,
     ) -> Result<(), AllocError>
-        ensures { OnOk result ((g : Gate) → IsAlive g self.old → IsAlive (tells g client (replied (option_map id_data id.now) (reply_of reply.now))) self.new) }
+        ensures { OnOk result ((g : Gate) → IsAlive g self.old
+            → IsAlive (tells g client (replied (option_map id_data id.now) (reply_of reply.now))) self.new) }
     {
         let mut text = Vec::new(self.alloc);
         push_replied(self.alloc, &mut text, id, reply)?;

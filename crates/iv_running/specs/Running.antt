@@ -1,8 +1,8 @@
 -- What stands behind the program's desk at all times.
-use Rattle.std.specs.Prelude.{◌≡◌, ℕ, List, [], Some}
+use Rattle.std.specs.Prelude.{◌≡◌, ℕ, Bool, false, true, List, [], nat_le, Some}
 use Rattle.iv_journal.specs.Journal.{Line}
-use Rattle.iv_gate.specs.Arriving.{Step}
-use Rattle.iv_gate.specs.Events.{arrived}
+use Rattle.iv_gate.specs.Arriving.{Step, position}
+use Rattle.iv_gate.specs.Events.{Event, arrived, synced}
 use Rattle.iv_arrivals.specs.Reads.{step_in}
 use Rattle.iv_clients.specs.Tokens.{Token}
 use Rattle.iv_gate.specs.Gate.{Gate, Head, Log}
@@ -20,19 +20,38 @@ pub record IsRunning (cap : ℕ) (x : Desk) : Type 0 where
   pub runs : FrontRuns cap front
   pub stands : IsDesk front x
 
--- a front has gone on to one that stands behind the desk
-pub record HasCome (d : Front) (x : Desk) : Type 0 where
+-- a front has gone on, by what may happen, to one that stands behind the desk
+pub record HasCome (may : Front → Event → Bool) (d : Front) (x : Desk) : Type 0 where
   pub front : Front
-  pub goes_on : GoesOn d front
+  pub goes_on : GoesOn may d front
   pub stands : IsDesk front x
 
 -- the second desk comes of the first: what has gone on to the first has gone on to the second
+abbrev pub LeadsBy : (Front → Event → Bool) → Desk → Desk → Type 0
+LeadsBy may x y = (d : Front) → HasCome may d x → HasCome may d y
+
+-- by whatever happens
+abbrev pub anything : Front → Event → Bool
+anything d e = true
+
 abbrev pub Leads : Desk → Desk → Type 0
-Leads x y = (d : Front) → HasCome d x → HasCome d y
+Leads x y = LeadsBy anything x y
+
+-- by what happens to sockets, by which tokens are known, and by failures: no other event of the gateway alone has to be one that may happen
+abbrev pub Serves : Desk → Desk → Type 0
+Serves x y = (may : Front → Event → Bool) → LeadsBy may x y
+
+-- by these, and once by what is behind the first the journal keeps what is pending
+abbrev pub Keeps : Desk → Desk → Type 0
+Keeps x y = (may : Front → Event → Bool) → ((d : Front) → IsDesk d x → d.gate.dead ≡ false → may d synced ≡ true) → LeadsBy may x y
+
+-- by these, and the journal keeps nothing unless all that was decided is in the log, which has it up to a position
+abbrev pub KeepsTo : ℕ → Desk → Desk → Type 0
+KeepsTo n x y = (may : Front → Event → Bool) → ((d : Front) → nat_le (position d.gate) n ≡ true → may d synced ≡ true) → LeadsBy may x y
 
 -- if a run has led to the first, one leads to the second
 abbrev pub RunsLeadOn : Type 0
-RunsLeadOn = (cap : ℕ) (x y : Desk) → IsRunning cap x → Leads x y → IsRunning cap y
+RunsLeadOn = (may : Front → Event → Bool) (cap : ℕ) (x y : Desk) → IsRunning cap x → LeadsBy may x y → IsRunning cap y
 
 -- the lines are a step of the log from a position, and that is what arrives
 pub record IsFollowed (log : Log) (from : ℕ) (lines : List Line) (x y : Desk) : Type 0 where

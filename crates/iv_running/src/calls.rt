@@ -15,7 +15,7 @@ ghost use Rattle.iv_gateway.specs.Waiting.{WaitsWithin};
 ghost use Rattle.iv_peer.specs.Socket.{closed, passing, took};
 ghost use Rattle.iv_desk.specs.Desks.{IsCalledOut, IsDesk, IsHeard};
 ghost use Rattle.iv_desk.specs.Front.{Front, at_socket, begun, by_event, dismissed, left, may_tell, offered};
-ghost use Rattle.iv_running.specs.Running.{IsBack, IsFollowed, IsNew, IsRunning, IsUntaken, Leads, RunsLeadOn, most_told};
+ghost use Rattle.iv_running.specs.Running.{IsBack, IsFollowed, IsNew, IsRunning, IsUntaken, Keeps, Leads, RunsLeadOn, Serves, most_told};
 
 use crate::fault::Fault;
 use iv_arrivals::{Log, Step, read_step};
@@ -81,7 +81,7 @@ pub fn restore(desk: &mut Desk, journal: &[Line<'_>]) -> Result<(), RestoreFault
 
 /// A connection begins at a number, if none has it.
 pub fn accept(desk: &mut Desk, at: u32) -> bool
-    ensures leads { Leads desk.old desk.new }
+    ensures serves { Serves desk.old desk.new }
     ensures front { (d : Front) → IsDesk d desk.old → IsDesk (begun at d) desk.new }
     ensures answer { (d : Front) → IsDesk d desk.old → d.gate.dead ≡ false → result ≡ is_free at d.sockets }
 {
@@ -100,7 +100,7 @@ pub fn may_read(desk: &Desk) -> bool
 /// # Errors
 /// As of the desk's `read`.
 pub fn hear(desk: &mut Desk, at: u32, bytes: &[u8]) -> Result<Hearing, Fault>
-    ensures leads { Leads desk.old desk.new }
+    ensures serves { Serves desk.old desk.new }
     ensures heard { IfOk result (λ hearing. (d : Front) → IsDesk d desk.old → IsHeard (at_socket at (took bytes.now) d) at hearing desk.new) }
 {
     calls_lead_from_runs_to_runs();
@@ -116,7 +116,7 @@ pub fn hear(desk: &mut Desk, at: u32, bytes: &[u8]) -> Result<Hearing, Fault>
 /// # Errors
 /// As of `hear`.
 pub fn hear_on(desk: &mut Desk, at: u32) -> Result<Hearing, Fault>
-    ensures leads { Leads desk.old desk.new }
+    ensures serves { Serves desk.old desk.new }
     ensures heard { IfOk result (λ hearing. (d : Front) → IsDesk d desk.old → IsHeard d at hearing desk.new) }
 {
     calls_lead_from_runs_to_runs();
@@ -132,7 +132,7 @@ pub fn hear_on(desk: &mut Desk, at: u32) -> Result<Hearing, Fault>
 /// # Errors
 /// As of `hear`.
 pub fn leave(desk: &mut Desk, at: u32) -> Result<(), Fault>
-    ensures leads { Leads desk.old desk.new }
+    ensures serves { Serves desk.old desk.new }
     ensures front { OnOk result ((d : Front) → IsDesk d desk.old → IsDesk (left at d) desk.new) }
 {
     events_leave_their_marks();
@@ -188,7 +188,7 @@ pub fn follow(
 /// # Errors
 /// `Journal` if the journal fails; else as of `hear`.
 pub fn settle<J: Journal>(desk: &mut Desk, journal: &mut J) -> Result<(), Fault>
-    ensures leads { Leads desk.old desk.new }
+    ensures keeps { Keeps desk.old desk.new }
     ensures kept { OnOk result ((d : Front) → IsDesk d desk.old → d.gate.dead ≡ false
         → J.kept journal.new ≡ option_map (λ ls. ls ++ journal_of (drop d.gate.kept d.gate.entries)) (J.kept journal.old)) }
     ensures front { OnOk result ((d : Front) → IsDesk d desk.old → IsCalledOut offered (by_event synced d) desk.new) }
@@ -206,7 +206,7 @@ pub fn settle<J: Journal>(desk: &mut Desk, journal: &mut J) -> Result<(), Fault>
 /// # Errors
 /// As of `hear`.
 pub fn know(desk: &mut Desk, tokens: Vec<Token>) -> Result<(), Fault>
-    ensures leads { Leads desk.old desk.new }
+    ensures serves { Serves desk.old desk.new }
     ensures front { OnOk result ((d : Front) → IsDesk d desk.old → IsCalledOut dismissed (by_event (known tokens.items) d) desk.new) }
 {
     calls_lead_from_runs_to_runs();
@@ -247,7 +247,7 @@ pub fn forgive(desk: &mut Desk)
 /// As of `hear`.
 pub fn close(desk: &mut Desk, at: u32, code: u16, words: &[u8]) -> Result<(), Fault>
     requires { may_tell code words.now ≡ true }
-    ensures leads { Leads desk.old desk.new }
+    ensures serves { Serves desk.old desk.new }
     ensures front { OnOk result ((d : Front) → IsDesk d desk.old → IsDesk (at_socket at (closed code words.now) d) desk.new) }
 {
     events_leave_their_marks();
@@ -259,7 +259,7 @@ pub fn close(desk: &mut Desk, at: u32, code: u16, words: &[u8]) -> Result<(), Fa
 
 /// The first bytes of what was pending at a number were sent, as many as that.
 pub fn pass(desk: &mut Desk, at: u32, count: usize)
-    ensures leads { Leads desk.old desk.new }
+    ensures serves { Serves desk.old desk.new }
     ensures front { (d : Front) → IsDesk d desk.old → IsDesk (at_socket at (passing count) d) desk.new }
 {
     desk.sent(at, count);

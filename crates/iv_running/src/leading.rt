@@ -5,7 +5,7 @@ ghost use Rattle.iv_gate.specs.Arriving.{position};
 ghost use Rattle.iv_gate.specs.Events.{led, synced};
 ghost use Rattle.iv_desk.specs.Desks.{IsCalledOut, IsDesk};
 ghost use Rattle.iv_desk.specs.Front.{Front, by_event, offered};
-ghost use Rattle.iv_running.specs.Running.{Leads};
+ghost use Rattle.iv_running.specs.Running.{KeepsTo, Leads};
 
 use crate::calls::settle;
 use crate::fault::Fault;
@@ -28,7 +28,7 @@ pub fn lead(desk: &mut Desk)
 /// # Errors
 /// As of `settle`.
 pub fn settle_kept<J: Journal>(desk: &mut Desk, journal: &mut J, kept: u64) -> Result<bool, Fault>
-    ensures leads { Leads desk.old desk.new }
+    ensures keeps { KeepsTo kept desk.old desk.new }
     ensures answer { IfOk result (λ is. (d : Front) → IsDesk d desk.old → d.gate.dead ≡ false → is ≡ nat_le (position d.gate) kept) }
     ensures written { IfOk result (λ is. is ≡ true → (d : Front) → IsDesk d desk.old → d.gate.dead ≡ false
         → J.kept journal.new ≡ option_map (λ ls. ls ++ journal_of (drop d.gate.kept d.gate.entries)) (J.kept journal.old)) }

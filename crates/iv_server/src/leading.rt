@@ -1,9 +1,9 @@
 //! The parts of a round in which the log is led: what its keeper has yet to keep is neither written nor told, and no more is read meanwhile.
-ghost use Rattle.std.specs.Prelude.{◌≡◌, false, nat_le};
+ghost use Rattle.std.specs.Prelude.{◌≡◌, [], false, nat_le, true};
 ghost use Rattle.iv_gate.specs.Arriving.{position};
 ghost use Rattle.iv_desk.specs.Desks.{IsDesk};
 ghost use Rattle.iv_desk.specs.Front.{Front};
-ghost use Rattle.iv_running.specs.Running.{Leads};
+ghost use Rattle.iv_running.specs.Running.{KeepsTo, Serves};
 
 use crate::server::Server;
 use iv_desk::Desk;
@@ -27,11 +27,18 @@ impl Server {
         listener: &TcpListener,
         events: &Events,
     ) -> Result<(), Fault>
-        ensures { Leads desk.old desk.new }
+        ensures { Serves desk.old desk.new }
     {
         self.again = false;
         self.note_all(events)?;
         self.accept(rt, desk, poll, listener)
+    }
+
+    /// Who made what the journal is to keep next is told to it. Nothing that is made from then on is anybody's yet.
+    pub(crate) fn note_shares(&mut self, journal: &mut FileJournal)
+        ensures { self.new.shares.items ≡ [] }
+    {
+        journal.note(mem::replace(&mut self.shares, Vec::new(self.alloc)));
     }
 
     /// Has the journal keep what was decided, if the log has it all, up to a position; then clients are offered what they may be sent.
@@ -44,14 +51,15 @@ impl Server {
         journal: &mut FileJournal,
         kept: u64,
     ) -> Result<(), Fault>
-        ensures leads { Leads desk.old desk.new }
+        ensures keeps { KeepsTo kept desk.old desk.new }
         ensures waits { (d : Front) → IsDesk d desk.old → d.gate.dead ≡ false → nat_le (position d.gate) kept ≡ false
             → (desk.new ≡ desk.old) × (journal.new ≡ journal.old) }
+        ensures shares { (d : Front) → IsDesk d desk.old → d.gate.dead ≡ false → nat_le (position d.gate) kept ≡ true → self.new.shares.items ≡ [] }
     {
         if desk.position() > kept {
             return Ok(());
         }
-        journal.note(mem::replace(&mut self.shares, Vec::new(self.alloc)));
+        self.note_shares(journal);
         match settle_kept(desk, journal, kept) {
             Ok(_) => Ok(()),
             Err(fault) => Err(fault),
@@ -65,7 +73,7 @@ impl Server {
         desk: &mut Desk,
         journal: &FileJournal,
     ) -> Result<(), Fault>
-        ensures { Leads desk.old desk.new }
+        ensures { Serves desk.old desk.new }
     {
         self.read_all(rt, desk, journal)?;
         self.send_before(desk)
@@ -73,7 +81,7 @@ impl Server {
 
     /// Sends what may be sent, first to those who asked, once what they asked is kept.
     fn send_kept(&mut self, desk: &mut Desk) -> Result<(), Fault>
-        ensures { Leads desk.old desk.new }
+        ensures { Serves desk.old desk.new }
     {
         if desk.entered().is_empty() {
             return self.send_all(desk);
@@ -83,7 +91,7 @@ impl Server {
 
     /// Sends what may be sent, and lets go who is gone.
     pub fn send_on(&mut self, rt: &HostRuntime, desk: &mut Desk) -> Result<(), Fault>
-        ensures { Leads desk.old desk.new }
+        ensures { Serves desk.old desk.new }
     {
         self.send_kept(desk)?;
         self.drop_all(rt, desk)

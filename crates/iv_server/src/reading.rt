@@ -2,7 +2,7 @@
 ghost use Rattle.std.specs.Prelude.{◌≡◌, ◌++◌, OnOk, false};
 ghost use Rattle.iv_desk.specs.Front.{Front};
 ghost use Rattle.iv_desk.specs.Desks.{IsDesk};
-ghost use Rattle.iv_running.specs.Running.{Leads};
+ghost use Rattle.iv_running.specs.Running.{Serves};
 ghost use Rattle.iv_server.specs.Sharing.{IsShared, last_end, user_at, waiting_lines};
 
 use crate::server::{COMING, Kind, Server};
@@ -65,7 +65,7 @@ impl Server {
         journal: &FileJournal,
         at: u32,
     ) -> Result<(), Fault>
-        ensures leads { Leads desk.old desk.new }
+        ensures serves { Serves desk.old desk.new }
         ensures shut { self.old.open ≡ false → desk.new ≡ desk.old }
     {
         match read_head_at(&mut self.sockets, at)? {
@@ -83,7 +83,7 @@ impl Server {
         journal: &FileJournal,
         at: u32,
     ) -> Result<(), Fault>
-        ensures leads { Leads desk.old desk.new }
+        ensures serves { Serves desk.old desk.new }
         ensures shut { self.old.open ≡ false → desk.new ≡ desk.old }
     {
         let may_come = self.open;
@@ -137,7 +137,7 @@ impl Server {
 
     /// The desk has the connection of a number from now on, and hears what it has said so far.
     fn upgrade(&mut self, desk: &mut Desk, at: u32, head: &[u8]) -> Result<(), Fault>
-        ensures { Leads desk.old desk.new }
+        ensures { Serves desk.old desk.new }
     {
         if !accept(desk, at) {
             return Err(Fault::Desk);
@@ -191,11 +191,21 @@ impl Server {
         Ok(())
     }
 
-    /// What the desk says of bytes that it was given at a number. The entries that these made are of who holds its token.
-    fn heed(&mut self, desk: &Desk, at: u32, hearing: Hearing) -> Result<(), Fault> {
-        if let Some(socket) = self.socket(at) {
-            socket.unheard = hearing == Hearing::Held;
+    /// Whether what a number says is held from now on.
+    fn hold(&mut self, at: u32, is_held: bool)
+        ensures { self.new.shares ≡ self.old.shares }
+    {
+        if let Some(Some(socket)) = self.sockets.get_mut(at as usize) {
+            socket.unheard = is_held;
         }
+    }
+
+    /// What the desk says of bytes that it was given at a number. The entries that these made are of who holds its token.
+    fn heed(&mut self, desk: &Desk, at: u32, hearing: Hearing) -> Result<(), Fault>
+        ensures { OnOk result ((d : Front) → IsDesk d desk.now → d.gate.dead ≡ false
+            → IsShared (waiting_lines d) (user_at d at) self.old.shares.items self.new.shares.items) }
+    {
+        self.hold(at, hearing == Hearing::Held);
         self.share(desk, at)
     }
 
@@ -225,7 +235,7 @@ impl Server {
 
     /// Hears on at a number that was held. Whether it may be read.
     fn resume(&mut self, desk: &mut Desk, at: u32) -> Result<bool, Fault>
-        ensures { Leads desk.old desk.new }
+        ensures { Serves desk.old desk.new }
     {
         let Some(socket) = self.socket(at) else {
             return Ok(false);
@@ -242,7 +252,7 @@ impl Server {
 
     /// Reads once what a client says. Whether it may be read on.
     fn read_once(&mut self, desk: &mut Desk, at: u32) -> Result<bool, Fault>
-        ensures { Leads desk.old desk.new }
+        ensures { Serves desk.old desk.new }
     {
         let was_over = desk.is_over(at);
         let (got, hearing) = read_at(&mut self.sockets, &mut self.admission, desk, at)?;
@@ -283,7 +293,7 @@ impl Server {
 
     /// Reads what a client says, if it is heard.
     fn read_desk(&mut self, desk: &mut Desk, at: u32) -> Result<(), Fault>
-        ensures { Leads desk.old desk.new }
+        ensures { Serves desk.old desk.new }
     {
         self.asked.push(at)?;
         if !self.resume(desk, at)? {
@@ -312,7 +322,7 @@ impl Server {
 
     /// Who has presented a token that is known has no time limit, if there is space.
     fn come(&mut self, rt: &HostRuntime, desk: &mut Desk, at: u32) -> Result<(), Fault>
-        ensures { Leads desk.old desk.new }
+        ensures { Serves desk.old desk.new }
     {
         if self.kind(at) != Kind::Desk {
             return Ok(());
@@ -385,7 +395,7 @@ impl Server {
         journal: &FileJournal,
         at: u32,
     ) -> Result<(), Fault>
-        ensures { Leads desk.old desk.new }
+        ensures { Serves desk.old desk.new }
     {
         match self.kind(at) {
             Kind::Head => self.read_head(rt, desk, journal, at),
@@ -403,7 +413,7 @@ impl Server {
         journal: &FileJournal,
         at: u32,
     ) -> Result<(), Fault>
-        ensures { Leads desk.old desk.new }
+        ensures { Serves desk.old desk.new }
     {
         if let Some(socket) = self.socket(at) {
             socket.listed = false;
@@ -445,7 +455,7 @@ impl Server {
         desk: &mut Desk,
         journal: &FileJournal,
     ) -> Result<(), Fault>
-        ensures { Leads desk.old desk.new }
+        ensures { Serves desk.old desk.new }
     {
         let listed = mem::replace(&mut self.to_read, Vec::new(self.alloc));
         let mut late = Vec::new(self.alloc);

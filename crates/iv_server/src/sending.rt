@@ -1,6 +1,6 @@
 //! What a round sends: first to those who asked in it, then to the others, to so many at most, and at most so often if they are many; and whom
 //! it lets go.
-ghost use Rattle.iv_running.specs.Running.{Leads};
+ghost use Rattle.iv_running.specs.Running.{Serves};
 
 use crate::server::{Kind, Server};
 use crate::socket::{Stage, send_at};
@@ -22,7 +22,7 @@ const ENDING: u64 = 2_000;
 impl Server {
     /// Nothing is pending at a number any more.
     fn is_sent(&mut self, desk: &mut Desk, at: u32) -> Result<(), Fault>
-        ensures { Leads desk.old desk.new }
+        ensures { Serves desk.old desk.new }
     {
         let Some(socket) = self.socket(at) else {
             return Ok(());
@@ -39,7 +39,7 @@ impl Server {
 
     /// The connection of a number is over, and all is sent.
     fn end(&mut self, desk: &mut Desk, at: u32) -> Result<(), Fault>
-        ensures { Leads desk.old desk.new }
+        ensures { Serves desk.old desk.new }
     {
         let until = self.now.saturating_add(ENDING);
         if let Some(socket) = self.socket(at) {
@@ -60,7 +60,7 @@ impl Server {
 
     /// The client of a number goes, if one is there, and the desk has the connection no more.
     fn leave_desk(&mut self, desk: &mut Desk, at: u32) -> Result<(), Fault>
-        ensures { Leads desk.old desk.new }
+        ensures { Serves desk.old desk.new }
     {
         if let Some(digest) = desk.digest_of(at) {
             self.admission.go(digest)?;
@@ -102,7 +102,7 @@ impl Server {
 
     /// Sends to a client what is pending, as far as the system takes it.
     fn send_desk(&mut self, desk: &mut Desk, at: u32) -> Result<(), Fault>
-        ensures { Leads desk.old desk.new }
+        ensures { Serves desk.old desk.new }
     {
         'writes: for _ in 0..WRITES {
             if desk.pending(at).is_empty() {
@@ -122,7 +122,7 @@ impl Server {
 
     /// Sends to a number what is pending there.
     fn send(&mut self, desk: &mut Desk, at: u32) -> Result<(), Fault>
-        ensures { Leads desk.old desk.new }
+        ensures { Serves desk.old desk.new }
     {
         match self.kind(at) {
             Kind::Desk => self.send_desk(desk, at),
@@ -147,7 +147,7 @@ impl Server {
 
     /// Sends to a number, if it may be sent something now. Whether it may.
     fn send_owed(&mut self, desk: &mut Desk, at: u32) -> Result<bool, Fault>
-        ensures { Leads desk.old desk.new }
+        ensures { Serves desk.old desk.new }
     {
         if !self.is_owed(desk, at) {
             return Ok(false);
@@ -158,7 +158,7 @@ impl Server {
 
     /// Sends to those who asked in this round what they were offered before. Who has taken that is offered the reply in this round, too.
     pub(crate) fn send_before(&mut self, desk: &mut Desk) -> Result<(), Fault>
-        ensures { Leads desk.old desk.new }
+        ensures { Serves desk.old desk.new }
     {
         let asked = mem::replace(&mut self.asked, Vec::new(self.alloc));
         for at in asked.iter() {
@@ -170,7 +170,7 @@ impl Server {
 
     /// Sends to those who asked in this round.
     fn send_asked(&mut self, desk: &mut Desk) -> Result<(), Fault>
-        ensures { Leads desk.old desk.new }
+        ensures { Serves desk.old desk.new }
     {
         let first = mem::replace(&mut self.asked, Vec::new(self.alloc));
         for at in first.iter() {
@@ -182,7 +182,7 @@ impl Server {
     /// Sends to those who may be sent something now, from the number on at which the round before has stopped, until so many were sent to.
     /// Whether anybody was.
     fn sweep(&mut self, desk: &mut Desk) -> Result<bool, Fault>
-        ensures { Leads desk.old desk.new }
+        ensures { Serves desk.old desk.new }
     {
         let mut count: u32 = 0;
         for at in self.next..self.most {
@@ -201,7 +201,7 @@ impl Server {
     /// Sends first to those who asked in this round, then to a part of the others, if it is time for these; the next round goes on at once
     /// with those who are left. What they are told before is offered to them once they have taken the last message, so it is one message.
     pub(crate) fn send_all(&mut self, desk: &mut Desk) -> Result<(), Fault>
-        ensures { Leads desk.old desk.new }
+        ensures { Serves desk.old desk.new }
     {
         self.send_asked(desk)?;
         self.send_others(desk)
@@ -209,7 +209,7 @@ impl Server {
 
     /// Sends to a part of those who asked nothing in this round, if it is time for them.
     pub(crate) fn send_others(&mut self, desk: &mut Desk) -> Result<(), Fault>
-        ensures { Leads desk.old desk.new }
+        ensures { Serves desk.old desk.new }
     {
         let was_left = self.next > 0;
         if !was_left {
@@ -230,7 +230,7 @@ impl Server {
 
     /// Lets go who is gone.
     pub(crate) fn drop_all(&mut self, rt: &HostRuntime, desk: &mut Desk) -> Result<(), Fault>
-        ensures { Leads desk.old desk.new }
+        ensures { Serves desk.old desk.new }
     {
         let gone = mem::replace(&mut self.gone, Vec::new(self.alloc));
         for (at, why) in gone.iter() {
@@ -268,7 +268,7 @@ impl Server {
 
     /// Its client goes, if the desk has the connection of the number.
     fn leave_at(&mut self, desk: &mut Desk, at: u32) -> Result<(), Fault>
-        ensures { Leads desk.old desk.new }
+        ensures { Serves desk.old desk.new }
     {
         if self.kind(at) != Kind::Desk {
             return Ok(());
@@ -296,7 +296,7 @@ impl Server {
         at: u32,
         why: Why,
     ) -> Result<(), Fault>
-        ensures { Leads desk.old desk.new }
+        ensures { Serves desk.old desk.new }
     {
         let kind = self.kind(at);
         if kind == Kind::Nobody {

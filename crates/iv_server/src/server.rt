@@ -2,7 +2,7 @@
 ghost use Rattle.std.specs.Prelude.{◌≡◌, IfErr, OnOk, [], false, string_bytes, true};
 ghost use Rattle.iv_desk.specs.Front.{Front};
 ghost use Rattle.iv_desk.specs.Desks.{IsDesk};
-ghost use Rattle.iv_running.specs.Running.{Leads};
+ghost use Rattle.iv_running.specs.Running.{Leads, Serves};
 ghost use Rattle.iv_admission.specs.Admitting.{IsHanded, tokens_of};
 ghost use Rattle.iv_server.specs.Shutting.{closed_at, closed_below};
 ghost use Rattle.iv_server.specs.Sharing.{HasShare, waiting_lines};
@@ -19,7 +19,6 @@ use mio::net::{TcpListener, TcpStream};
 use mio::{Events, Interest, Poll, Token};
 use std::alloc::{AllocError, Global};
 use std::io::ErrorKind;
-use std::mem;
 use std::net::SocketAddr;
 
 /// The poll's number of the listener.
@@ -373,7 +372,7 @@ impl Server {
 
     /// If no number is free, the connection that has not come in for the longest goes.
     fn make_room(&mut self, rt: &HostRuntime, desk: &mut Desk) -> Result<(), Fault>
-        ensures { Leads desk.old desk.new }
+        ensures { Serves desk.old desk.new }
     {
         if !self.free.is_empty() {
             return Ok(());
@@ -392,7 +391,7 @@ impl Server {
         poll: &Poll,
         listener: &TcpListener,
     ) -> Result<(), Fault>
-        ensures { Leads desk.old desk.new }
+        ensures { Serves desk.old desk.new }
     {
         if !self.accepting {
             return Ok(());
@@ -457,7 +456,7 @@ impl Server {
         desk: &mut Desk,
         file: &mut TokenFile,
     ) -> Result<(), Fault>
-        ensures leads { Leads desk.old desk.new }
+        ensures serves { Serves desk.old desk.new }
         ensures handed { OnOk result (IsHanded self.old.admission.known (tokens_of self.new.admission) desk.old desk.new) }
     {
         self.admission.look(rt, desk, file)
@@ -472,7 +471,7 @@ impl Server {
 
     /// The connection of a number is closed, if the desk has it.
     fn close_at(&mut self, desk: &mut Desk, at: u32) -> Result<(), Fault>
-        ensures leads { Leads desk.old desk.new }
+        ensures serves { Serves desk.old desk.new }
         ensures closed { OnOk result ((d : Front) → IsDesk d desk.old → IsDesk (closed_at at d) desk.new) }
         ensures same { self.new.open ≡ self.old.open }
     {
@@ -488,7 +487,7 @@ impl Server {
     /// # Errors
     /// `Memory` if a growth of memory was refused.
     pub fn shut(&mut self, desk: &mut Desk) -> Result<(), Fault>
-        ensures leads { Leads desk.old desk.new }
+        ensures serves { Serves desk.old desk.new }
         ensures shut { self.new.open ≡ false }
         ensures all { self.old.open ≡ true → OnOk result ((d : Front) → IsDesk d desk.old → IsDesk (closed_below self.old.most d) desk.new) }
         ensures none { self.old.open ≡ false → desk.new ≡ desk.old }
@@ -545,12 +544,9 @@ impl Server {
     ) -> Result<(), Fault>
         ensures { Leads desk.old desk.new }
     {
-        self.again = false;
-        self.note_all(events)?;
-        self.accept(rt, desk, poll, listener)?;
-        self.read_all(rt, desk, journal)?;
-        self.send_before(desk)?;
-        journal.note(mem::replace(&mut self.shares, Vec::new(self.alloc)));
+        self.take_in(rt, desk, poll, listener, events)?;
+        self.read_on(rt, desk, journal)?;
+        self.note_shares(journal);
         settle(desk, journal)?;
         self.send_all(desk)?;
         self.drop_all(rt, desk)

@@ -1,5 +1,5 @@
 //! `Socket`: a connection at a number, how far it is, and the two functions by which its bytes come to the desk and go from it.
-ghost use Rattle.iv_running.specs.Running.{Leads};
+ghost use Rattle.iv_running.specs.Running.{Serves};
 
 use iv_admission::{Admission, Found, Scout};
 use iv_desk::{Desk, Hearing};
@@ -232,7 +232,7 @@ pub(crate) fn listen_at(
     at: u32,
     bytes: &[u8],
 ) -> Result<(), Fault>
-    ensures { Leads desk.old desk.new }
+    ensures { Serves desk.old desk.new }
 {
     let Some(Some(socket)) = sockets.get_mut(at as usize) else {
         return Ok(());
@@ -252,7 +252,7 @@ pub(crate) fn read_at(
     desk: &mut Desk,
     at: u32,
 ) -> Result<(Got, Hearing), Fault>
-    ensures { Leads desk.old desk.new }
+    ensures { Serves desk.old desk.new }
 {
     let Some(Some(socket)) = sockets.get_mut(at as usize) else {
         return Ok((Got::Nothing, Hearing::All));
@@ -271,7 +271,7 @@ pub(crate) fn read_at(
 
 /// Sends once at a number what is pending there, and nothing else. How many bytes the system took; none if the connection is broken.
 pub(crate) fn send_at(sockets: &mut [Option<Socket>], desk: &mut Desk, at: u32) -> Option<usize>
-    ensures { Leads desk.old desk.new }
+    ensures { Serves desk.old desk.new }
 {
     let Some(Some(socket)) = sockets.get_mut(at as usize) else {
         return None;

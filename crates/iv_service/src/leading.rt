@@ -1,5 +1,11 @@
 //! `serve_round`: a round of the sockets, also where the log is led.
-ghost use Rattle.iv_running.specs.Running.{Leads};
+ghost use Rattle.std.specs.Prelude.{◌≡◌, ◌<◌, IfSome, false, is_some, true};
+ghost use Rattle.iv_desk.specs.Desks.{IsDesk};
+ghost use Rattle.iv_desk.specs.Front.{Front};
+ghost use Rattle.iv_running.specs.Running.{KeepsTo, Leads};
+ghost use Rattle.iv_server.specs.Sharing.{waiting_lines};
+ghost use Rattle.iv_following.specs.Rounds.{has_ended, kept_of};
+ghost use Rattle.iv_service.specs.Serving.{is_over};
 
 use iv_desk::Desk;
 use iv_following::Following;
@@ -17,7 +23,9 @@ fn decide(
     journal: &mut FileJournal,
     following: &mut Following,
 ) -> Result<(), Fault>
-    ensures { Leads desk.old desk.new }
+    ensures keeps { KeepsTo (kept_of following.old) desk.old desk.new }
+    ensures ended { has_ended following.old ≡ true → has_ended following.new ≡ true }
+    ensures waits { (d : Front) → IsDesk d desk.old → d.gate.dead ≡ false → 0 < waiting_lines d → (desk.new ≡ desk.old) × (journal.new ≡ journal.old) }
 {
     if !desk.entered().is_empty() {
         return Ok(());
@@ -39,7 +47,8 @@ fn lead_round(
     listener: &TcpListener,
     events: &Events,
 ) -> Result<(), Fault>
-    ensures { Leads desk.old desk.new }
+    ensures keeps { KeepsTo (kept_of following.old) desk.old desk.new }
+    ensures ended { has_ended following.old ≡ true → has_ended following.new ≡ true }
 {
     server.take_in(rt, desk, poll, listener, events)?;
     server.keep(desk, journal, following.kept())?;
@@ -61,7 +70,9 @@ pub(crate) fn serve_round(
     listener: &TcpListener,
     events: &Events,
 ) -> Result<(), Fault>
-    ensures { Leads desk.old desk.new }
+    ensures leads { Leads desk.old desk.new }
+    ensures keeps { IfSome following.old (λ f. is_some f.means.lead ≡ true → KeepsTo (kept_of f) desk.old desk.new) }
+    ensures over { is_over following.old ≡ true → is_over following.new ≡ true }
 {
     if let Some(following) = following {
         if following.leads() {

@@ -1,6 +1,8 @@
 //! `work`: opens all that the settings name, brings the desk to where the journal leads, and serves.
+ghost use Rattle.std.specs.Prelude.{◌≡◌, IfOk, OnOk, true};
 ghost use Rattle.iv_host.specs.Settings.{AreValid};
 ghost use Rattle.iv_running.specs.Running.{Leads};
+ghost use Rattle.iv_service.specs.Serving.{is_over};
 
 use crate::leading::serve_round;
 use iv_admission::{Admission, open_tokens};
@@ -115,7 +117,8 @@ fn hear_keeper(
     poll: &Poll,
     events: &Events,
 ) -> Result<bool, Fault>
-    ensures { Leads desk.old desk.new }
+    ensures leads { Leads desk.old desk.new }
+    ensures ends { IfOk result (λ ends. ends ≡ is_over following.new) }
 {
     match following {
         None => Ok(false),
@@ -124,7 +127,9 @@ fn hear_keeper(
 }
 
 /// Tells the keeper of a log up to where that is on disk, if one is followed.
-fn tell_keeper(desk: &Desk, following: &mut Option<Following>, poll: &Poll) -> Result<(), Fault> {
+fn tell_keeper(desk: &Desk, following: &mut Option<Following>, poll: &Poll) -> Result<(), Fault>
+    ensures { is_over following.old ≡ true → is_over following.new ≡ true }
+{
     match following {
         None => Ok(()),
         Some(following) => following.tell(desk, poll),
@@ -142,7 +147,8 @@ fn serve(
     poll: &mut Poll,
     listener: &TcpListener,
 ) -> Result<(), Fault>
-    ensures { Leads desk.old desk.new }
+    ensures leads { Leads desk.old desk.new }
+    ensures over { OnOk result (is_over following.new ≡ true) }
 {
     let Ok(start) = Instant::now(rt) else {
         return Err(Fault::System);
@@ -170,7 +176,7 @@ fn serve(
             return Ok(());
         }
     }
-    Ok(())
+    Err(Fault::System)
 }
 
 /// Says that the address cannot be listened on.
@@ -214,7 +220,8 @@ fn open(
     following: &mut Option<Following>,
     poll: &mut Poll,
 ) -> Result<(), u8>
-    ensures { Leads desk.old desk.new }
+    ensures leads { Leads desk.old desk.new }
+    ensures over { OnOk result (is_over following.new ≡ true) }
 {
     let address = SocketAddr::from((settings.host, settings.port));
     if meet(desk, following).is_err() {

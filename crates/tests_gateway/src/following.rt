@@ -70,6 +70,7 @@ fn put_refusal(place: usize, refusal: Refusal, out: &mut Out) {
 /// Adds why a step was not taken.
 fn put_fault(fault: StepFault, out: &mut Out) {
     match fault {
+        StepFault::Led => out.put("led here\n"),
         StepFault::OtherLog => out.put("another log\n"),
         StepFault::Gap(position) => out.put_place("gap at ", position as usize),
         StepFault::NotAccepted(place, refusal) => put_refusal(place, refusal, out),

@@ -3,9 +3,11 @@ ghost use Rattle.std.specs.Prelude.{◌≡◌, ◌∷◌, [], None, Some, codes,
 ghost use Rattle.iv_machine.specs.Act.{not_administrator};
 ghost use Rattle.iv_machine.specs.declared.Cause.TheVariants as cause;
 ghost use Rattle.iv_message.specs.Told.{denied, granted, over, settled, undecided};
-ghost use Rattle.iv_gate.specs.Arriving.{fault_of, gap, not_accepted, other_log, position, takes};
+ghost use Rattle.iv_gate.specs.Arriving.{decided_here, fault_of, gap, not_accepted, other_log, position, takes};
 ghost use Rattle.iv_gate.specs.Gate.{decides};
-ghost use Rattle.iv_gate.specs.Worked.{ahead_ask, asks, both_rows, by_ann, done_and_told, foreign_ask, foreign_step, given_again, is_done, later, leads, led_on, led_twice, notes, put, puts, reads_notes, reads_of, steps_in, sums_made, taken, taken_and_given, taken_before, told_more, too_large, total, without_right, writes, wrote};
+ghost use Rattle.iv_gate.specs.Worked.{ahead_ask, asks, both_rows, by_ann, done_and_told, foreign_ask, foreign_step, given_again, is_done, later};
+ghost use Rattle.iv_gate.specs.Worked.{leads, led_on, led_twice, notes, put, puts, reads_notes, reads_of, steps_in, sums_made, taken};
+ghost use Rattle.iv_gate.specs.Worked.{taken_and_given, taken_before, told_more, too_large, total, without_right, writes, wrote};
 
 /// By a step that takes a right, brings rows and gives it again, who reads is told the rows, once, and no end; where the right is not given
 /// again, the end, and no row. If a later step gives it, that is told, though ann had the right to write.
@@ -48,8 +50,8 @@ pub fn names_are_decided_where_the_log_is()
     ensures ahead_here { told_more writes (puts writes ahead_ask 7) ≡ undecided None 104 ∷ [] }
 {}
 
-/// Who leads a log decides what has a name, also a refusal: each is a step, one position further. What has no name is not decided, and a name
-/// of another epoch, or ahead, is told so.
+/// Who leads a log decides what has a name, also a refusal: each is a step, one position further. What has no name is not decided, no step is
+/// taken that others bring, and a name of another epoch, or ahead, is told so.
 pub fn leaders_decide_by_steps()
     ensures done { told_more leads led_on ≡ done_and_told }
     ensures steps { steps_in led_twice ≡ (Some 1, 4) ∷ (Some 2, 1) ∷ (Some 3, 0) ∷ [] }
@@ -57,4 +59,5 @@ pub fn leaders_decide_by_steps()
     ensures unnamed { told_more leads (decides leads 0 None (by_ann (put 7)) None) ≡ denied None 100 ∷ [] }
     ensures foreign { told_more leads (puts leads foreign_ask 7) ≡ undecided None 103 ∷ [] }
     ensures ahead { told_more leads (puts leads ahead_ask 7) ≡ undecided None 104 ∷ [] }
+    ensures brought { fault_of leads taken ≡ Some decided_here }
 {}

@@ -2,7 +2,7 @@
 ghost use Rattle.std.specs.Prelude.{ℕ, List};
 ghost use Rattle.iv_gate.specs.Events.{Event, IsWell, message};
 ghost use Rattle.iv_gate.specs.Gate.{Gate};
-ghost use Rattle.iv_gate.specs.Implied.{AddsNext, PositionsLast, PositionsRise};
+ghost use Rattle.iv_gate.specs.Implied.{AddsNext, DecidesNext, PositionsLast, PositionsRise};
 ghost use Rattle.iv_gate.specs.Laws.{AreShown, CrashesAreSafe, LeadsBack, SentIsKept};
 ghost use Rattle.iv_gate.specs.Replies.{added_by};
 ghost use Rattle.iv_gate.specs.Restoring.{IsDecided};
@@ -59,9 +59,11 @@ pub fn positions_rise()
     told_texts_are_lines();
 }
 
-/// A client's message adds nothing, or one entry: if the log is led, its next step, one position further.
+/// A client's message adds nothing, or one entry: if the log is led, its next step, one position further; if others lead it, nothing. From where
+/// a gateway leads and has all on disk, whatever happens, what is not on disk yet is the log's next steps.
 pub fn messages_are_next_steps()
-    ensures { (g : Gate) (m : ℕ) (text : List ℕ) → AddsNext g (added_by g (message m text)) }
+    ensures one { (g : Gate) (m : ℕ) (text : List ℕ) → AddsNext g (added_by g (message m text)) }
+    ensures led { (g : Gate) (es : List Event) → DecidesNext g es }
 {}
 
 /// Each journal either restores, to one gateway, or is damaged, at one place.

@@ -12,7 +12,7 @@ pub returns-clause-hears : goal.returns-clause-hears
 returns-clause-hears c = GoesOn-IsHeardBy
 
 pub returns-clause-offers : goal.returns-clause-offers
-returns-clause-offers c ms d a = GoesOn-offered c.events_leave_their_marks.ensures.marks d ms d stays a
+returns-clause-offers c may ms d a = GoesOn-offered may c.events_leave_their_marks.ensures.marks d ms d stays a
 
 pub returns-clause-dismisses : goal.returns-clause-dismisses
-returns-clause-dismisses c ms d a = GoesOn-dismissed d ms d stays a
+returns-clause-dismisses c may ms d a = GoesOn-dismissed may d ms d stays a

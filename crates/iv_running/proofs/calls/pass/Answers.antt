@@ -1,5 +1,5 @@
-use Rattle.iv_running.proofs.RunsByCalls.{Leads-passed}
+use Rattle.iv_running.proofs.RunsByCalls.{Serves-passed}
 use Rattle.iv_running.proofs.calls.pass.Goals as goal
 
-pub returns-clause-leads : goal.returns-clause-leads
-returns-clause-leads c = Leads-passed c.args.at c.args.count c.args.desk.now _ c.sent.ensures
+pub returns-clause-serves : goal.returns-clause-serves
+returns-clause-serves c = Serves-passed c.args.at c.args.count c.args.desk.now _ c.sent.ensures

@@ -1,10 +1,9 @@
-use Rattle.std.proofs.Common.{ℕ, List, [], ◌∷◌, ◌++◌, append_assoc, ap, ◌∙◌}
+use Rattle.std.proofs.Common.{ℕ, List, [], ◌∷◌, ◌++◌, ap, ◌∙◌}
 use Rattle.iv_door.specs.Answers as answer
-use Rattle.iv_running.specs.Logs.{recalled_in}
 use Rattle.iv_following.proofs.telling.Told.recall.Goals as goal
 
-pub returns : goal.returns
-returns c =
+pub returns-in-Ok-push_recall-clause-recalled : goal.returns-in-Ok-push_recall-clause-recalled
+returns-in-Ok-push_recall-clause-recalled c =
     let w = c.in-Ok-recalled_in.ensures in
     let was = c.args.self.now.out.items in
     let end = answer.recalled c.args.position ++ 10 ∷ [] in
@@ -12,6 +11,5 @@ returns c =
       bytes = c.deref.result.now;
       given = w.0;
       lines = w.1;
-      told = c.in_ok-end_recall.ensures ∙ (ap (λ (z : List ℕ). z ++ end)
-          (c.in_ok-extend_from_slice.ensures.items ∙ ap (λ (z : List ℕ). was ++ z) (c.deref-2.ensures.value ∙ w.2)) ∙ append_assoc was (recalled_in w.0) end);
+      told = c.in-Ok-push_recall.ensures ∙ ap (λ (z : List ℕ). was ++ (z ++ end)) (c.deref-2.ensures.value ∙ w.2);
     }

@@ -26,3 +26,6 @@ returns-clause-foreign c = refl
 pub returns-clause-ahead : goal.returns-clause-ahead
 unfolding is_utf8 chars lib.Utf8.encode
 returns-clause-ahead c = refl
+
+pub returns-clause-brought : goal.returns-clause-brought
+returns-clause-brought c = refl

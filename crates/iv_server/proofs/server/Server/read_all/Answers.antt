@@ -5,6 +5,6 @@ use Rattle.iv_server.proofs.server.Server.read_all.Goals as goal
 
 pub loop-at-preserved : goal.loop-at-preserved
 loop-at-preserved c = elim c.if-may_read.branch [
-  | then-may_read+in_ok-read w ↦ λ d h. subst (HasCome d) (sym w.desk-is) (w.in_ok-read.ensures d (c.loop-at.invariant d h))
-  | else-may_read+in_ok-push w ↦ λ d h. subst (HasCome d) (sym w.desk-is) (c.loop-at.invariant d h)
+  | then-may_read+in_ok-read w ↦ λ may d h. subst (HasCome may d) (sym w.desk-is) (w.in_ok-read.ensures may d (c.loop-at.invariant may d h))
+  | else-may_read+in_ok-push w ↦ λ may d h. subst (HasCome may d) (sym w.desk-is) (c.loop-at.invariant may d h)
 ]

@@ -1,5 +1,5 @@
-use Rattle.iv_running.specs.Running.{Leads}
+use Rattle.iv_running.specs.Running.{Serves}
 use Rattle.iv_server.proofs.server.Server.send_asked.Given as goal
 
 abbrev pub invariant-loop-at : goal.invariant-loop-at
-invariant-loop-at l = Leads l.initial.desk l.desk
+invariant-loop-at l = Serves l.initial.desk l.desk
