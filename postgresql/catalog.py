@@ -6,7 +6,7 @@ twentieth. Both are of the relations whose oids are given, and take no lock on t
 Texts of policies and views are read beside it, since PostgreSQL prints them by the catalogs of that moment, and with a lock on
 their table: `read` takes the mark before and after, and reads anew if it is another one.
 
-PostgreSQL 15 is what this was tried on. What 16 and 17 have otherwise stands in FROM_16 and COLLATION.
+It was tried on PostgreSQL 15 and 17. What 16 and 17 have otherwise stands in FROM_16 and COLLATION.
 """
 import dataclasses
 from typing import Any

@@ -12,7 +12,7 @@ from typing import NamedTuple
 
 import psycopg2
 
-from catalog import MARK, TRIES, Catalog, Connection, Unsettled, asked, printed_as, within
+from catalog import MARK, TRIES, Catalog, Connection, Unsettled, asked, connect, printed_as, within
 from pgoutput import lsn_of
 from stream import OWN, Lost, Place, Stream, Transaction
 
@@ -46,7 +46,10 @@ class Cut(NamedTuple):
 
 def cut(connection: Connection, oids: list[int], publication: str) -> Cut:
     """Of the transaction's snapshot, or of a new one if none is open."""
-    snapshot, place, mark = asked(connection, CUT, {"oids": oids, "publication": publication})[0]
+    return cut_of(*asked(connection, CUT, {"oids": oids, "publication": publication})[0])
+
+
+def cut_of(snapshot: str, place: str, mark: str) -> Cut:
     _, most, running = snapshot.split(":")
     return Cut(int(most), frozenset(int(it) for it in running.split(",") if it), lsn_of(place), mark)
 
@@ -77,8 +80,10 @@ class Steps:
         self.waiting: deque[Transaction] = deque()
         self.names = ""  # by which the texts of policies and views are printed
         self.texts: dict[str, str] = {}  # that are known, so that none waits for somebody's lock
-        self.pusher = psycopg2.connect(dsn)
-        self.pusher.autocommit = True
+        self.quick = connect(dsn)  # each of its statements is a transaction: to plan CUT takes longer than to answer it
+        self.quick.set_session(isolation_level="READ COMMITTED", readonly=False, autocommit=True)
+        with self.quick.cursor() as cursor:
+            cursor.execute(f"prepare cut as {CUT}", {"oids": oids, "publication": publication})
 
     def next(self, seconds: float) -> Step | None:
         """The next step: none if nothing has changed, or what has cannot be told from what is not seen yet. Waits so long for something
@@ -157,6 +162,8 @@ class Steps:
     def ask(self, known: str = "") -> tuple[Cut, Catalog | None]:
         """A cut, with its catalog if the mark is another one."""
         try:
+            if known and (found := cut_of(*asked(self.quick, "execute cut")[0])).mark == known:
+                return found, None
             for _ in range(TRIES):
                 self.connection.rollback()
                 found = cut(self.connection, self.oids, self.publication)
@@ -191,7 +198,7 @@ class Steps:
 
     def push(self) -> None:
         """A transaction that says nothing, and comes as others do."""
-        with self.pusher.cursor() as cursor:
+        with self.quick.cursor() as cursor:
             cursor.execute("select pg_logical_emit_message(true, %s, '')", [OWN])
 
     def confirm(self, place: Place) -> None:
@@ -200,4 +207,4 @@ class Steps:
             self.stream.confirm(place.commit)
 
     def close(self) -> None:
-        self.pusher.close()
+        self.quick.close()

@@ -15,12 +15,12 @@ import psycopg2.errors
 
 from beginning import NotReady, Progress
 from catalog import Unsettled
-from door import Gateway, line
+from door import Gateway
 from figures import Figures
 from following import Anew, Following
 from pgoutput import Unreadable, lsn_text
 from prepare import printable
-from rows import Request
+from rows import Request, Write, line
 from settings import Settings
 from stream import Lost, Place
 
@@ -28,6 +28,7 @@ WAIT = 0.1  # seconds between two cuts if nothing comes
 AHEAD = 4  # steps that are said before the first of them is on the gateway's disk
 AGAIN = 1.0  # seconds between two looks for a PostgreSQL that is away
 WORD = 5.0  # seconds between two words of progress
+ADMIN = '"as":"admin"'  # makes what is told
 LINES, BYTES = 500_000, 128_000_000  # of a step: a gateway takes twice as many
 
 
@@ -73,7 +74,7 @@ class Follow:
         self.settings, self.gateway = settings, gateway
         self.following: Following | None = None
         self.waiting: deque[Said] = deque()
-        self.certain = 0  # all rows of commits before it are on the gateway's disk
+        self.certain = 0  # all rows of commits before it are on the gateway's disk, or in the first copy
         self.is_away = False
         self.left = 0  # bytes of the log that are not there
         self.level = self.told = time.monotonic()  # when the gateway had all that was known of, and when it was said that it has not
@@ -123,6 +124,7 @@ class Follow:
         except (Anew, Lost, Unreadable) as why:
             self.anew(str(why))
             return
+        self.certain = self.following.begun.steps.certain
         self.door.go_on(self.held.log, self.held.epoch)
         self.left_out = dict(self.following.state.left_out())
         log(f"goes on behind step {self.number}")
@@ -135,6 +137,7 @@ class Follow:
         except Lost as why:  # no further beginning mends it
             raise NotReady(str(why)) from None
         self.waiting.clear()
+        self.certain = self.following.begun.steps.certain
         self.is_away = False
         self.door.begin(self.following.begun.log, secrets.token_hex(16))
         self.first(self.following)
@@ -150,7 +153,7 @@ class Follow:
         """The beginning, in as many steps as it needs: nobody is let in before the last, which alone says where it is from."""
         lines, size = list[bytes](), 0
         for it in following.first():
-            lines.append(line({"as": "admin"} | it))
+            lines.append(line(ADMIN, it).encode())
             size += len(lines[-1])
             if len(lines) == LINES or size > BYTES:
                 self.tell(lines)
@@ -170,9 +173,9 @@ class Follow:
             self.serve()
         self.late(following)
 
-    def changes(self, following: Following, found: list[Request]) -> None:
+    def changes(self, following: Following, found: list[Request | Write]) -> None:
         """A step of these, if there are any. Raises Anew."""
-        lines = [line({"as": "admin"} | it) for it in found]
+        lines = [line(ADMIN, it).encode() for it in found]
         if len(lines) > LINES or sum(map(len, lines)) > BYTES:
             raise Anew(f"a transaction of {len(lines):,} requests is more than a step may have")
         if lines:

@@ -15,7 +15,7 @@ from mirror import Table
 from relations import Made
 from resuming import resume
 from rights import ROLES
-from rows import Request, Row
+from rows import Request, Row, Write
 from settings import Settings
 from source import FORM, NAME, Print, Source, changes, read, sourced
 from state import State, said
@@ -70,14 +70,14 @@ class Following:
             raise Anew(why)
         return self
 
-    def first(self) -> Iterator[Request]:
+    def first(self) -> Iterator[Request | Write]:
         """Those that bring an empty viewd to the beginning, at last where that is. They are read from the mirror: all of them before the first step."""
         for part in ((FORM,), self.state.requests(), rows.writes(changes(None, self.source))):
             for it in part:
                 self.told.add(it)
                 yield it
 
-    def next(self, seconds: float) -> list[Request]:
+    def next(self, seconds: float) -> list[Request | Write]:
         """Those of the next step; none if nothing has changed. Waits so long for something to come. Raises Anew, Lost, Unreadable,
         Wrong, Unsayable, Unsettled, psycopg2.Error."""
         step = self.begun.steps.next(seconds)
@@ -95,7 +95,7 @@ class Following:
             self.state = said(step.catalog, self.begun.names, self.settings, self.held, follows=True)
             source = sourced(self.settings, place, self.state)
             self.check(self.state, True, rewritten(self.source.prints, source.prints, self.state, step.transactions))
-        writes = list[Request]()
+        writes = list[Write]()
         for one in rows.writes([*entries, *changes(self.source, source)]):
             writes.append(one)
             steps.late()
@@ -107,7 +107,7 @@ class Following:
         steps.done(step)
         return self.tells([*taken, *writes, *given])
 
-    def less(self) -> list[Request]:
+    def less(self) -> list[Request | Write]:
         """While rows are late: what takes rights since the last cut; mostly nothing. Raises Anew, Wrong, Unsayable."""
         catalog = self.begun.steps.look()
         if catalog is None:
@@ -126,7 +126,7 @@ class Following:
         if len(roles := self.told.roles | set(after.rights.roles)) > ROLES + 1:
             raise Anew(f"{len(roles) - 1} roles, with those that are gone: viewd can have {ROLES}")
 
-    def tells(self, requests: list[Request]) -> list[Request]:
+    def tells(self, requests: list[Request | Write]) -> list[Request | Write]:
         for one in requests:
             self.told.add(one)
         return requests

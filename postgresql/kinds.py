@@ -4,6 +4,7 @@ Equality of the canonical forms is equality in PostgreSQL, for every kind here. 
 texts it is a matter of their collation. A canonical form is what PostgreSQL prints with DateStyle ISO and TimeZone UTC; a
 numeric is without the zeros at its end, since 1.0 = 1.00.
 """
+import json
 import re
 from collections.abc import Callable
 from decimal import Decimal, InvalidOperation
@@ -19,10 +20,14 @@ with""".split())
 NAME = re.compile("[a-z_][a-z0-9_]{0,62}")
 LEAST, MOST = -(1 << 63), (1 << 63) - 1
 BYTEWISE = ("C", "POSIX", "ucs_basic")  # collations that order texts by their bytes
-EMPTY: dict[str, int | str | bool] = {"int": 0, "text": "", "flag": False}  # stands where a value is NULL
+EMPTY = {"int": "0", "text": '""', "flag": "false"}  # in JSON: stands where a value is NULL
+in_json = json.JSONEncoder(ensure_ascii=False, separators=(",", ":")).encode
+SHORT = TEXT // 4  # characters of a text, whose bytes are never too many
 YEARS = "of the years 1 to 9999"
 DAY = "[0-9]{4}-[0-9]{2}-[0-9]{2}"
-TIME = "[0-9]{2}:[0-9]{2}:[0-9]{2}([.][0-9]{1,6})?"
+TIME = f"{DAY} [0-9]{{2}}:[0-9]{{2}}:[0-9]{{2}}([.][0-9]{{1,6}})?"
+DAYS, TIMES, ZONED = (re.compile(f"{it}|-?infinity") for it in (DAY, TIME, f"{TIME}[+]00"))
+UUID = re.compile("[0-9a-f]{8}(-[0-9a-f]{4}){3}-[0-9a-f]{12}")
 
 
 class Kind(NamedTuple):
@@ -84,25 +89,25 @@ def decimal(text: str) -> str:
 
 
 def date(text: str) -> str:
-    return held(text, DAY, f"the date {text}: viewd can hold those {YEARS}")
+    return held(text, DAYS, "date")
 
 
 def timestamp(text: str) -> str:
-    return held(text, f"{DAY} {TIME}", f"the timestamp {text}: viewd can hold those {YEARS}")
+    return held(text, TIMES, "timestamp")
 
 
 def timestamptz(text: str) -> str:
-    return held(text, f"{DAY} {TIME}[+]00", f"the timestamp {text}: viewd can hold those {YEARS}")
+    return held(text, ZONED, "timestamp")
 
 
-def held(text: str, form: str, fault: str) -> str:
-    if not re.fullmatch(f"{form}|-?infinity", text):
-        raise Refused(fault)
+def held(text: str, form: re.Pattern[str], what: str) -> str:
+    if not form.fullmatch(text):
+        raise Refused(f"the {what} {text}: viewd can hold those {YEARS}")
     return text
 
 
 def uuid(text: str) -> str:
-    if not re.fullmatch("[0-9a-f]{8}(-[0-9a-f]{4}){3}-[0-9a-f]{12}", text):
+    if not UUID.fullmatch(text):
         raise Refused(f"the uuid {text}")
     return text
 
@@ -134,11 +139,24 @@ def constant(kind: Kind, text: str) -> str:
     return quoted(canonical(kind, text))
 
 
-def value(kind: Kind, text: str) -> int | str | bool:
-    """A value of viewd's, from what PostgreSQL prints. Raises Refused if it cannot hold it."""
+def value(kind: Kind) -> Callable[[str], str]:
+    """What makes a value in JSON of what PostgreSQL prints. It raises Refused where viewd cannot hold it."""
     match kind.viewd:
         case "int":
-            return int(text)
+            return str
         case "flag":
-            return text == "t"
-    return canonical(kind, text)
+            return lambda text: "true" if text == "t" else "false"
+    if kind.family == "text":
+        return lambda text: in_json(text if len(text) <= SHORT else canonical(kind, text))
+    return lambda text: in_json(canonical(kind, text))
+
+
+def cell(column: Column) -> Callable[[str | None], str]:
+    """The same for a cell, of which NULL is none: two values if it may be NULL."""
+    plain, null = value(column.kind), EMPTY[column.kind.viewd] + ",true"
+
+    def some(text: str | None) -> str:
+        if text is None:
+            raise Refused("a NULL in a column that is NOT NULL")
+        return plain(text)
+    return (lambda text: null if text is None else plain(text) + ",false") if column.nullable else some

@@ -4,6 +4,7 @@ Their forms are those of "Logical Replication Message Formats" in PostgreSQL's d
 whoever reads on after it would lose rows without a word.
 """
 import enum
+import functools
 import struct
 from typing import Any, Literal, NamedTuple, TypeAlias, Union
 
@@ -107,6 +108,15 @@ class Truncate(NamedTuple):
 Decoded: TypeAlias = Union[Begin, Commit, Origin, Message, Relation, Type, Insert, Update, Delete, Truncate]
 
 
+SIZE = struct.Struct("!I").unpack_from  # of a text
+TEXT, NULL, SAME = b"tnu"  # what begins a cell
+
+
+@functools.cache
+def layout(form: str) -> struct.Struct:
+    return struct.Struct(f"!{form}")
+
+
 class Bytes:
     """A message that is read from its beginning to its end."""
 
@@ -120,7 +130,11 @@ class Bytes:
         return self.data[self.at - size:self.at]
 
     def numbers(self, form: str) -> tuple[Any, ...]:
-        return struct.unpack(f"!{form}", self.take(struct.calcsize(f"!{form}")))
+        whole = layout(form)
+        self.at += whole.size
+        if self.at > len(self.data):
+            raise Unreadable(f"{whole.size} bytes are to come at byte {self.at - whole.size} of {len(self.data)}")
+        return whole.unpack_from(self.data, self.at - whole.size)
 
     def number(self, form: str) -> int:
         return int(self.numbers(form)[0])
@@ -144,27 +158,40 @@ class Bytes:
         return self.decoded(found)
 
     def cells(self) -> Cells:
-        found: list[Cell] = []
-        for _ in range(self.number("H")):
-            match self.sign():
-                case "t":
-                    found.append(self.decoded(self.take(self.number("I"))))
-                case "n":
+        """Most of a log is cells, so they are read in place."""
+        data, found, count = self.data, list[Cell](), self.number("H")
+        at = self.at
+        try:
+            for _ in range(count):
+                kind = data[at]
+                at += 1
+                if kind == TEXT:
+                    begin = at + 4
+                    at = begin + SIZE(data, at)[0]
+                    found.append(data[begin:at].decode())
+                elif kind == NULL:
                     found.append(None)
-                case "u":
+                elif kind == SAME:
                     found.append(UNCHANGED)
-                case other:
-                    raise Unreadable(f"a value of the kind {other!r}")
+                else:
+                    raise Unreadable(f"a value of the kind {chr(kind)!r}")
+        except UnicodeDecodeError as why:
+            raise Unreadable(f"a text is not UTF-8, before byte {at}: {why.reason}") from None
+        except (IndexError, struct.error):
+            at = len(data) + 1
+        if at > len(data):
+            raise Unreadable(f"a row is cut off at byte {len(data)}")
+        self.at = at
         return tuple(found)
 
-    def old(self, kind: str) -> Old:
-        if kind not in ("K", "O"):
-            raise Unreadable(f"a row of the kind {kind!r} in place of an old one")
-        return Old(self.cells(), kind == "O")
+    def old(self, kind: bytes) -> Old:
+        if kind not in (b"K", b"O"):
+            raise Unreadable(f"a row of the kind {kind.decode('latin-1')!r} in place of an old one")
+        return Old(self.cells(), kind == b"O")
 
-    def new(self, kind: str) -> Cells:
-        if kind != "N":
-            raise Unreadable(f"a row of the kind {kind!r} in place of a new one")
+    def new(self, kind: bytes) -> Cells:
+        if kind != b"N":
+            raise Unreadable(f"a row of the kind {kind.decode('latin-1')!r} in place of a new one")
         return self.cells()
 
 
@@ -183,6 +210,16 @@ def decoded(data: bytes) -> Decoded:
 
 def _message(kind: str, found: Bytes) -> Decoded:
     match kind:
+        case "I":
+            oid, which = found.numbers("Is")
+            return Insert(oid, found.new(which))
+        case "U":
+            oid, which = found.numbers("Is")
+            old = None if which == b"N" else found.old(which)
+            return Update(oid, old, found.new(which if old is None else found.take(1)))
+        case "D":
+            oid, which = found.numbers("Is")
+            return Delete(oid, found.old(which))
         case "B":
             return Begin(*found.numbers("QqI"))
         case "C":
@@ -197,14 +234,6 @@ def _message(kind: str, found: Bytes) -> Decoded:
             return _relation(found)
         case "Y":
             return Type(found.number("I"), found.text(), found.text())
-        case "I":
-            return Insert(found.number("I"), found.new(found.sign()))
-        case "U":
-            oid, which = found.number("I"), found.sign()
-            old = None if which == "N" else found.old(which)
-            return Update(oid, old, found.new(which if old is None else found.sign()))
-        case "D":
-            return Delete(found.number("I"), found.old(found.sign()))
         case "T":
             count, options = found.numbers("IB")
             return Truncate(found.numbers(f"{count}I"), bool(options & 1), bool(options & 2))

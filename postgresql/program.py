@@ -16,8 +16,9 @@ from beginning import NotReady
 from catalog import Unsettled, connect
 from door import Ended, Kept
 from follow import Follow
+from rows import line
 from settings import Settings, Wrong, read
-from state import State, Unsayable, line, state
+from state import State, Unsayable, state
 
 GOOD, LEFT_OUT, WRONG, UNREACHED, LEFT, KEPT, INTERRUPTED = 0, 1, 2, 3, 4, 5, 130  # exit statuses
 BEGIN = {"do": "begin", "role": "admin"}
@@ -75,7 +76,7 @@ def complain(why: str) -> None:
 
 def show(found: State) -> int:
     for request in itertools.chain([BEGIN], found.requests()):
-        print(line(request))
+        print(line('"session":1', request))
     for name, why in found.left_out():
         complain(f"{name} is left out: {why}")
     return GOOD if found.is_whole() else LEFT_OUT

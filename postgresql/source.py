@@ -11,7 +11,7 @@ from typing import NamedTuple
 from catalog import Attribute, Relation
 from pgoutput import lsn_of, lsn_text
 from relations import Made
-from rows import Request, Row, entry
+from rows import Request, Row, entry, of
 from settings import Settings
 from state import State
 from stream import Place
@@ -60,7 +60,8 @@ class Source:
 
     def rows(self) -> set[Row]:
         place = f"{lsn_text(self.place.commit)} {lsn_text(self.place.end)} {self.place.xid}"
-        return {("settings", "", self.settings), ("place", "", place), *(("relation", name, json.dumps(it)) for name, it in self.prints.items())}
+        relations = (("relation", name, json.dumps(it)) for name, it in self.prints.items())
+        return {of(it) for it in (("settings", "", self.settings), ("place", "", place), *relations)}
 
 
 def settled(settings: Settings) -> str:
@@ -72,15 +73,15 @@ def sourced(settings: Settings, place: Place, state: State) -> Source:
     return Source(settled(settings), place, {it.name: printed(oid, it, state.catalog.relations.get(oid)) for oid, it in state.made.items()})
 
 
-def changes(before: Source | None, after: Source) -> list[Request]:
+def changes(before: Source | None, after: Source) -> list[str]:
     """Entries that lead from the rows of one to those of the other."""
     old, new = before.rows() if before else set(), after.rows()
-    return [*(entry(NAME, "delete", it, 1) for it in sorted(old - new, key=str)), *(entry(NAME, "insert", it, 1) for it in sorted(new - old, key=str))]
+    return [*(entry(NAME, "delete", it, 1) for it in sorted(old - new)), *(entry(NAME, "insert", it, 1) for it in sorted(new - old))]
 
 
 def read(rows: Iterable[Row]) -> Source:
     """What `rows` made. Raises ValueError and KeyError where it was something else."""
-    found = {(str(what), str(name)): str(value) for what, name, value in rows}
+    found = {(str(what), str(name)): str(value) for what, name, value in map(json.loads, rows)}
     commit, end, xid = found["place", ""].split()
     prints = {name: Print(*json.loads(value)) for (what, name), value in found.items() if what == "relation"}
     return Source(found["settings", ""], Place(lsn_of(commit), lsn_of(end), int(xid)), prints)

@@ -1,6 +1,5 @@
 """All that viewd is told of a database at one moment: relations with their rows, and rights."""
 import dataclasses
-import json
 from collections.abc import Callable, Iterator
 
 import rows
@@ -8,7 +7,7 @@ from catalog import RELATIONS, TRIES, Catalog, Connection, Relation, Unsettled, 
 from mirror import Table
 from relations import Made, close, tables, views, words_of
 from rights import NOT_BOUND, ROLES, Rights, granted, guarded, rights
-from rows import Request
+from rows import Request, Write
 from settings import Settings, Users, Wrong
 
 ANSWERS = """select distinct format_type(p.prorettype, null) from pg_proc p join pg_namespace n on n.oid = p.pronamespace
@@ -36,7 +35,7 @@ class State:
         """Nothing is left out but roles that no policy binds, of which each database has one."""
         return all(why == NOT_BOUND for _, why in self.left_out())
 
-    def requests(self) -> Iterator[Request]:
+    def requests(self) -> Iterator[Request | Write]:
         """Those that bring an empty viewd here, of a session of admin. Policies stand before rows: no reader is shown more for a moment."""
         yield from ({"do": "create_role", "name": it} for it in self.rights.roles)
         yield from ({"do": "grant_role", "role": role, "to": to} for role, to in self.rights.members)
@@ -117,7 +116,3 @@ def said(catalog: Catalog, names: dict[int, str], settings: Settings, held: Call
     if len(found.rights.roles) > ROLES:
         raise Unsayable(f"{len(found.rights.roles)} roles: viewd can have {ROLES}")
     return found
-
-
-def line(request: Request) -> str:
-    return json.dumps({"session": 1} | request, ensure_ascii=False, separators=(",", ":"))

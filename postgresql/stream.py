@@ -69,10 +69,17 @@ class Transactions:
     def add(self, data: bytes) -> Transaction | None:
         """A transaction, if this message ends one. Raises Unreadable."""
         message = pgoutput.decoded(data)
-        if isinstance(message, pgoutput.Relation):
-            self.relations[message.oid] = message
-            return None
         match message:
+            case pgoutput.Insert():
+                self.opened().changes.append(Change(self.relation(message.oid), None, message.new))
+            case pgoutput.Update():
+                self.opened().changes.append(Change(self.relation(message.oid), message.old, message.new, True))
+            case pgoutput.Delete():
+                self.opened().changes.append(Change(self.relation(message.oid), message.old))
+            case pgoutput.Truncate():
+                self.opened().changes += [Change(self.relation(oid)) for oid in message.oids]
+            case pgoutput.Relation():
+                self.relations[message.oid] = message
             case pgoutput.Begin(final, _, xid):
                 if self.open:
                     raise Unreadable("a transaction begins within another one")
@@ -83,14 +90,6 @@ class Transactions:
                     raise Unreadable(f"a transaction that was to end at {lsn_text(done.commit)} ends at {lsn_text(commit)}")
                 done.end = end
                 return done
-            case pgoutput.Insert(oid, new):
-                self.opened().changes.append(Change(self.relation(oid), None, new))
-            case pgoutput.Update(oid, old, new):
-                self.opened().changes.append(Change(self.relation(oid), old, new, True))
-            case pgoutput.Delete(oid, row):
-                self.opened().changes.append(Change(self.relation(oid), row))
-            case pgoutput.Truncate(oids):
-                self.opened().changes += [Change(self.relation(oid)) for oid in oids]
         return None  # of messages, types and origins nothing is needed
 
     def opened(self) -> Transaction:

@@ -5,7 +5,7 @@ It is made of the requests alone, so it is the same for those that were said her
 import dataclasses
 from collections import Counter
 
-from rows import Request, Row
+from rows import Request, Row, Write, of
 
 Guards = dict[str, Request]  # policies of a table by name, and its row security by the empty name
 
@@ -18,7 +18,9 @@ class Told:
     guards: dict[str, Guards] = dataclasses.field(default_factory=dict)
     select: dict[str, set[str]] = dataclasses.field(default_factory=dict)  # who reads a relation
 
-    def add(self, it: Request) -> None:
+    def add(self, it: Request | Write) -> None:
+        if isinstance(it, Write):
+            return
         match it["do"]:
             case "create_role":
                 self.roles.add(it["name"])
@@ -50,8 +52,8 @@ def off(name: str) -> Request:
 def written(held: dict[str, Counter[Row]], request: Request) -> None:
     """Adds what a write does to the rows of tables by their names."""
     for it in request["entries"] if request["do"] == "write" else ():
-        of = held.setdefault(it["on"], Counter())
-        one, copies = (tuple(it["insert"]), it.get("copies", 1)) if "insert" in it else (tuple(it["delete"]), -it.get("copies", 1))
-        of[one] += copies
-        if not of[one]:
-            del of[one]
+        rows = held.setdefault(it["on"], Counter())
+        one, copies = (of(it["insert"]), it.get("copies", 1)) if "insert" in it else (of(it["delete"]), -it.get("copies", 1))
+        rows[one] += copies
+        if not rows[one]:
+            del rows[one]

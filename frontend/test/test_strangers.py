@@ -11,7 +11,7 @@ import subprocess
 import time
 
 from trial import BASE, Rows, serving, total, until
-from wire import COMING, PATIENCE, PING, PONG, PROGRAM, Ended, Gateway, Line, Wire, digest, frame, http, in_time, masked, plain, request
+from wire import CLOSE, COMING, PATIENCE, PING, PONG, PROGRAM, Ended, Gateway, Line, Wire, digest, frame, http, in_time, masked, plain, request
 
 PIECES = [*'{}[],:"\\1- \n\t\r\x7f\u2028é😀', "\\u00", "\\ud8", "null", "true", "1e9", '"do"', '"write"', '"entries"', '"on"', '"notes"', '"insert"', '"delete"',
           '"id":', '"id":7,', '"as":"admin"', '"session":1', '{"do":"write","entries":[{"on":"notes","insert":[1,"', '"]}]}']
@@ -263,7 +263,7 @@ def figure(gate: Gateway, name: str) -> int:
 
 
 def test_entries_and_ends_are_counted() -> None:
-    """A connection that is gone without a word is none that was dropped."""
+    """A tab that is closed, by a close as a browser sends it or without a word, is no client that was dropped, and who was closed is told in the log."""
     with serving() as (gate, admin):
         names = {"came": "gateway_came_total", "refused": "gateway_refused_total", "asked": "gateway_asked_total",
                  **{why: f'gateway_ends_total{{why="{why}"}}' for why in ("closed", "late", "stuck", "told")}}
@@ -271,13 +271,17 @@ def test_entries_and_ends_are_counted() -> None:
         def figures() -> dict[str, int]:
             return {what: figure(gate, name) for what, name in names.items()}
         before, start = figures(), time.monotonic()
-        wires = [gate.enter("mia") for _ in range(3)]
+        wires = [gate.enter("mia") for _ in range(4)]
         assert [gate.knock("nobody").code for _ in range(4)] == [4401] * 4
         is_late = time.monotonic() > start + 0.8 * COMING  # then some may have been tried twice
         for wire in wires[:2]:
             wire.shut()
+        wires[2].send(masked(struct.pack("!H", 1001), CLOSE))
+        assert wires[2].end() == 1001
         gate.know("admin", "ann", "bob")
-        assert wires[2].end() == 4401
+        assert wires[3].end() == 4401
+        for wire in wires[2:]:
+            wire.shut()
         late = Wire(gate.port)
         with contextlib.suppress(Ended):
             while True:
@@ -285,10 +289,12 @@ def test_entries_and_ends_are_counted() -> None:
 
         def found() -> dict[str, int]:
             return {what: count - before[what] for what, count in figures().items()}
-        until(lambda: found()["closed"] >= 2 and found()["late"] >= 1, "an end is not counted")
+        until(lambda: found()["closed"] + found()["told"] >= 4 and found()["late"] >= 1, "an end is not counted")
         now = found()
-        assert now.pop("asked") > 5 and (is_late or now == {"came": 3, "refused": 4, "closed": 2, "told": 1, "late": 1, "stuck": 0}), now
+        assert now.pop("asked") > 5 and (is_late or now == {"came": 4, "refused": 4, "closed": 3, "told": 1, "late": 1, "stuck": 0}), now
         assert json.loads(http(gate.port, "/state", "admin-demo")[2])["dropped"] == 1
+        whys = ("it closed, or broke", "it was told why", "it was no client in time")
+        until(lambda: is_late or [gate.said().count(f" goes: {why}\n") for why in whys] == [3, 1, 1], "an end is not told in the log")
 
 
 def all_done(wire: Wire, requests: list[Line]) -> None:

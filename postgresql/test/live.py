@@ -6,12 +6,19 @@ from collections.abc import Iterable
 from typing import Any
 
 from desk import VIEWD, columns_of, decoded
+from rows import Request, Write, line
 
 Rows = Counter[tuple[Any, ...]]
 
 
 class Refused(Exception):
     """viewd refused a request. The text has both."""
+
+
+def parsed(it: Request | Write) -> Request:
+    """As viewd reads it."""
+    found: Request = json.loads(line('"session":1', it))
+    return found
 
 
 class Live:

@@ -16,7 +16,9 @@ PORTS: list[socket.socket] = []  # names of the ports that this process holds
 
 
 def folders() -> list[pathlib.Path]:
-    """Of the servers that are installed, the latest last."""
+    """Of the servers that are installed, the latest last; or the one that POSTGRESQL names."""
+    if named := os.environ.get("POSTGRESQL"):
+        return [pathlib.Path(named)]
     found = {int(it.name): it / "bin" for it in pathlib.Path("/usr/lib/postgresql").glob("*") if it.name.isdigit() and int(it.name) >= LEAST}
     return [found[it] for it in sorted(found) if (found[it] / "postgres").exists()]
 

@@ -22,7 +22,7 @@ from catalog import Unsettled
 from cuts import ALL
 from desk import alike
 from following import Anew, Following
-from live import Live
+from live import Live, parsed
 from settings import Settings
 from source import NAME
 from stream import Lost, Stream
@@ -65,7 +65,7 @@ class Follows(Base):
             except (Unsettled, psycopg2.errors.LockNotAvailable):  # a writer holds its table, or changes it
                 assert time.monotonic() < end
         self.viewd = Live(MOST)
-        self.viewd.tell(self.following.first())
+        self.viewd.tell(map(parsed, self.following.first()))
         self.following.begun.steps.late = self.late
         counts["beginnings"] += 1
 
@@ -79,14 +79,14 @@ class Follows(Base):
             self.begin()
             return
         if requests:
-            self.viewd.tell(requests)
+            self.viewd.tell(map(parsed, requests))
             self.following.kept()
             counts["steps"] += 1
 
     def late(self) -> None:
         assert self.following and self.viewd
         if requests := self.following.less():
-            self.viewd.tell(requests)
+            self.viewd.tell(map(parsed, requests))
             counts["steps of rights alone"] += 1
 
     def catch_up(self) -> None:
@@ -360,6 +360,6 @@ class Follows(Base):
             Following.anew(self.settings()._replace(slot="View d"), ROWS)
         self.begin()
         assert self.following
-        self.assertEqual([it["do"] for it in self.following.first() if it["do"] == "create_table" and it["name"] != NAME], [], "a table whose rows have no key")
+        self.assertEqual([it["do"] for it in map(parsed, self.following.first()) if it["do"] == "create_table" and it["name"] != NAME], [], "a table whose rows have no key")
         with unittest.mock.patch.object(beginning, "LOOKS", 2), self.assertRaisesRegex(NotReady, "the slot viewd is in use"):
             Following.anew(self.settings(), ROWS)

@@ -1,4 +1,5 @@
 """Messages of the log, transactions, cuts and the mirror by themselves: bytes written by hand from PostgreSQL's documentation, and changes that do not fit."""
+import json
 import struct
 import unittest
 
@@ -7,7 +8,7 @@ from cuts import Cut
 from kinds import KINDS, Column
 from mirror import Mirror, Table
 from pgoutput import UNCHANGED, Begin, Cells, Commit, Delete, Insert, Message, Old, Origin, Relation, Truncate, Type, Unreadable, Update, decoded, lsn_of
-from rows import writes
+from rows import LINE, Odd, Reader, entry, line, of, writes
 from stream import Change, Lost, Transaction, Transactions
 
 TEXT = b"t\x00\x00\x00\x03abc"
@@ -93,7 +94,25 @@ class Mirrors(unittest.TestCase):
     def applied(self, table: Table, *changes: Change) -> list[tuple[str, list[object], int]]:
         mirror = Mirror()
         mirror.tables[7] = table
-        return [(key, it[key], it.get("copies", 1)) for it in mirror.apply([Transaction(1, 1, 2, list(changes))]) for key in it if key in ("insert", "delete")]
+        entries = map(json.loads, mirror.apply([Transaction(1, 1, 2, list(changes))]))
+        return [(key, it[key], it.get("copies", 1)) for it in entries for key in it if key in ("insert", "delete")]
+
+    def held(self, table: Table) -> dict[tuple[object, ...], int]:
+        return {tuple(json.loads(one)): copies for one, copies in table.rows.items()}
+
+    def test_rows_as_texts(self) -> None:
+        """Of each kind, with NULL and without: the texts, and the cells that they were made of."""
+        for kind, text, printed, shown in (("smallint", "-7", "-7", "-7"), ("bigint", "9223372036854775807", "9223372036854775807", "9223372036854775807"), ("boolean", "t", "t", "true"), ("boolean", "f", "f", "false"),
+                                           ("text", 'a"\\\n\1\u00e9\u2028', 'a"\\\n\1\u00e9\u2028', '"a\\"\\\\\\n\\u0001\u00e9\u2028"'), ("text", "", "", '""'), ("text", "x" * 1024, "x" * 1024, f'"{"x" * 1024}"'),
+                                           ("numeric", "1.50", "1.5", '"1.5"'), ("date", "-infinity", "-infinity", '"-infinity"'), ("timestamp with time zone", "2024-01-01 00:00:00.5+00", "2024-01-01 00:00:00.5+00", '"2024-01-01 00:00:00.5+00"')):
+            one = Reader("t", [Column(KINDS[kind]), Column(KINDS[kind], True), Column(KINDS[kind], True)])
+            row = one.row([text, text, None])
+            self.assertEqual(row, f'[{shown},{shown},false,{ {"bigint": "0", "smallint": "0", "boolean": "false"}.get(kind, chr(34) * 2) },true]')
+            self.assertEqual((one.cells(row), of(json.loads(row))), ([printed, printed, None], row))
+        for kind, text, why in (("text", "\u00e9" * 513, "a text of more than 1,024 bytes"), ("date", "0001-01-01 BC", "the date 0001-01-01 BC: viewd can hold those of the years 1 to 9999"), ("uuid", "x", "the uuid x")):
+            odd = Reader("t", [Column(KINDS["integer"]), Column(KINDS[kind])]).row(["1", text])
+            assert isinstance(odd, Odd)
+            self.assertEqual((odd.cells, odd.why), (["1", text], why))
 
     def test_by_a_key(self) -> None:
         table = self.table(("1.50", "1", "long"), (None, "2", None))
@@ -101,7 +120,7 @@ class Mirrors(unittest.TestCase):
         self.assertEqual(self.applied(table, Change(KEY, Old(("1", None, None), False), ("3", UNCHANGED, UNCHANGED), True)), [("delete", ["2", False, 1, "long", False], 1), ("insert", ["2", False, 3, "long", False], 1)])
         self.assertEqual(self.applied(table, Change(KEY, Old(("2", None, None), False)), Change(KEY, None, ("2", "new", None))), [("delete", ["", True, 2, "", True], 1), ("insert", ["", True, 2, "new", False], 1)])
         self.assertEqual(self.applied(table, Change(KEY, None, ("9", "a", None)), Change(KEY, Old(("9", None, None), False))), [])
-        self.assertEqual(sorted(map(str, table.by_key)), ["(2,)", "(3,)"])
+        self.assertEqual(sorted(map(str, table.by_key)), ["2", "3"])
         self.assertEqual(self.applied(table, Change(KEY)), [("delete", ["2", False, 3, "long", False], 1), ("delete", ["", True, 2, "new", False], 1)])
         self.assertEqual((table.rows.total(), table.by_key), (0, {}))
 
@@ -115,7 +134,7 @@ class Mirrors(unittest.TestCase):
         table = self.table(("1", "1", "x"), ("1", "2", "x"))
         self.applied(table, Change(FULL, Old(("1", "x", "1"), True), ("1", "y", "1"), True), Change(KEY, None, ("2", "z", "2"), True), Change(FULL, Old(("2", "z", "2"), True)),
                      Change(KEY, None, ("1", "w", UNCHANGED), True), Change(NOTHING, None, ("1", "twice", None)))
-        self.assertEqual(dict(table.rows), {("1", False, 1, "w", False): 1, ("", True, 1, "twice", False): 1})
+        self.assertEqual(self.held(table), {("1", False, 1, "w", False): 1, ("", True, 1, "twice", False): 1})
         with self.assertRaisesRegex(Lost, "a second row with the key"):
             self.applied(table, Change(KEY, None, ("1", "w", UNCHANGED), True))
 
@@ -134,7 +153,23 @@ class Mirrors(unittest.TestCase):
         self.assertEqual(self.applied(table, Change(KEY, None, ("1", UNCHANGED, "2"), True)), [])
         self.assertTrue(table.fault())
         self.applied(table, Change(FULL, Old(("1", "x" * 1025, "2"), True), ("1", "short", "2"), True))
-        self.assertEqual((table.fault(), dict(table.rows)), ("", {("1", False, 2, "y", False): 1, ("2", False, 1, "short", False): 1}))
+        self.assertEqual((table.fault(), self.held(table)), ("", {("1", False, 2, "y", False): 1, ("2", False, 1, "short", False): 1}))
+        table = self.table(("1.50", "1", "x"))
+        self.applied(table, Change(KEY, None, ("1", "x" * 1025, UNCHANGED), True), Change(FULL, Old(("1", "x" * 1025, "1.50"), True), ("1", "y", "1.50"), True))
+        self.assertEqual((table.fault(), self.held(table)), ("", {("1.5", False, 1, "y", False): 1}))
+
+    def test_keys_that_viewd_cannot_hold(self) -> None:
+        days = Relation(7, "public", "days", "d", (pgoutput.Column("day", True, 1082, -1), pgoutput.Column("what", False, 25, -1)))
+        table = Table("days", {"what": Column(KINDS["text"]), "day": Column(KINDS["date"])}, 9).fill([("x", "0044-03-15 BC"), ("y", "0043-03-15 BC"), ("z", "2024-01-31")])
+        self.assertEqual(self.applied(table, Change(days, None, ("0044-03-15 BC", "new"), True), Change(days, Old(("0043-03-15 BC", None), False)), Change(days, Old(("2024-01-31", None), False))), [("delete", ["z", "2024-01-31"], 1)])
+        self.assertEqual(table.fault(), "viewd cannot hold 1 of its rows: one has the date 0044-03-15 BC: viewd can hold those of the years 1 to 9999")
+        self.assertEqual(self.applied(table, Change(days, Old(("0044-03-15 BC", None), False), ("2024-02-29", UNCHANGED), True)), [("insert", ["new", "2024-02-29"], 1)])
+        self.assertEqual(table.fault(), "")
+        both = Relation(7, "public", "pairs", "d", (pgoutput.Column("a", True, 25, -1), pgoutput.Column("b", True, 25, -1)))
+        long = "x" * 1025
+        table = Table("pairs", {"a": Column(KINDS["text"]), "b": Column(KINDS["text"])}, 9).fill([(f"{long},odd {long}", long), (long, f"{long},odd {long}")])
+        self.applied(table, Change(both, Old((long, f"{long},odd {long}"), False)))
+        self.assertEqual(list(table.odd), [table.reader.row((f"{long},odd {long}", long))])
 
     def test_too_many_rows(self) -> None:
         rows = [("1", str(it), "x") for it in range(10)]
@@ -146,7 +181,8 @@ class Mirrors(unittest.TestCase):
         self.assertEqual(self.applied(table, Change(KEY, Old(("77", None, None), False))), [])
 
     def test_writes_are_within_the_limits(self) -> None:
-        entries = [{"on": "t", "insert": [it]} for it in range(2500)] + [{"on": "t", "insert": ["\1" * 1024]} for _ in range(25)]
+        entries = [entry("t", "insert", of([it]), 1) for it in range(2500)] + [entry("t", "insert", of(["\1" * 1024]), 1) for _ in range(25)]
         made = list(writes(entries))
-        self.assertEqual([one for it in made for one in it["entries"]], entries)
-        self.assertEqual([len(it["entries"]) for it in made], [1000, 1000, 508, 10, 7])
+        self.assertEqual([one for it in made for one in it.entries], entries)
+        self.assertEqual([len(it.entries) for it in made], [1000, 1000, 508, 10, 7])
+        self.assertTrue(all(len(line('"as":"admin"', it)) <= LINE for it in made))

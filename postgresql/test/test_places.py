@@ -1,4 +1,5 @@
 """From where the program that follows goes on, and what needs a new beginning."""
+import contextlib
 import io
 import json
 import re
@@ -13,6 +14,7 @@ from collections import Counter
 from collections.abc import Callable
 from typing import Any
 
+import beginning
 import door
 import follow
 from desk import alike
@@ -36,6 +38,14 @@ class Pieces(unittest.TestCase):
         self.assertEqual(taken.getvalue().decode().splitlines(), [*entries[:3], '{"from":0,"step":1}', *entries[3:6], '{"from":1,"step":2}', entries[6], '{"from":2,"step":3}'])
         self.assertEqual([(it.number, it.place.end) for it in one.waiting], [(3, 9)])
 
+    def test_words_of_a_first_copy_are_few(self) -> None:
+        """Of 3,000 rows a second: at each 10,000 rows there may be one, if there was none for five seconds."""
+        with unittest.mock.patch.object(time, "monotonic") as clock, contextlib.redirect_stderr(io.StringIO()) as said:
+            clock.return_value = 0.0
+            for number, _ in enumerate(beginning.counted("tickets", ((),) * 65_000, follow.words())):
+                clock.return_value = number / 3_000
+        self.assertEqual(said.getvalue().splitlines(), [f"viewd-postgresql: tickets: {it}0,000 rows are read" for it in (2, 4, 6)])
+
 
 class Places(Followed):
     def setUp(self) -> None:
@@ -47,6 +57,15 @@ class Places(Followed):
         if self.keeper:
             self.kill(True)
         self.desk.do(*statements)
+
+    def test_words_of_a_first_copy(self) -> None:
+        self.desk.do("create table many (id int primary key)", "insert into many select generate_series(1, 35)", "alter publication viewd add table many")
+        one = follow.Follow(Settings(self.server.dsn("viewd", self.name)), door.Gateway(io.BytesIO(b'{"door":1,"rows":99}\n'), io.BytesIO()))
+        with unittest.mock.patch.multiple(follow, WORD=-1.0), unittest.mock.patch.multiple(beginning, EACH=10), contextlib.redirect_stderr(io.StringIO()) as said:
+            one.begin()
+        assert one.following
+        one.following.close()
+        self.assertEqual([it for it in said.getvalue().splitlines() if "many" in it], [f"viewd-postgresql: many: {it} rows are read" for it in (10, 20, 30)])
 
     def test_it_goes_on_where_it_was(self) -> None:
         self.settle()
@@ -267,8 +286,13 @@ class Places(Followed):
         def asked(path: str) -> str:
             with urllib.request.urlopen(f"http://127.0.0.1:{port}{path}", timeout=PATIENCE) as answer:
                 return str(answer.read().decode())
-        self.settle()
+        self.start()
         end = time.monotonic() + PATIENCE
+        while not (behind := self.behind(asked)):  # of what is said nobody hears anything
+            self.assertLess(time.monotonic(), end)
+            time.sleep(0.05)
+        self.assertLess(behind, 1 << 20, "of the log from the beginning on, not of all that there is")
+        self.settle()
         while (found := json.loads(asked("/state")))["behind_bytes"]:
             self.assertLess(time.monotonic(), end, found)
             self.turn()
@@ -304,6 +328,13 @@ class Places(Followed):
         self.desk.again()
         self.settle()
         self.assertFalse(json.loads(asked("/state"))["away"])
+
+    def behind(self, asked: Callable[[str], str]) -> int:
+        """Bytes; none before it answers."""
+        try:
+            return int(json.loads(asked("/state"))["behind_bytes"])
+        except urllib.error.URLError:
+            return 0
 
     def test_a_postgresql_that_is_away(self) -> None:
         self.settle()

@@ -128,4 +128,6 @@ class Strangers(Base):
         self.assertEqual((done.returncode, done.stdout, done.stderr), (130, "", ""))
 
     def test_a_null_that_cannot_be(self) -> None:
-        self.assertEqual(rows.row("t", {"a": Column(KINDS["integer"])}, [None]), (rows.Unheld("", "a NULL in a column that is NOT NULL"),))
+        one = rows.Reader("t", [Column(KINDS["integer"])]).row([None])
+        assert isinstance(one, rows.Odd)
+        self.assertEqual((one.cells, one.why), ([None], "a NULL in a column that is NOT NULL"))

@@ -1,7 +1,7 @@
 """Whether an edit can be applied to the files of its crate."""
 import pytest
 
-from viewd_ci.edit_texts import fault_of
+from viewd_ci.edit_texts import fault_of, fault_of_check
 
 FILES = {"src/a.rt": "fn a() {\n    x = 1;\n}\nfn b() {\n    x = 1;\n}\n"}
 
@@ -31,3 +31,9 @@ def test_what_cannot_be_applied_is_told(edit: str, fault: str) -> None:
 
 def test_a_proof_has_no_pairs() -> None:
     assert fault_of("file: src/a.rt\nold: fn a()\nnew: fn c()\nproof:\nold: none\nnew: none\n", FILES) == ""
+
+
+def test_a_wrong_program_names_what_has_to_catch_it() -> None:
+    assert fault_of_check(("fuzz", "")) == fault_of_check(("program", "test_disk.py::test_all_is_on_disk_before_it_listens")) == ""
+    for check in (("fuzzy", ""), ("program", "test_disk.py::test_all"), ("program", "test_none.py::test_all_is_on_disk_before_it_listens")):
+        assert "to catch it" in fault_of_check(check)
