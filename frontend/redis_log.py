@@ -12,6 +12,7 @@ gateway answers, 4 if it ends or says what none should, 5 if the log is not the 
 """
 import argparse
 import collections
+import itertools
 import pathlib
 import secrets
 import signal
@@ -64,6 +65,7 @@ class Keeper:
     def __init__(self, log: Log, door: Door, may_lead: bool, seed: Leader | None = None):
         self.log, self.door, self.may_lead, self.seed = log, door, may_lead, seed
         self.sown = seed.all() if seed else []  # all are read before it is known whether all names are told
+        self.chain = [*itertools.accumulate(map(b"\n".join, self.sown), chain, initial=b"")]  # (it would take too long while a lease lasts)
         self.is_open = self.is_away = self.leads = False
         self.rows = 0  # of a table that the gateway can hold
 
@@ -155,8 +157,7 @@ class Keeper:
         """The log ends where it was read to once no step comes: nobody else adds one."""
         while steps := self.ask(self.log.more):
             self.bring(steps)
-        if self.seed:
-            self.sow(self.sown, self.seed.path)
+        self.sow()
         self.ask(lambda: self.log.set_rows(self.rows))
         self.door.lead()
         pause, asked = self.log.seconds / 4, time.monotonic()
@@ -192,15 +193,15 @@ class Keeper:
             raise Lost(f"the gateway has said nothing for {silent:.0f} seconds, so its lease is given back")
         self.ask(self.log.renew)
 
-    def sow(self, records: list[list[bytes]], path: pathlib.Path) -> None:
-        """A log begins with these, or goes on with them if not all are there. Raises Unfit if it was begun otherwise."""
-        digest, last = b"", min(self.log.position, len(records))
-        for it in records[:last]:
-            digest = chain(digest, b"\n".join(it))
+    def sow(self) -> None:
+        """A log begins with its journal, or goes on with that if not all is there. Raises Unfit if it was begun otherwise."""
+        if not self.seed:
+            return
+        last = min(self.log.position, len(self.sown))
         there = self.log.digest if last == self.log.position else self.ask(lambda: self.log.digest_of(last))
-        if there not in (digest, b""):  # a snapshot may have that step alone
-            raise Unfit(f"{self.log.where} was not begun with {path}: step {last} is another")
-        while some := records[self.log.position:self.log.position + SOWN]:
+        if there not in (self.chain[last], b""):  # a snapshot may have that step alone
+            raise Unfit(f"{self.log.where} was not begun with {self.seed.path}: step {last} is another")
+        while some := self.sown[self.log.position:self.log.position + SOWN]:
             start = self.log.position
             self.ask(lambda: self.log.append(some))
             self.bring([*enumerate(some, start + 1)])
