@@ -328,7 +328,7 @@ verdict_true g new c id q a _ (is_again x f t) role shared seat b =
     subst (λ at. IsNamedReply g c id q a (answered id true at x.answer) []) (sym (place_text-place_after g a.holder))
     (is_repeated x.answer (IsAnswer-find_named g a x f t))
 verdict_true g new c id q a _ (is_another x f t) role shared seat b = is_left 101 (NoneAnswers-other_digest g a new x f t) (IsBarred-other_digest g a x f t)
-verdict_true g new c id q a _ (is_late n t) role shared seat b = is_left 102 (NoneAnswers-remembered_by g a n) (IsBarred-late g a t)
+verdict_true g new c id q a _ (is_late n p t) role shared seat b = is_left 102 (NoneAnswers-remembered_by g a n) (IsBarred-late g a p t)
 verdict_true g new c id q a _ (is_foreign n t) role shared seat b = is_left (number_here g 103) (NoneAnswers-remembered_by g a n) (IsBarred-other_epoch g a t)
 verdict_true g new c id q a _ (is_ahead f t) role shared seat b = waits (number_here g 104) (MayBeDone-IsFree g a new f) (HasToWait-ahead g a t)
 verdict_true g new c id q a _ (has_to_wait f t) role shared seat b = waits (number_here g 104) (MayBeDone-IsFree g a new f) (HasToWait-is_over g a t)

@@ -275,7 +275,8 @@ pub data Reason (n : Names) (a : Ask) : Verdict → Type 0 where
   is_again : (x : Named) → find_named a.name (own_of n.known a.holder).recent ≡ Some x → (is_place x.ask.at a.at && bytes_eq x.ask.digest a.digest) ≡ true → Reason n a (verdicts.again x.answer)
   is_another : (x : Named) → find_named a.name (own_of n.known a.holder).recent ≡ Some x → (is_place x.ask.at a.at && bytes_eq x.ask.digest a.digest) ≡ false → Reason n a verdicts.another
   is_foreign : find_named a.name (own_of n.known a.holder).recent ≡ None → bytes_eq a.at.epoch (own_of n.known a.holder).epoch ≡ false → Reason n a verdicts.foreign
-  is_late : find_named a.name (own_of n.known a.holder).recent ≡ None → nat_lt (a.at.count + n.limits.names) (own_of n.known a.holder).count ≡ true → Reason n a verdicts.late
+  is_late : find_named a.name (own_of n.known a.holder).recent ≡ None → bytes_eq a.at.epoch (own_of n.known a.holder).epoch ≡ true
+      → nat_lt (a.at.count + n.limits.names) (own_of n.known a.holder).count ≡ true → Reason n a verdicts.late
   has_to_wait : IsFree n a → is_over n a.holder ≡ true → Reason n a verdicts.over
   is_ahead : IsFree n a → nat_lt (own_of n.known a.holder).count a.at.count ≡ true → Reason n a verdicts.ahead
   is_carried : IsFree n a → is_over n a.holder ≡ false → nat_lt (own_of n.known a.holder).count a.at.count ≡ false → Reason n a carry
@@ -289,7 +290,7 @@ Reason-verdict n a = by (find_named a.name (own_of n.known a.holder).recent) ref
     count : find_named a.name (own_of n.known a.holder).recent ≡ None → bytes_eq a.at.epoch (own_of n.known a.holder).epoch ≡ true
         → (l w d : Bool) → nat_lt (a.at.count + n.limits.names) (own_of n.known a.holder).count ≡ l → is_over n a.holder ≡ w → nat_lt (own_of n.known a.holder).count a.at.count ≡ d
         → Reason n a (cond l verdicts.late (cond w verdicts.over (cond d verdicts.ahead carry)))
-    count f p true w d e i j = is_late f e
+    count f p true w d e i j = is_late f p e
     count f p false true d e i j = has_to_wait (record { none = f; epoch = p; recent = e }) i
     count f p false false true e i j = is_ahead (record { none = f; epoch = p; recent = e }) j
     count f p false false false e i j = is_carried (record { none = f; epoch = p; recent = e }) i j

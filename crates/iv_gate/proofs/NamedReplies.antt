@@ -265,8 +265,13 @@ module _ (g : Gate) (a : Ask) where
       by true e = foreign_yet e (other_epoch t)
       by false e = foreign e (other_epoch t)
 
-  pub IsBarred-late : nat_lt (a.at.count + limits.names) (own_of (known_of g) a.holder).count ≡ true → IsBarred g a 102
-  IsBarred-late t = late (subst (λ n. a.at.count + 64 < n) (count_is g a.holder) (ltb-true (a.at.count + 64) (own_of (known_of g) a.holder).count t))
+  this_epoch : bytes_eq a.at.epoch (own_of (known_of g) a.holder).epoch ≡ true → a.at.epoch ≡ (place_at g.head a.holder).epoch
+  this_epoch p = same-bytes_eq a.at.epoch (own_of (known_of g) a.holder).epoch p ∙ epoch_is g a.holder
+
+  pub IsBarred-late : bytes_eq a.at.epoch (own_of (known_of g) a.holder).epoch ≡ true → nat_lt (a.at.count + limits.names) (own_of (known_of g) a.holder).count ≡ true
+      → IsBarred g a 102
+  IsBarred-late p t =
+      late (this_epoch p) (subst (λ n. a.at.count + 64 < n) (count_is g a.holder) (ltb-true (a.at.count + 64) (own_of (known_of g) a.holder).count t))
 
   -- what has to wait here is decided elsewhere while others lead the log
   waits_here : (is_follower g ≡ false → HasToWait g a 104) → HasToWait g a (number_here g 104)
@@ -342,12 +347,9 @@ module _ (g : Gate) (a : Ask) where
           let c = u.1.count in let k = kept in
           false≢true (sym (ap is_some f.none) ∙ found_in_more a.name (suc u.0) (own_of (known_of g) a.holder).recent (u.1.found (omega (arith, c, k))))
 
-      here : a.at.epoch ≡ (place_at g.head a.holder).epoch
-      here = same-bytes_eq a.at.epoch (own_of (known_of g) a.holder).epoch f.epoch ∙ epoch_is g a.holder
-
       free : (number : ℕ) → IsBarred g a number → ⊥
       free _ (another e there same other) =
           not_found e (own_of (known_of g) a.holder).recent (Among-recent g a.holder e there) (ap (λ n. find_named n (own_of (known_of g) a.holder).recent) same ∙ f.none)
-      free _ (late l) = let k : count_of g a.holder ≤ a.at.count + 64 = subst (λ n. n ≤ a.at.count + 64) (count_is g a.holder) kept in omega (arith, l, k)
-      free _ (foreign l n) = n here
-      free _ (foreign_yet l n) = n here
+      free _ (late e l) = let k : count_of g a.holder ≤ a.at.count + 64 = subst (λ n. n ≤ a.at.count + 64) (count_is g a.holder) kept in omega (arith, l, k)
+      free _ (foreign l n) = n (this_epoch f.epoch)
+      free _ (foreign_yet l n) = n (this_epoch f.epoch)

@@ -117,7 +117,7 @@ module _ (g : Gate) (s : IsSpent (view g)) where
       same b e = cc
   verdict_room q a _ (is_again x f t) = none_more (view g) s
   verdict_room q a _ (is_another x f t) = none_more (view g) s
-  verdict_room q a _ (is_late f t) = none_more (view g) s
+  verdict_room q a _ (is_late f p t) = none_more (view g) s
   verdict_room q a _ (is_foreign f t) = none_more (view g) s
   verdict_room q a _ (is_ahead f t) = none_more (view g) s
   verdict_room q a _ (has_to_wait f t) = none_more (view g) s

@@ -379,7 +379,7 @@ abbrev pub hears : Gate → ℕ → Client → List ℕ → Gate
 hears g m c text = let h = settles (done_for (record g { clients = at_client m (saying text) g.clients }) m c text (said_by text)) in
     record h { clients = at_client m (clients.answered c) h.clients }
 
--- client m sends a message: it is done if it is heard, and else it is to be sent again
+-- client m sends a message: it is done if it is heard; else nothing changes, and who reads what the client sends gives it again later
 abbrev pub said : Gate → ℕ → List ℕ → Gate
 said g m text = if_some (client_at g.clients m) g (λ c. if may_say c then hears g m c text else g)
 

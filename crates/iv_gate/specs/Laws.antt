@@ -141,8 +141,8 @@ IsSettledBy e ts = ts ≡ []
 
 -- ---- bounds
 
--- who is to go has no text; who is not has no more from others, that it was offered and has not taken, than it may leave when the journal
--- is synced; what its own messages bring is bounded by what it may ask. Each number that is open is there once
+-- who is dropped has no text. When the journal is synced, who is not dropped has no more from others, that it was offered and has not taken,
+-- than it may leave. What its own messages bring is bounded by what it may ask. Each number that is open is there once
 pub record IsBounded (g : Gate) (m : ℕ) (c : Client) : Type 0 where
   pub gone : c.dropped ≡ true → c.sendable ≡ []
   pub subs : length c.subs ≤ most_subs
@@ -183,6 +183,7 @@ pub record HoldsBy (g : Gate) (e : Event) : Type 0 where
   pub replied : g.dead ≡ false → AreReplied g e
   pub touched : g.dead ≡ false → AreTouched g e
   pub places : length (next g e).clients ≡ length g.clients
+  -- the machine gives one number of a subscription at most
   pub last : (next g e).machine.frame.last ≤ 1 + g.machine.frame.last
   pub changes : ByClient g e (λ m c d. (own : ℕ) → TellsDifference g e c d own)
   pub told : g.dead ≡ false → GrantsAreTold g e

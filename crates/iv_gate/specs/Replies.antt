@@ -115,11 +115,11 @@ IsAnswer es a answer = (refused : Bool) × Contains es (record { ask = a; refuse
 abbrev pub NoneAnswers : List Named → Ask → Type 0
 NoneAnswers es a = (answer : List ℕ) → IsAnswer es a answer → ⊥
 
--- what bars a request with a name: its name is another request's; its place is so old that its answer may be forgotten; or its place is of
--- another epoch: then its answer may still come, if others lead the log
+-- what bars a request with a name: its name is another request's; its place, of this epoch, is so old that its answer may be forgotten; or its
+-- place is of another epoch: then its answer may still come, if others lead the log
 pub data IsBarred (g : Gate) (a : Ask) : ℕ → Type 0 where
   another : (e : Named) → Contains (remembered_by g a.holder) e → e.ask.name ≡ a.name → e.ask ≢ a → IsBarred g a 101
-  late : a.at.count + limits.names < count_of g a.holder → IsBarred g a 102
+  late : a.at.epoch ≡ (place_at g.head a.holder).epoch → a.at.count + limits.names < count_of g a.holder → IsBarred g a 102
   foreign : is_follower g ≡ false → a.at.epoch ≢ (place_at g.head a.holder).epoch → IsBarred g a 103
   foreign_yet : is_follower g ≡ true → a.at.epoch ≢ (place_at g.head a.holder).epoch → IsBarred g a 100
 

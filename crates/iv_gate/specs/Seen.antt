@@ -106,8 +106,8 @@ pub record IsEnd (g : Gate) (e : Event) (c : Client) (own : ℕ) (ts : List Told
   pub cause : hindrance (next g e).machine c.role (rel_read g.feeds feed) ≡ Some why
   pub told : ts ≡ over own (rel_read g.feeds feed) why (difference (read_by g c own) []) ∷ []
 
--- of a number that follows a feed after an event, it tells the difference of what it shows, in one text; of one that follows none nothing,
--- or its end
+-- a number that follows a feed after an event is told the difference of what it shows, in one text: who begins to follow is told all of it.
+-- A number that follows none is told nothing, or its end
 pub record TellsDifference (g : Gate) (e : Event) (c d : Client) (own : ℕ) : Type 0 where
   pub goes_on : is_some (followed_by d.subs own) ≡ true
       → filter (is_told_of own) (told_by c d) ≡ change_told own (difference (read_by g c own) (read_by (next g e) d own))
