@@ -163,12 +163,13 @@ takes_spent g x s = subst IsSpent (sym same) (more_spent (view g) (taken_by g x)
         by true = refl
         by false = refl
 
-    none_taken : (o : Option Log) → o ≡ None → taken_by (record g { head = record g.head { log = o } }) x ≡ []
-    none_taken None h = refl
-    none_taken (Some l) h = cc
+    none_taken : (o : Option Log) (leads : Bool) → o ≡ None → taken_by (record g { head = record g.head { log = o }; leads = leads }) x ≡ []
+    none_taken None true h = refl
+    none_taken None false h = refl
+    none_taken (Some l) leads h = cc
 
     room : HasRoom (view g) (taken_by g x)
-    room n holder = subst (λ es. refused_in holder (names_in (drop g.forgiven g.entries)) + refused_in holder (names_in es) ≤ 64) (sym (none_taken g.head.log n)) (none_more (view g) s n holder)
+    room n holder = subst (λ es. refused_in holder (names_in (drop g.forgiven g.entries)) + refused_in holder (names_in es) ≤ 64) (sym (none_taken g.head.log g.leads n)) (none_more (view g) s n holder)
 
 happens_spent : (g : Gate) (e : Event) → IsSpent (view g) → IsSpent (view (happens g e))
 happens_spent g (presented m token) s = by (token_for g m token)
