@@ -151,14 +151,23 @@ pub data FrontRuns (cap : ℕ) : Front → Type 0 where
   closes : (d : Front) (m code : ℕ) (words : List ℕ) → FrontRuns cap d → d.gate.dead ≡ false → may_tell code words ≡ true
       → FrontRuns cap (at_socket m (closed code words) d)
 
--- what happens to a socket may happen, which tokens are known, and a failure; of any other event of the gateway alone `may` says whether it may
+-- what happens to a socket may always happen, and so may a change of the known tokens, and a failure; of any other event of the gateway alone
+-- `may` says whether it may happen
 abbrev pub may_happen : (may : Front → Event → Bool) → (d e : Front) → Happens d e → Bool
+may_happen may d e (begins m) = true
+may_happen may d e (takes m bytes) = true
+may_happen may d e (hears m s t h is by) = true
+may_happen may d e (offers m) = true
+may_happen may d e (dismisses m) = true
+may_happen may d e (sends m n) = true
+may_happen may d e (leaves m) = true
 may_happen may d e syncs = may d synced
+may_happen may d e (knows tokens) = true
 may_happen may d e (arrives s is) = may d (arrived s)
 may_happen may d e leads = may d led
 may_happen may d e ticks = may d ticked
 may_happen may d e forgives = may d forgave
-may_happen may d e _ = true
+may_happen may d e fails = true
 
 -- where a front goes on to: nowhere, or while it is alive something happens that may, and sockets are closed from outside
 pub data GoesOn (may : Front → Event → Bool) (d : Front) : Front → Type 0 where

@@ -183,7 +183,9 @@ impl Following {
     }
 
     /// A keeper who is there is told what is held up to a position, if it follows no log yet.
-    fn greet(&mut self, position: u64) -> Result<(), Fault> {
+    fn greet(&mut self, position: u64) -> Result<(), Fault>
+        ensures { self.new.means ≡ self.old.means }
+    {
         match &mut self.guest {
             None => Ok(()),
             Some(guest) => match greet(guest, self.means.rows, position) {
@@ -224,7 +226,9 @@ impl Following {
     ///
     /// # Errors
     /// `Memory` if a growth of memory was refused.
-    pub fn meet(&mut self, desk: &Desk) -> Result<(), Fault> {
+    pub fn meet(&mut self, desk: &Desk) -> Result<(), Fault>
+        ensures { self.new.means ≡ self.old.means }
+    {
         self.greet(desk.settled_at())
     }
 }

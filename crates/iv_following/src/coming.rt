@@ -142,7 +142,8 @@ impl Following {
 
     /// Sends what the system takes, to a guest who goes if the way is broken.
     pub(crate) fn send_out(&mut self, poll: &Poll)
-        ensures { has_ended self.old ≡ true → has_ended self.new ≡ true }
+        ensures ended { has_ended self.old ≡ true → has_ended self.new ≡ true }
+        ensures means { self.new.means ≡ self.old.means }
     {
         let is_whole = match &mut self.guest {
             None => true,

@@ -241,7 +241,8 @@ impl Following {
     /// # Errors
     /// `Memory` if a growth of memory was refused.
     pub fn tell(&mut self, desk: &Desk, poll: &Poll) -> Result<(), Fault>
-        ensures { has_ended self.old ≡ true → has_ended self.new ≡ true }
+        ensures ended { has_ended self.old ≡ true → has_ended self.new ≡ true }
+        ensures means { self.new.means ≡ self.old.means }
     {
         if let Some(guest) = &mut self.guest {
             guest.settle(desk)?;

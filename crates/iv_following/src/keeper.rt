@@ -90,6 +90,7 @@ fn end_step(
 /// The gateway leads the log, if it did not.
 fn take_lead(means: &mut Means, desk: &mut Desk, told: &mut Told) -> Result<(), Fault>
     ensures leads { Leads desk.old desk.new }
+    ensures owed { OnOk result (told.new.leads ≡ true) }
     ensures led { OnOk result ((means.old.lead ≡ None) × (a : Leading) × IsLed desk.old desk.new a × (means.new.lead ≡ Some a)) }
     ensures fault { IfErr result (IsUnled means.old.lead) }
     ensures fails { OnErr result ((desk.new ≡ desk.old) × (means.new.lead ≡ means.old.lead) × (told.new.out.items ≡ told.old.out.items)) }

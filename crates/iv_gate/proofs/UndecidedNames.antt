@@ -44,8 +44,11 @@ StaysPast-event g e a p = by g.dead refl
 
     further : g.dead ≡ false → IsPast g a → IsPast (next g e) a
     further d (inl l) =
-        inl (less (a.at.count + limits.names) (count_of g a.holder) (count_of (next g e) a.holder) l
-        (counts_more g (next g e) (added_by g e) a.holder (head d) (entries-next g e d)))
+        inl (
+          l.0 ∙ ap (λ (z : Head). (place_at z a.holder).epoch) (sym (head d)),
+          less (a.at.count + limits.names) (count_of g a.holder) (count_of (next g e) a.holder) l.1
+              (counts_more g (next g e) (added_by g e) a.holder (head d) (entries-next g e d)),
+        )
     further d (inr n) = inr (λ s. n (s ∙ ap (λ (z : Head). (place_at z a.holder).epoch) (head d)))
 
     by : (b : Bool) → g.dead ≡ b → IsPast (next g e) a

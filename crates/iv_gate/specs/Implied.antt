@@ -83,9 +83,10 @@ DecidesNext g es = LeadsFromDisk g → let h = after g es in AreNext (settled_at
 
 -- ---- names
 
--- the place is too old or of another epoch: what was told 102 or 103 is barred for ever
+-- the place, of this epoch, is too old; or it is of another one: what was told 102 or 103 is barred whatever happens to this gateway
 abbrev pub IsPast : Gate → Ask → Type 0
-IsPast g a = (a.at.count + limits.names < count_of g a.holder) ⊎ (a.at.epoch ≢ (place_at g.head a.holder).epoch)
+IsPast g a = ((a.at.epoch ≡ (place_at g.head a.holder).epoch) × (a.at.count + limits.names < count_of g a.holder))
+    ⊎ (a.at.epoch ≢ (place_at g.head a.holder).epoch)
 
 abbrev pub StaysPast : Gate → Event → Type 0
 StaysPast g e = (a : Ask) → IsPast g a → IsPast (next g e) a

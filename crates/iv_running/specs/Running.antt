@@ -1,8 +1,8 @@
 -- What stands behind the program's desk at all times.
-use Rattle.std.specs.Prelude.{◌≡◌, ℕ, Bool, false, true, List, [], nat_le, Some}
+use Rattle.std.specs.Prelude.{◌≡◌, ℕ, Bool, false, true, List, [], nat_le, None, Some}
 use Rattle.iv_journal.specs.Journal.{Line}
-use Rattle.iv_gate.specs.Arriving.{Step, position}
-use Rattle.iv_gate.specs.Events.{Event, arrived, synced}
+use Rattle.iv_gate.specs.Arriving.{Step, fault_of, position}
+use Rattle.iv_gate.specs.Events.{Event, arrived, forgave, synced, ticked}
 use Rattle.iv_arrivals.specs.Reads.{step_in}
 use Rattle.iv_clients.specs.Tokens.{Token}
 use Rattle.iv_gate.specs.Gate.{Gate, Head, Log}
@@ -41,22 +41,34 @@ Leads x y = LeadsBy anything x y
 abbrev pub Serves : Desk → Desk → Type 0
 Serves x y = (may : Front → Event → Bool) → LeadsBy may x y
 
--- by these, and once by what is behind the first the journal keeps what is pending
+-- as `Serves`, and by a sync at what stands behind the first
 abbrev pub Keeps : Desk → Desk → Type 0
 Keeps x y = (may : Front → Event → Bool) → ((d : Front) → IsDesk d x → d.gate.dead ≡ false → may d synced ≡ true) → LeadsBy may x y
 
--- by these, and the journal keeps nothing unless all that was decided is in the log, which has it up to a position
+-- as `Serves`, and by syncs where all that was decided is in the log, which has it up to a position
 abbrev pub KeepsTo : ℕ → Desk → Desk → Type 0
 KeepsTo n x y = (may : Front → Event → Bool) → ((d : Front) → nat_le (position d.gate) n ≡ true → may d synced ≡ true) → LeadsBy may x y
+
+-- what a gateway does by itself, as time passes and what is pending is kept: it neither begins to lead a log nor takes a step
+abbrev pub is_own : Event → Bool
+is_own synced = true
+is_own ticked = true
+is_own forgave = true
+is_own e = false
+
+-- as `Serves`, and by these
+abbrev pub PassesTime : Desk → Desk → Type 0
+PassesTime x y = (may : Front → Event → Bool) → ((d : Front) (e : Event) → is_own e ≡ true → may d e ≡ true) → LeadsBy may x y
 
 -- if a run has led to the first, one leads to the second
 abbrev pub RunsLeadOn : Type 0
 RunsLeadOn = (may : Front → Event → Bool) (cap : ℕ) (x y : Desk) → IsRunning cap x → LeadsBy may x y → IsRunning cap y
 
--- the lines are a step of the log from a position, and that is what arrives
+-- the lines are a step of the log from a position, the gateway has no fault of it, and that is what arrives
 pub record IsFollowed (log : Log) (from : ℕ) (lines : List Line) (x y : Desk) : Type 0 where
   pub step : Step
   pub is : step_in log from lines ≡ Some step
+  pub taken : (d : Front) → IsDesk d x → d.gate.dead ≡ false → fault_of d.gate step ≡ None
   pub arrives : (d : Front) → IsDesk d x → IsDesk (by_event (arrived step) d) y
 
 -- it is not taken, since the gateway has this fault of it, or memory was refused

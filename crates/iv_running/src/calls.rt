@@ -7,6 +7,7 @@ ghost use Rattle.iv_arrivals.specs.Reads.{step_in};
 ghost use Rattle.iv_clients.specs.Clients.{is_free};
 ghost use Rattle.iv_clients.specs.Tokens.{Token as Holder};
 ghost use Rattle.iv_records.specs.Journal.{journal_of};
+ghost use Rattle.iv_gate.specs.Arriving.{fault_of};
 ghost use Rattle.iv_gate.specs.Events.{IsWell, arrived, forgave, known, synced, ticked};
 ghost use Rattle.iv_gate.specs.Gate as spec;
 ghost use Rattle.iv_gateway.specs.Arriving.{IsFaultOf};
@@ -15,7 +16,7 @@ ghost use Rattle.iv_gateway.specs.Waiting.{WaitsWithin};
 ghost use Rattle.iv_peer.specs.Socket.{closed, passing, took};
 ghost use Rattle.iv_desk.specs.Desks.{IsCalledOut, IsDesk, IsHeard};
 ghost use Rattle.iv_desk.specs.Front.{Front, at_socket, begun, by_event, dismissed, left, may_tell, offered};
-ghost use Rattle.iv_running.specs.Running.{IsBack, IsFollowed, IsNew, IsRunning, IsUntaken, Keeps, Leads, RunsLeadOn, Serves, most_told};
+ghost use Rattle.iv_running.specs.Running.{IsBack, IsFollowed, IsNew, IsRunning, IsUntaken, Keeps, Leads, PassesTime, RunsLeadOn, Serves, most_told};
 
 use crate::fault::Fault;
 use iv_arrivals::{Log, Step, read_step};
@@ -147,6 +148,7 @@ fn take(desk: &mut Desk, step: Step) -> Result<bool, StepFault>
     requires { IsWell (arrived step) }
     ensures leads { Leads desk.old desk.new }
     ensures front { OnOk result ((d : Front) → IsDesk d desk.old → IsDesk (by_event (arrived step) d) desk.new) }
+    ensures taken { OnOk result ((d : Front) → IsDesk d desk.old → d.gate.dead ≡ false → fault_of d.gate step ≡ None) }
     ensures fault { IfErr result (λ f. (d : Front) → IsDesk d desk.old → d.gate.dead ≡ false → IsFaultOf d.gate step f) }
 {
     events_leave_their_marks();
@@ -222,7 +224,7 @@ pub fn know(desk: &mut Desk, tokens: Vec<Token>) -> Result<(), Fault>
 /// # Errors
 /// As of `hear`.
 pub fn tick(desk: &mut Desk) -> Result<(), Fault>
-    ensures leads { Leads desk.old desk.new }
+    ensures passes { PassesTime desk.old desk.new }
     ensures front { OnOk result ((d : Front) → IsDesk d desk.old → IsDesk (by_event ticked d) desk.new) }
 {
     events_leave_their_marks();
@@ -234,7 +236,7 @@ pub fn tick(desk: &mut Desk) -> Result<(), Fault>
 
 /// Forgives names that were refused.
 pub fn forgive(desk: &mut Desk)
-    ensures leads { Leads desk.old desk.new }
+    ensures passes { PassesTime desk.old desk.new }
     ensures front { (d : Front) → IsDesk d desk.old → IsDesk (by_event forgave d) desk.new }
 {
     events_leave_their_marks();

@@ -36,7 +36,8 @@ impl Server {
 
     /// Who made what the journal is to keep next is told to it. Nothing that is made from then on is anybody's yet.
     pub(crate) fn note_shares(&mut self, journal: &mut FileJournal)
-        ensures { self.new.shares.items ≡ [] }
+        ensures none { self.new.shares.items ≡ [] }
+        ensures note { journal.new ≡ record journal.old { shares = self.old.shares } }
     {
         journal.note(mem::replace(&mut self.shares, Vec::new(self.alloc)));
     }
@@ -53,7 +54,7 @@ impl Server {
     ) -> Result<(), Fault>
         ensures keeps { KeepsTo kept desk.old desk.new }
         ensures waits { (d : Front) → IsDesk d desk.old → d.gate.dead ≡ false → nat_le (position d.gate) kept ≡ false
-            → (desk.new ≡ desk.old) × (journal.new ≡ journal.old) }
+            → (desk.new ≡ desk.old) × (journal.new ≡ journal.old) × (self.new.shares ≡ self.old.shares) }
         ensures shares { (d : Front) → IsDesk d desk.old → d.gate.dead ≡ false → nat_le (position d.gate) kept ≡ true → self.new.shares.items ≡ [] }
     {
         if desk.position() > kept {
@@ -66,7 +67,7 @@ impl Server {
         }
     }
 
-    /// Reads what clients say, while nobody waits for what was decided.
+    /// Reads what clients say. Where the log is led nobody may wait for what was decided.
     pub fn read_on(
         &mut self,
         rt: &HostRuntime,

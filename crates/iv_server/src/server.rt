@@ -2,7 +2,7 @@
 ghost use Rattle.std.specs.Prelude.{◌≡◌, IfErr, OnOk, [], false, string_bytes, true};
 ghost use Rattle.iv_desk.specs.Front.{Front};
 ghost use Rattle.iv_desk.specs.Desks.{IsDesk};
-ghost use Rattle.iv_running.specs.Running.{Leads, Serves};
+ghost use Rattle.iv_running.specs.Running.{PassesTime, Serves};
 ghost use Rattle.iv_admission.specs.Admitting.{IsHanded, tokens_of};
 ghost use Rattle.iv_server.specs.Shutting.{closed_at, closed_below};
 ghost use Rattle.iv_server.specs.Sharing.{HasShare, waiting_lines};
@@ -542,7 +542,7 @@ impl Server {
         listener: &TcpListener,
         events: &Events,
     ) -> Result<(), Fault>
-        ensures { Leads desk.old desk.new }
+        ensures { PassesTime desk.old desk.new }
     {
         self.take_in(rt, desk, poll, listener, events)?;
         self.read_on(rt, desk, journal)?;

@@ -2,7 +2,7 @@
 ghost use Rattle.std.specs.Prelude.{◌≡◌, ◌<◌, IfSome, false, is_some, true};
 ghost use Rattle.iv_desk.specs.Desks.{IsDesk};
 ghost use Rattle.iv_desk.specs.Front.{Front};
-ghost use Rattle.iv_running.specs.Running.{KeepsTo, Leads};
+ghost use Rattle.iv_running.specs.Running.{KeepsTo, PassesTime};
 ghost use Rattle.iv_server.specs.Sharing.{waiting_lines};
 ghost use Rattle.iv_following.specs.Rounds.{has_ended, kept_of};
 ghost use Rattle.iv_service.specs.Serving.{is_over};
@@ -25,7 +25,8 @@ fn decide(
 ) -> Result<(), Fault>
     ensures keeps { KeepsTo (kept_of following.old) desk.old desk.new }
     ensures ended { has_ended following.old ≡ true → has_ended following.new ≡ true }
-    ensures waits { (d : Front) → IsDesk d desk.old → d.gate.dead ≡ false → 0 < waiting_lines d → (desk.new ≡ desk.old) × (journal.new ≡ journal.old) }
+    ensures waits { (d : Front) → IsDesk d desk.old → d.gate.dead ≡ false → 0 < waiting_lines d
+        → (desk.new ≡ desk.old) × (journal.new ≡ journal.old) × (following.new ≡ following.old) }
 {
     if !desk.entered().is_empty() {
         return Ok(());
@@ -70,7 +71,7 @@ pub(crate) fn serve_round(
     listener: &TcpListener,
     events: &Events,
 ) -> Result<(), Fault>
-    ensures leads { Leads desk.old desk.new }
+    ensures passes { PassesTime desk.old desk.new }
     ensures keeps { IfSome following.old (λ f. is_some f.means.lead ≡ true → KeepsTo (kept_of f) desk.old desk.new) }
     ensures over { is_over following.old ≡ true → is_over following.new ≡ true }
 {

@@ -1,7 +1,7 @@
 //! `work`: opens all that the settings name, brings the desk to where the journal leads, and serves.
 ghost use Rattle.std.specs.Prelude.{◌≡◌, IfOk, OnOk, true};
 ghost use Rattle.iv_host.specs.Settings.{AreValid};
-ghost use Rattle.iv_running.specs.Running.{Leads};
+ghost use Rattle.iv_running.specs.Running.{Leads, PassesTime, Serves};
 ghost use Rattle.iv_service.specs.Serving.{is_over};
 
 use crate::leading::serve_round;
@@ -58,7 +58,7 @@ fn each_second(
     clock: &mut Clock,
     now: u64,
 ) -> Result<(), Fault>
-    ensures { Leads desk.old desk.new }
+    ensures { Serves desk.old desk.new }
 {
     let second = now / 1000;
     if second == clock.second {
@@ -71,7 +71,7 @@ fn each_second(
 
 /// Tells all clients that the line is alive, when it is time.
 fn each_tick(desk: &mut Desk, clock: &mut Clock, now: u64) -> Result<(), Fault>
-    ensures { Leads desk.old desk.new }
+    ensures { PassesTime desk.old desk.new }
 {
     let alive = now / ALIVE;
     if alive == clock.alive {
@@ -83,7 +83,7 @@ fn each_tick(desk: &mut Desk, clock: &mut Clock, now: u64) -> Result<(), Fault>
 
 /// Forgives names that were refused, when it is time.
 fn each_minute(desk: &mut Desk, clock: &mut Clock, now: u64)
-    ensures { Leads desk.old desk.new }
+    ensures { PassesTime desk.old desk.new }
 {
     let forgiven = now / FORGIVING;
     if forgiven == clock.forgiven {

@@ -25,7 +25,7 @@ pub fn refusals_are_few()
     ensures { (cap : ℕ) (g : Gate) → Runs cap g → g.head.log ≡ None → (holder : List ℕ) → refused_by g holder ≤ limits.refusals }
 {}
 
-/// What is told to be undecided for ever, since its place is too old or of another epoch, stays so, whatever happens.
+/// What is barred for ever, since its place is too old or of another epoch, stays so, whatever happens.
 pub fn what_is_past_stays_past()
     ensures { (g : Gate) (e : Event) → StaysPast g e }
 {}
