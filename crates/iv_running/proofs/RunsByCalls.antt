@@ -18,7 +18,7 @@ use Rattle.iv_desk.specs.Front.{then_closes, then_happens}
 use Rattle.iv_desk.specs.Desks.{IsCalledOut, IsDesk, IsHeard, IsHeardBy, IsRestored, at_each}
 use Rattle.iv_desk.specs.declared.desk.Desk.{Desk}
 use Rattle.iv_desk.specs.declared.place.Hearing.{Hearing}
-use Rattle.iv_running.specs.Running.{HasCome, IsBack, IsNew, IsRunning, Leads, LeadsBy, Serves, anything}
+use Rattle.iv_running.specs.Running.{HasCome, IsBack, IsNew, IsRunning, Leads, LeadsBy, PassesTime, Serves, anything}
 
 -- ---- as an order
 
@@ -67,21 +67,21 @@ pub Leads-failed : (x y : Desk) → ((g : Gate) (e : Event) → g.dead ≡ true 
 Leads-failed x y rests h = Serves-failed x y rests h anything
 
 -- names are forgiven
-pub Leads-forgave : (x y : Desk) → ((g : Gate) (e : Event) → g.dead ≡ true → next g e ≡ g) → ((d : Front) → IsDesk d x → IsDesk (by_event forgave d) y) → Leads x y
-Leads-forgave x y rests h = Leads-event anything x y forgave rests (λ d a. then_happens d (by_event forgave d) stays a forgives refl) h
+pub PassesTime-forgave : (x y : Desk) → ((g : Gate) (e : Event) → g.dead ≡ true → next g e ≡ g) → ((d : Front) → IsDesk d x → IsDesk (by_event forgave d) y) → PassesTime x y
+PassesTime-forgave x y rests h = λ may is. Leads-event may x y forgave rests (λ d a. then_happens d (by_event forgave d) stays a forgives (is d forgave refl)) h
 
 -- the log is led
 pub Leads-led : (x y : Desk) → ((g : Gate) (e : Event) → g.dead ≡ true → next g e ≡ g) → ((d : Front) → IsDesk d x → IsDesk (by_event led d) y) → Leads x y
 Leads-led x y rests h = Leads-event anything x y led rests (λ d a. then_happens d (by_event led d) stays a leads refl) h
 
 -- where a dead one would have failed
+pub LeadsBy-done : (may : Front → Event → Bool) (x y : Desk) (f : Front → Front) → ((d : Front) → IsDesk d x → d.gate.dead ≡ true → ⊥)
+    → ((d : Front) → d.gate.dead ≡ false → GoesOn may d (f d)) → ((d : Front) → IsDesk d x → IsDesk (f d) y) → LeadsBy may x y
+LeadsBy-done may x y f lives goes h = step_on may x y f (λ d e s. absurd (lives d s e)) goes (λ d s e. h d s)
+
 pub Serves-done : (x y : Desk) (f : Front → Front) → ((d : Front) → IsDesk d x → d.gate.dead ≡ true → ⊥) → ((may : Front → Event → Bool) (d : Front) → d.gate.dead ≡ false → GoesOn may d (f d))
     → ((d : Front) → IsDesk d x → IsDesk (f d) y) → Serves x y
-Serves-done x y f lives goes h = λ may. step_on may x y f (λ d e s. absurd (lives d s e)) (goes may) (λ d s e. h d s)
-
-pub Leads-done : (x y : Desk) (f : Front → Front) → ((d : Front) → IsDesk d x → d.gate.dead ≡ true → ⊥) → ((d : Front) → d.gate.dead ≡ false → GoesOn anything d (f d))
-    → ((d : Front) → IsDesk d x → IsDesk (f d) y) → Leads x y
-Leads-done x y f lives goes h = step_on anything x y f (λ d e s. absurd (lives d s e)) goes (λ d s e. h d s)
+Serves-done x y f lives goes h = λ may. LeadsBy-done may x y f lives (goes may) h
 
 pub Serves-passed : (m n : ℕ) (x y : Desk) → ((d : Front) → IsDesk d x → IsDesk (at_socket m (passing n) d) y) → Serves x y
 Serves-passed m n x y h = λ may. step_on may x y (at_socket m (passing n)) (λ d e s. still_dead d (at_socket m (passing n) d) x y e refl (h d s))

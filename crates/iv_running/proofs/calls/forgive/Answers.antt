@@ -1,5 +1,5 @@
-use Rattle.iv_running.proofs.RunsByCalls.{Leads-forgave}
+use Rattle.iv_running.proofs.RunsByCalls.{PassesTime-forgave}
 use Rattle.iv_running.proofs.calls.forgive.Goals as goal
 
-pub returns-clause-leads : goal.returns-clause-leads
-returns-clause-leads c = Leads-forgave c.args.desk.now _ c.events_leave_their_marks.ensures.rests c.forgive.ensures
+pub returns-clause-passes : goal.returns-clause-passes
+returns-clause-passes c = PassesTime-forgave c.args.desk.now _ c.events_leave_their_marks.ensures.rests c.forgive.ensures

@@ -1,11 +1,12 @@
 use Rattle.std.proofs.Common.{refl}
 use Rattle.iv_gate.specs.Events.{arrived}
 use Rattle.iv_desk.specs.Front.{arrives, by_event, stays, then_happens}
-use Rattle.iv_running.proofs.RunsByCalls.{Leads-done, Leads-failed}
+use Rattle.iv_running.specs.Running.{anything}
+use Rattle.iv_running.proofs.RunsByCalls.{LeadsBy-done, Leads-failed}
 use Rattle.iv_running.proofs.calls.take.Goals as goal
 
 pub returns-in-Ok-clause-leads : goal.returns-in-Ok-clause-leads
-returns-in-Ok-clause-leads c = Leads-done c.args.desk.now _ (by_event (arrived c.args.step)) (λ d s e. let h = c.in-Ok.ensures.dead d s e in cc)
+returns-in-Ok-clause-leads c = LeadsBy-done anything c.args.desk.now _ (by_event (arrived c.args.step)) (λ d s e. let h = c.in-Ok.ensures.dead d s e in cc)
     (λ d a. then_happens d (by_event (arrived c.args.step) d) stays a (arrives c.args.step c.requires) refl) c.in-Ok.ensures.front
 
 pub returns-in-Err-clause-leads : goal.returns-in-Err-clause-leads
