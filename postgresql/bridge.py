@@ -13,7 +13,8 @@ ROLE = """select r.oid is not null, coalesce(r.oid, 0)::bigint, coalesce(r.rolca
                  has_database_privilege(coalesce(r.oid, 0), current_database(), 'connect'), current_database(), given.name
           from (values (%(role)s::name)) given(name) left join pg_roles r on r.rolname = given.name"""
 TABLES = """select c.oid::bigint, has_schema_privilege(%(role)s::oid, c.relnamespace, 'usage'), has_table_privilege(%(role)s::oid, c.oid, 'select'),
-                   c.relrowsecurity and (r.oid is null or not (r.rolsuper or r.rolbypassrls or not c.relforcerowsecurity and pg_has_role(r.oid, c.relowner, 'usage')))
+                   c.relrowsecurity and (r.oid is null or not (r.rolsuper or r.rolbypassrls
+                                                               or not c.relforcerowsecurity and pg_has_role(r.oid, c.relowner, 'usage')))
             from pg_class c left join pg_roles r on r.oid = %(role)s::oid where c.oid = any (%(oids)s::oid[]) order by c.oid"""
 
 

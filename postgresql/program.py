@@ -122,8 +122,9 @@ def check(settings: Settings, given: argparse.Namespace) -> int:
     try:
         connection = connect(settings.dsn)
     except psycopg2.OperationalError as why:
-        hint = "" if given.role is not None or "FATAL" not in str(why) else "; by the DSN of an administrator, --role NAME prints what makes a role that is not there"
-        raise psycopg2.OperationalError(f"{str(why).strip()}{hint}") from None
+        if given.role is not None or "FATAL" not in str(why):
+            raise
+        raise psycopg2.OperationalError(f"{str(why).strip()}; by the DSN of an administrator, --role NAME prints what makes a role that is not there") from None
     try:
         found = state(connection, settings, given.rows)
         role = given.role if given.role is not None else configured or found.catalog.server.user

@@ -108,10 +108,10 @@ def call(node: Node) -> str | None:
 
 def plain_subquery(node: Node) -> Node:
     """The one expression of a subquery that has nothing else."""
-    match node:
-        case ast.SubLink(subLinkType=enums.SubLinkType.EXPR_SUBLINK, subselect=ast.SelectStmt(targetList=(ast.ResTarget(val=asked),)) as found):
-            return asked if not any(getattr(found, it) for it in PARTS) else None
-    return None
+    if not isinstance(node, ast.SubLink) or node.subLinkType != enums.SubLinkType.EXPR_SUBLINK or any(getattr(node.subselect, it) for it in PARTS):
+        return None
+    asked = node.subselect.targetList or ()
+    return asked[0].val if len(asked) == 1 else None
 
 
 def user_call(text: str) -> str:

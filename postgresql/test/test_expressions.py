@@ -4,8 +4,21 @@ import unittest
 
 from base import counts
 from desk import ROLES, TABLES, Desk, Shown, alike
-from expressions import (ATOMS, ATOMS_KINDS, ATOMS_OF_USERS, KINDS, OF_USERS, PEOPLE, REFUSED, REFUSED_KINDS, REFUSED_OF_USERS, REFUSED_VIEWS,
-                         THINGS, VIEWS, nested)
+from expressions import (
+    ATOMS,
+    ATOMS_KINDS,
+    ATOMS_OF_USERS,
+    KINDS,
+    OF_USERS,
+    PEOPLE,
+    REFUSED,
+    REFUSED_KINDS,
+    REFUSED_OF_USERS,
+    REFUSED_VIEWS,
+    THINGS,
+    VIEWS,
+    nested,
+)
 from server import Server, is_installed
 from users import role_of
 
