@@ -28,7 +28,7 @@ TO_15 = {"inherits": "(select rolinherit from pg_roles where oid = m.member)",
 COLLATION = {15: "case datlocprovider when 'c' then datcollate else 'icu' end",
              17: "case datlocprovider when 'c' then datcollate when 'b' then case datlocale when 'C.UTF-8' then 'C' else datlocale end else 'icu' end"}
 # Types that viewd carries. An operator or cast of the database's own for one of them may stand where PostgreSQL prints no name of it.
-CARRIED = """(t.typtype = 'e' or t.oid = any ('{{int2,int4,int8,text,varchar,bool,uuid,date,timestamp,timestamptz,numeric}}'::regtype[]))"""
+CARRIED = """(t.typtype = 'e' or t.oid = any ('{{int2,int4,int8,text,varchar,name,bool,uuid,date,timestamp,timestamptz,numeric}}'::regtype[]))"""
 OWN = 16384  # the least oid of what is not PostgreSQL's own
 RELATIONS = """
 select c.oid::bigint, n.nspname, c.relname, c.relkind::text from pg_class c join pg_namespace n on n.oid = c.relnamespace
@@ -110,6 +110,10 @@ select jsonb_build_object(
                         and (p.proname in ('count', 'sum') or exists (select from pg_cast c where c.castfunc = p.oid)
                              or exists (select from pg_operator o where o.oprcode = p.oid and o.oprname in ('=', '<>', '<', '<=', '>', '>=')))),
     'casts', exists (select from pg_cast c join pg_type t on t.oid = c.castsource where c.oid >= {own} and {carried}),
+    -- what functions answer that policies name; those of PostgreSQL's own are not among them
+    'answers', (select coalesce(jsonb_agg(distinct jsonb_build_array(n.nspname || '.' || f.proname, format_type(f.prorettype, null))), '[]')
+                from pg_policy p join pg_depend d on d.classid = 'pg_policy'::regclass and d.objid = p.oid and d.refclassid = 'pg_proc'::regclass
+                join pg_proc f on f.oid = d.refobjid join pg_namespace n on n.oid = f.pronamespace where p.polrelid in (select oid from chosen)),
     'collation', (select {collation} from pg_database where datname = current_database()),
     'server', jsonb_build_object('version', current_setting('server_version_num')::int, 'wal_level', current_setting('wal_level'),
         'user', current_user, 'encoding', current_setting('server_encoding'),
@@ -235,6 +239,7 @@ class Catalog:
     casts: bool  # and a cast of its own
     tampered: bool  # it has operators or aggregates of its own in PostgreSQL's schema
     withheld: bool  # not everybody may carry out those of PostgreSQL
+    answers: list[tuple[str, str]]  # functions that policies name, and the type of what each answers
     collation: str  # the database's
     server: Server
 
@@ -313,7 +318,8 @@ def made(connection: Connection, found: dict[str, Any], known: dict[str, str]) -
         query = of("pg_get_viewdef(oid) from pg_class where oid", int(oid), it["query"]) if it["kind"] == "v" else None
         relations[int(oid)] = Relation(**it, columns=columns, policies=policies, text=query)
     return Catalog(relations, {int(oid): Role(**it) for oid, it in found["roles"].items()}, [(role, member) for role, member in found["members"]],
-                   found["equality"], found["casts"], found["tampered"], found["withheld"], found["collation"], Server(**found["server"]))
+                   found["equality"], found["casts"], found["tampered"], found["withheld"], [(name, kind) for name, kind in found["answers"]],
+                   found["collation"], Server(**found["server"]))
 
 
 def text(connection: Connection, what: str, oid: int) -> str | None:

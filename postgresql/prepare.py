@@ -5,6 +5,7 @@ be printed is written as its number, so that no name begins a line of its own.
 """
 import re
 
+from bridge import Bridge
 from kinds import identifier
 from settings import Settings
 from state import State
@@ -23,14 +24,13 @@ def as_sql(statement: str) -> str:
     return re.sub('"(?:[^"]|"")*"', name, statement)
 
 
-def missing(state: State, settings: Settings) -> list[str]:
+def missing(state: State, settings: Settings, bridge: Bridge) -> list[str]:
     """Statements for the database's administrator, in an order in which they can be run."""
     server = state.catalog.server
     found: list[str] = []
     if server.wal_level != "logical":
         found.append("ALTER SYSTEM SET wal_level = logical;  -- and start PostgreSQL again")
-    if not server.replication:
-        found.append(f"ALTER ROLE {identifier(server.user)} REPLICATION;")
+    found += bridge.sql
     for it in state.made.values():
         found += [sql for sql in it.sql if sql not in found]
     tables = [(state.catalog.relations[oid], it) for oid, it in state.made.items() if it.request and it.request["do"] == "create_table"]
@@ -61,10 +61,10 @@ def configuration(state: State, settings: Settings) -> str:
     return "\n".join(lines) + "\n"
 
 
-def told(state: State, settings: Settings) -> tuple[str, bool]:
+def told(state: State, settings: Settings, bridge: Bridge) -> tuple[str, bool]:
     """The report of `check`, and whether all can be followed as it is."""
-    held = [it for it in state.made.values() if it.request]
-    lines = [f"PostgreSQL {state.catalog.server.version // 10_000}, as {state.catalog.server.user}"]
+    held, server = [it for it in state.made.values() if it.request], state.catalog.server
+    lines = [f"PostgreSQL {server.version // 10_000}, as {server.user}" + (f", for {bridge.name}" if bridge.name != server.user else "")]
     lines += ["", "would be followed:"] if held else ["", "nothing would be followed"]
     for it in held:
         kind = f"a table of {it.table.rows.total():,} rows" if it.table else "a view"
@@ -72,8 +72,8 @@ def told(state: State, settings: Settings) -> tuple[str, bool]:
         lines.append(f"  {it.name}: {kind}" + (f"; may be NULL, and is two: {', '.join(null)}" if null else ""))
     left = list(state.left_out())
     lines += ["", "would be left out:", *(f"  {name}: {why}" for name, why in left)] if left else []
-    late = [(it.name, why) for it in held for why in it.missing]
+    late = [(f"role {bridge.name}", why) for why in bridge.lacks] + [(it.name, why) for it in held for why in it.missing]
     lines += ["", "cannot be followed yet:", *(f"  {name}: {why}" for name, why in late)] if late else []
-    sql = missing(state, settings)
+    sql = missing(state, settings, bridge)
     said = ["", "to say in PostgreSQL:", *(f"  {as_sql(it)}" for it in sql)] if sql else []
     return "\n".join([*map(printable, lines), *said]) + "\n", bool(held) and state.is_whole() and not (late or sql)

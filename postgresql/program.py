@@ -6,6 +6,7 @@ import pathlib
 import sys
 
 import psycopg2
+from psycopg2.extensions import parse_dsn
 
 sys.path.append(str(pathlib.Path(__file__).resolve().parent.parent / "frontend"))
 
@@ -13,6 +14,7 @@ import door
 import figures
 import prepare
 from beginning import NotReady
+from bridge import bridge
 from catalog import Unsettled, connect
 from door import Ended, Kept
 from follow import Follow
@@ -24,8 +26,8 @@ GOOD, LEFT_OUT, WRONG, UNREACHED, LEFT, KEPT, INTERRUPTED = 0, 1, 2, 3, 4, 5, 13
 BEGIN = {"do": "begin", "role": "admin"}
 ROWS, LEAST, MOST = 65_536, 1_024, 1_048_576
 EPILOG = """examples:
-  viewd-postgresql check "host=127.0.0.1 dbname=desk user=viewd"
-      what viewd could have of the database, what not and why, and the SQL that is missing
+  viewd-postgresql check "host=127.0.0.1 dbname=desk user=postgres" --role viewd
+      what viewd could have of the database, what not and why, and the SQL that is missing, for a role that need not be there
   viewd-postgresql init "host=127.0.0.1 dbname=desk user=viewd" viewd.toml
       writes a configuration with all relations that it could have
   viewd-postgresql show "host=127.0.0.1 dbname=desk user=viewd" viewd.toml | ./viewd replay
@@ -58,6 +60,8 @@ def arguments(words: list[str]) -> argparse.Namespace:
             one.add_argument("--secret-file", type=pathlib.Path, help="the file that it has, too")
             one.add_argument("--status", type=int, metavar="PORT", help="of 127.0.0.1, where /state and /metrics tell how far it is")
             continue
+        if name == "check":
+            one.add_argument("--role", help="which role follow is to log in as; if left out, the user of the configuration's DSN, or else of this one")
         one.add_argument("--rows", type=int, default=ROWS, help=f"different rows of a table, as for viewd: {LEAST:,} to {MOST:,}, {ROWS:,} if left out")
     count = words.index("--") if "--" in words else len(words)
     given = parser.parse_args(words[:count])
@@ -113,22 +117,36 @@ def follow(settings: Settings, given: argparse.Namespace) -> None:
         gateway.close()
 
 
+def check(settings: Settings, given: argparse.Namespace) -> int:
+    configured = parse_dsn(read(given.config, "").dsn).get("user") if given.config else None
+    try:
+        connection = connect(settings.dsn)
+    except psycopg2.OperationalError as why:
+        if given.role is not None or "FATAL" not in str(why):
+            raise
+        raise psycopg2.OperationalError(f"{str(why).strip()}; by the DSN of an administrator, --role NAME prints what makes a role that is not there") from None
+    try:
+        found = state(connection, settings, given.rows)
+        role = given.role if given.role is not None else configured or found.catalog.server.user
+        report, good = prepare.told(found, settings, bridge(connection, found, role))
+    finally:
+        connection.close()
+    print(report, end="")
+    return GOOD if good else LEFT_OUT
+
+
 def run(given: argparse.Namespace) -> int:
     settings = read(given.config, given.dsn) if given.config and given.command != "init" else Settings(given.dsn)
     if given.command == "follow":
         follow(settings, given)
+    if given.command == "check":
+        return check(settings, given)
     connection = connect(settings.dsn)
     try:
         found = state(connection, settings, given.rows)
     finally:
         connection.close()
-    if given.command == "show":
-        return show(found)
-    if given.command == "init":
-        return init(found, settings, given.config)
-    report, good = prepare.told(found, settings)
-    print(report, end="")
-    return GOOD if good else LEFT_OUT
+    return show(found) if given.command == "show" else init(found, settings, given.config)
 
 
 def main(words: list[str]) -> int:

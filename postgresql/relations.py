@@ -6,10 +6,12 @@ from kinds import KINDS, Column, Kind, enum, identifier, name_ok
 from mirror import Table
 from predicate import Refused
 from rows import Request
+from settings import Users
 from translate import Words
 from views import COLUMNS, Source, halves, view
 
 TABLES = 64  # and as many views: viewd's limits; one of them is `viewd_source`
+ANSWERS = {"text": KINDS["text"], "character varying": KINDS["text"], "name": KINDS["text"], "uuid": KINDS["uuid"]}  # types of what tells who the user is
 STRANGE = {"p": "a partitioned table", "m": "a materialized view", "f": "a foreign table"}
 
 
@@ -24,6 +26,7 @@ class Made:
     faults: list[str] = dataclasses.field(default_factory=list)  # why it is left out
     missing: list[str] = dataclasses.field(default_factory=list)  # why it cannot be followed yet, though it can be shown
     sql: list[str] = dataclasses.field(default_factory=list)  # what would help
+    unread: bool = False  # no more is wrong with it than that the role that reads it may not
     steps: int = 1  # of a view's query
     table: Table | None = None  # its rows
     guards: list[Request] = dataclasses.field(default_factory=list)  # its row security and policies
@@ -49,10 +52,21 @@ class Names:
         return self.names.get(oid, f"viewd_role_{oid}")
 
 
-def words_of(catalog: Catalog, users: tuple[str, ...]) -> Words:
+def words_of(catalog: Catalog, users: Users) -> Words:
     """What expressions may speak of, beside columns."""
     found = {it.type: enum(it.type, it.labels) for rel in catalog.relations.values() for it in rel.columns if it.labels is not None}
-    return Words(catalog.collation, found, catalog.equality, catalog.casts, users)
+    return Words(catalog.collation, found, catalog.equality, catalog.casts, {it: answers(catalog, it) for it in users.calls}, users.names)
+
+
+def answers(catalog: Catalog, call: str) -> Kind | None:
+    """What a call answers by which users are told; of PostgreSQL's own functions that is a text, or `check_calls` has refused it."""
+    kinds = {ANSWERS.get(kind) for function, kind in catalog.answers if function == function_of(call)} or {KINDS["text"]}
+    return kinds.pop() if len(kinds) == 1 else None
+
+
+def function_of(call: str) -> str:
+    name = call.split("(")[0]
+    return name if "." in name else f"pg_catalog.{name}"
 
 
 def kind_of(it: Attribute) -> Kind | None:
@@ -101,12 +115,12 @@ def table(rel: Relation, made: Made, chosen: list[str] | None, roles: Names, use
         made.faults.append("it is temporary or unlogged, and is not replicated")
     if rel.parts:
         made.faults.append("it has parts or is one (inheritance, partitions): a SELECT of it shows rows of others")
+    fits = not made.faults
     if not rel.readable:
-        made.faults.append(f"the bridge may not read it: say GRANT pg_read_all_data to its role, or SELECT on {rel.sql} and USAGE on its schema")
-        made.sql.append(f"GRANT pg_read_all_data TO {identifier(user)};")
+        made.faults.append(f"the role {user} may not read it: say GRANT SELECT ON {rel.sql} TO .., and USAGE ON its schema")
     if rel.bound:
-        made.faults.append("policies bind the bridge's role, so it cannot see all rows: say ALTER ROLE .. BYPASSRLS")
-        made.sql.append(f"ALTER ROLE {identifier(user)} BYPASSRLS;")
+        made.faults.append(f"policies bind the role {user}, so it cannot see all rows: say ALTER ROLE .. BYPASSRLS")
+    made.unread = fits and bool(made.faults)
     if not made.identified(rel):
         made.missing.append(f"its deleted rows are not replicated whole, nor by a key that is followed: say ALTER TABLE {rel.sql} REPLICA IDENTITY FULL")
     if not rel.published:

@@ -1,5 +1,6 @@
 """Who may read what, in viewd's words: roles, memberships, grants, row security and policies."""
 import dataclasses
+import itertools
 from collections.abc import Callable, Iterable, Iterator
 from typing import TypeVar
 
@@ -9,7 +10,8 @@ from predicate import Refused
 from relations import Made, Names, close, collated
 from rows import Request
 from settings import Users
-from translate import Words, policy
+from translate import Words
+from users import role_of, texts
 
 ROLES, POLICIES, TO = 255, 32, 16  # viewd's limits: roles beside admin, policies of a table, roles of a policy
 NO_NAME = "its name is none of viewd's: nobody can be it; its members have what it has"
@@ -48,10 +50,10 @@ def rights(catalog: Catalog, made: dict[int, Made], users: Users) -> Rights:
     names, found = Names(catalog), Rights()
     for oid, it in catalog.roles.items():
         found.roles.append(names[oid])
-        if names[oid] not in names.own:
-            found.left_out[f"role {it.name}"] = NO_NAME
-        elif it.super or it.bypass:
+        if it.super or it.bypass:
             found.left_out[f"role {it.name}"] = NOT_BOUND
+        elif names[oid] not in names.own:
+            found.left_out[f"role {it.name}"] = NO_NAME
         elif users.role:
             found.left_out[f"role {it.name}"] = NO_USER
         elif not it.name.startswith("pg_"):
@@ -75,12 +77,12 @@ def with_users(catalog: Catalog, users: Users, names: Names, found: Rights) -> N
         found.left_out[f"role {users.role}"] = "there is no such role" if role is None else NO_USERS
         return
     for user in users.names if role is not None else ():
-        if user in found.roles:
+        if (name := role_of(user)) in found.roles:
             found.left_out[f"user {user}"] = "a role of PostgreSQL has this name: nobody can be it"
             continue
-        found.roles.append(user)
-        found.readers.add(user)
-        found.members.append((names[role or 0], user))
+        found.roles.append(name)
+        found.readers.add(name)
+        found.members.append((names[role or 0], name))
 
 
 def selecting(catalog: Catalog, rel: Relation, reached: Callable[[int], set[int]]) -> set[int]:
@@ -123,12 +125,13 @@ def guarded(catalog: Catalog, rel: Relation, made: Made, words: Words) -> list[R
 
 
 def policies(it: Policy, made: Made, words: Words, names: Names) -> list[Request]:
-    """One for each 16 roles: each role is bound by one of them."""
+    """One for each 16 roles, each role bound by one of them, and for as many users as a text can have."""
     if it.text is None:
         raise Refused("")
-    using, to, found = policy(it.text, made.columns, words), [names[role] for role in it.roles if role in names.names], []
-    for part in range(0, len(to), TO):
-        name = it.name if name_ok(it.name) and part == 0 and not it.name.startswith("viewd_") else f"viewd_policy_{it.oid}_{part}"
+    parts, to, found = texts(it.text, made.columns, words, it.restrictive), [names[role] for role in it.roles if role in names.names], []
+    for part, (number, using) in itertools.product(range(0, len(to), TO), enumerate(parts)):
+        is_own = part == number == 0 and name_ok(it.name) and not it.name.startswith("viewd_")
+        name = it.name if is_own else f"viewd_policy_{it.oid}_{part}" + (f"_{number}" if number else "")
         found.append({"do": "create_policy", "on": made.name, "name": name, "restrictive": it.restrictive, "command": "select",
                       "to": to[part:part + TO], "using": using})
     return found

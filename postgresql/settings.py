@@ -4,9 +4,10 @@ import tomllib
 from collections.abc import Iterator
 from typing import Any, NamedTuple
 
-from kinds import name_ok
+from kinds import UUID, name_ok
 from predicate import Refused
 from translate import user_call
+from users import role_of
 
 KEYS = {"postgres": {"dsn", "slot", "publication"}, "relations": None, "columns": None, "users": {"role", "calls", "names"}}
 
@@ -73,7 +74,10 @@ def made(said: dict[str, Any], dsn: str) -> Settings:
         calls = tuple(user_call(it) for it in users.get("calls", []))
     except Refused as why:
         raise Wrong(f"calls: {why}") from None
-    if odd_names := [it for it in users.get("names", []) if not name_ok(it) or it in ("admin", "public")]:
-        raise Wrong(f"names: {odd_names[0]} is no name of viewd's")
+    names = users.get("names", [])
+    if odd_names := [it for it in names if not UUID.fullmatch(it) and not name_ok(it) or it in ("admin", "public")]:
+        raise Wrong(f"names: {odd_names[0]} is no name of viewd's, nor a uuid as PostgreSQL prints it")
+    if len(set(map(role_of, names))) < len(names):
+        raise Wrong("names: two of them are one")
     return Settings(dsn or own.get("dsn", ""), own.get("slot", "viewd"), own.get("publication", "viewd"), said.get("relations"),
-                    said.get("columns", {}), Users(users.get("role", ""), calls, tuple(users.get("names", []))))
+                    said.get("columns", {}), Users(users.get("role", ""), calls, tuple(names)))

@@ -4,13 +4,14 @@ from collections.abc import Callable, Iterator
 
 import rows
 from catalog import RELATIONS, TRIES, Catalog, Connection, Relation, Unsettled, asked, read
+from kinds import UUID
 from mirror import Table
-from relations import Made, close, tables, views, words_of
+from relations import ANSWERS, Made, close, function_of, tables, views, words_of
 from rights import NOT_BOUND, ROLES, Rights, granted, guarded, rights
 from rows import Request, Write
 from settings import Settings, Users, Wrong
 
-ANSWERS = """select distinct format_type(p.prorettype, null) from pg_proc p join pg_namespace n on n.oid = p.pronamespace
+ANSWERING = """select distinct format_type(p.prorettype, null) from pg_proc p join pg_namespace n on n.oid = p.pronamespace
              where n.nspname || '.' || p.proname = %(name)s"""
 
 
@@ -48,7 +49,7 @@ class State:
 
 
 def named(connection: Connection, settings: Settings) -> dict[int, str]:
-    """viewd's names of relations, by oid. Raises Wrong if one that is named is not there, two are one, or a call answers no text."""
+    """viewd's names of relations, by oid. Raises Wrong if one that is named is not there, two are one, or a call answers no user."""
     check_calls(connection, settings.users)
     found: list[tuple[int, str]] = []
     if settings.relations is None:
@@ -69,13 +70,15 @@ def named(connection: Connection, settings: Settings) -> dict[int, str]:
 
 
 def check_calls(connection: Connection, users: Users) -> None:
-    """viewd's users are texts, and so is what tells who the user is. Raises Wrong."""
+    """viewd's users are texts or uuids, and so is what tells who the user is. Raises Wrong."""
     for call in users.calls:
-        name = call.split("(")[0]
-        of = name if "." in name else f"pg_catalog.{name}"
-        kinds = {str(it[0]) for it in asked(connection, ANSWERS, {"name": of})}
-        if not kinds <= {"text", "character varying", "name"} or not kinds:
-            raise Wrong(f"[users] {call} answers {', '.join(sorted(kinds)) or 'nothing: there is no such function'}; viewd's users are texts")
+        function = function_of(call)
+        kinds = {str(it[0]) for it in asked(connection, ANSWERING, {"name": function})}
+        if not kinds <= set(ANSWERS) or not kinds or "uuid" in kinds and (len(kinds) > 1 or function.startswith("pg_catalog.")):
+            raise Wrong(f"[users] {call} answers {', '.join(sorted(kinds)) or 'nothing: there is no such function'}; "
+                        "viewd's users are texts, or uuids of a function of the database's own")
+        if "uuid" in kinds and (odd := [it for it in users.names if not UUID.fullmatch(it)]):
+            raise Wrong(f"[users] {call} answers a uuid, and {odd[0]} is none as PostgreSQL prints it")
 
 
 def state(connection: Connection, settings: Settings, most: int) -> State:
@@ -99,7 +102,7 @@ def said(catalog: Catalog, names: dict[int, str], settings: Settings, held: Call
         raise Unsayable("EXECUTE on operators, casts or aggregates of PostgreSQL is taken from PUBLIC, which viewd cannot say")
     if of_views := [name for oid, name in names.items() if name in settings.columns and oid in catalog.relations and catalog.relations[oid].kind != "r"]:
         raise Wrong(f"[columns] {of_views[0]}: it is no table")
-    words = words_of(catalog, settings.users.calls)
+    words = words_of(catalog, settings.users)
     made = tables(catalog, names, settings.columns)
     for oid, it in made.items():
         rel = catalog.relations.get(oid)

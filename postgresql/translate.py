@@ -15,13 +15,16 @@ import pglast
 from pglast import ast, enums
 
 from kinds import BYTEWISE, CASTS, KINDS, Column, Kind, constant
-from predicate import FALSE, OPPOSITE, TRUE, Atom, Refused, Test, every, fit, negated, some, written
+from predicate import FALSE, OPPOSITE, TRUE, Atom, Refused, Test, every, negated, some
 
 Node = Any  # pglast has no types
 OPERATORS: dict[str, Callable[[Any, Any], bool]] = {"=": operator.eq, "<>": operator.ne, "<": operator.lt, "<=": operator.le,
                                                     ">": operator.gt, ">=": operator.ge}
+USER = "current_user"  # who the user of a session is
 STEPS = 20_000  # looks at a part of an expression, after which it is refused
 TESTS = enums.BoolTestType
+PARTS = ("distinctClause", "intoClause", "fromClause", "whereClause", "groupClause", "havingClause", "windowClause", "valuesLists", "sortClause", "limitOffset",
+         "limitCount", "lockingClause", "withClause", "op")  # of a SELECT, beside what it asks
 
 
 class Words(NamedTuple):
@@ -31,7 +34,8 @@ class Words(NamedTuple):
     enums: Mapping[str, Kind] = {}  # by schema.name
     equality: bool = False  # the database has an operator = of its own, which may be meant if none is printed
     casts: bool = False  # and a cast of its own
-    users: Sequence[str] = ()  # calls that tell who the user of a session is, as `call` writes them
+    users: Mapping[str, Kind | None] = {}  # calls that tell who the user of a session is, as `call` writes them: what each answers
+    names: Sequence[str] = ()  # the users
 
 
 class Value(NamedTuple):
@@ -102,6 +106,14 @@ def call(node: Node) -> str | None:
     return f"{'.'.join(it.sval for it in node.funcname)}({', '.join(said_of)})"
 
 
+def plain_subquery(node: Node) -> Node:
+    """The one expression of a subquery that has nothing else."""
+    if not isinstance(node, ast.SubLink) or node.subLinkType != enums.SubLinkType.EXPR_SUBLINK or any(getattr(node.subselect, it) for it in PARTS):
+        return None
+    asked = node.subselect.targetList or ()
+    return asked[0].val if len(asked) == 1 else None
+
+
 def user_call(text: str) -> str:
     """The form of a call that the configuration names. Raises Refused if it is none."""
     node = parsed(f"select {text}")
@@ -116,6 +128,7 @@ class Reader:
 
     def __init__(self, columns: Mapping[str, Column], words: Words, policy: bool):
         self.columns, self.words, self.policy, self.steps = columns, words, policy, 0
+        self.as_uuid = False  # who the user is, is asked for as a uuid
 
     def find(self, node: Node) -> tuple[str, Column]:
         """The text of a column that a reference means."""
@@ -313,9 +326,11 @@ class Reader:
                 raise Refused("NULL without a type")
             case ast.SQLValueFunction(op=enums.SQLValueFunctionOp.SVFOP_CURRENT_USER | enums.SQLValueFunctionOp.SVFOP_CURRENT_ROLE
                                       | enums.SQLValueFunctionOp.SVFOP_USER) if self.policy and not self.words.users:
-                return Value("current_user", KINDS["text"], collation="C")
+                return Value(USER, KINDS["text"], collation="C")
             case ast.FuncCall() if self.policy and call(node) in self.words.users:
-                return Value("current_user", KINDS["text"])
+                return self.user(self.words.users[call(node) or ""])
+            case ast.SubLink() if self.policy and call(plain_subquery(node)) in self.words.users:
+                return self.operand(plain_subquery(node))
             case ast.CollateClause():
                 found = self.operand(node.arg)
                 name = ".".join(it.sval for it in node.collname)  # with a schema it is not PostgreSQL's own
@@ -329,6 +344,12 @@ class Reader:
                 if found.kind.family == "int" and found.text.isdigit():
                     return self.number(-int(found.text))
         raise Refused(said(node))
+
+    def user(self, kind: Kind | None) -> Value:
+        if kind is None:
+            raise Refused("a call that answers neither a text nor a uuid")
+        self.as_uuid |= kind.family == "uuid"
+        return Value(USER, kind)
 
     @staticmethod
     def number(number: int) -> Value:
@@ -351,7 +372,9 @@ class Reader:
                 if kind:
                     return Value(constant(kind, text), kind)
         found = self.operand(node.arg)
-        if found.text == "current_user" and name not in ("text", "varchar", "name"):
+        if found.text == USER and name == "uuid" and self.words.users and not self.words.casts:
+            return self.user(kind)
+        if found.text == USER and name not in ("text", "varchar", "name"):
             raise Refused(f"a cast of the user's name to {name}: in viewd it is a text")
         if name == "name" and found.kind.family == "text" and not found.column:
             return found._replace(collation="C", explicit=False)
@@ -366,10 +389,11 @@ class Reader:
         raise Refused(said(node))
 
 
-def policy(expression: str, columns: Mapping[str, Column], words: Words) -> str:
-    """The text for `using`: true exactly where the expression is true. Raises Refused."""
+def says(expression: str, columns: Mapping[str, Column], words: Words) -> tuple[Test, bool]:
+    """What a policy says: true exactly where the expression is true, USER being who the user is; and whether that is asked for as a uuid.
+    Raises Refused."""
     try:
-        statement = parsed(f"select where {expression}")
-        return fit(written(Reader(columns, words, True).says(statement.whereClause, True)))
+        reader = Reader(columns, words, True)
+        return reader.says(parsed(f"select where {expression}").whereClause, True), reader.as_uuid
     except RecursionError:
         raise Refused("it is nested too deep") from None

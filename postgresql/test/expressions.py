@@ -224,6 +224,35 @@ short = current_user
 short <> owner
 short::text = 'B'
 short is not distinct from owner""".split("\n")
+PEOPLE = ("10000000-0000-4000-8000-00000000000a", "a0000000-0000-4000-8000-000000000001", "a0000000-0000-4000-8000-000000000002")  # users, of whom the last has no row
+OF_USERS = """key = auth.uid()
+auth.uid() = key
+(select auth.uid()) = key
+key <> auth.uid()
+not key = auth.uid()
+key is distinct from auth.uid()
+key is not distinct from (select auth.uid() as uid)
+(key = auth.uid()) is not true
+(key = auth.uid()) is unknown
+key < auth.uid()
+key >= auth.uid()
+key in (auth.uid(), 'a0000000-0000-4000-8000-000000000001')
+auth.uid() not in (key, null)
+auth.uid() = 'A0000000-0000-4000-8000-000000000001'
+auth.uid() is not null
+coalesce(key, auth.uid()) = auth.uid()
+case when key = auth.uid() then owner = 'ann' else small = 1 end
+key::text = auth.uid()::text
+key = current_setting('request.sub')::uuid
+key = current_setting('request.sub')::text::uuid
+key::text = current_setting('request.sub')
+owner <> current_setting('request.sub')
+current_setting('request.sub') in (key::text, owner)
+mood = 'sad' and (key = auth.uid() or owner = 'bob')
+small = 1""".split("\n")
+REFUSED_OF_USERS = [("exists (select auth.uid())", "a subquery"), ("key = (select auth.uid() limit 1)", "a subquery"), ("key = (select auth.uid() where small = 1)", "a subquery"), ("key in (select auth.uid())", "a subquery"),
+                    ("key = auth.other()", "the function auth.other"), ("owner = current_user", "CURRENT_USER"), ("owner = auth.uid()::varchar(5)", "a cast to varchar with a length"), ("small = current_setting('request.sub')::smallint", "a cast of the user's name to int2"),
+                    ("key::text < auth.uid()::text", "viewd orders texts by their bytes")]
 REFUSED = [  # a policy, and words of the refusal
     ("note like 'a%'", "the operator ~~"), ("n + 1 = 2", "the operator +"), ("length(note) = 1", "the function length"),
     ("exists (select from people p where p.name = owner)", "a subquery"), ("owner in (select name from people)", "a subquery"),
@@ -301,6 +330,7 @@ REFUSED_VIEWS = [
     ("select id, row_number() over () as r from things", "the function row_number"), ("select distinct on (owner) id from things", "DISTINCT ON"), ("select day from things union select at::date from kinds", "a cast to date"),
     ("select day from things where note < 'b'", "viewd orders texts by their bytes"), ("select amount from things union select id from things", "is of two kinds"), ("select sum(amount) as it, owner from things group by owner", "sum of things.amount, which may be NULL")]
 ATOMS = [it for it in THINGS if it != "null" and "(" not in it and " or " not in it and " and " not in it and "array" not in it]
+ATOMS_OF_USERS = [it for it in OF_USERS if " or " not in it and "case" not in it and "coalesce" not in it]
 ATOMS_KINDS = [it for it in KINDS if "(" not in it and " or " not in it]
 SHAPES = ["({} and {})", "({} or {})", "not ({})", "({} or not {})", "({}) is true", "({}) is not true", "({}) is not false", "({}) is unknown", "(({}) = ({}))", "(({}) <> ({}))", "(({}) < ({}))",
           "(({}) is distinct from ({}))", "(({}) is not distinct from ({}))", "coalesce({}, {})", "case when {} then {} else {} end", "case when {} then {} end", "({}) is null"]

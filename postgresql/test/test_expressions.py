@@ -4,11 +4,31 @@ import unittest
 
 from base import counts
 from desk import ROLES, TABLES, Desk, Shown, alike
-from expressions import ATOMS, ATOMS_KINDS, KINDS, REFUSED, REFUSED_KINDS, REFUSED_VIEWS, THINGS, VIEWS, nested
+from expressions import (
+    ATOMS,
+    ATOMS_KINDS,
+    ATOMS_OF_USERS,
+    KINDS,
+    OF_USERS,
+    PEOPLE,
+    REFUSED,
+    REFUSED_KINDS,
+    REFUSED_OF_USERS,
+    REFUSED_VIEWS,
+    THINGS,
+    VIEWS,
+    nested,
+)
 from server import Server, is_installed
+from users import role_of
 
 BATCH = 45  # tables at once: viewd can have 64
 LIKELY = ("its text has more than", "too long", "parentheses open at once")
+USERS = f"""[users]
+role = "app"
+calls = ["auth.uid()", "current_setting('request.sub')"]
+names = {list(PEOPLE)}
+"""
 options = {"random": 45, "seed": 1}
 
 
@@ -30,23 +50,24 @@ class Expressions(unittest.TestCase):
         self.desk.do("""do $$ declare it text; begin for it in select oid::regclass from pg_class where relname ~ '^[pv][0-9]+$' order by relname desc loop
                      execute 'drop ' || case left(it, 1) when 'p' then 'table ' else 'view ' end || it; end loop; end $$""")
 
-    def compare(self, names: dict[str, str]) -> dict[str, str]:
-        """Compares what is shown of relations; answers why others are left out. `names` says of each what it was made from."""
-        done = self.desk.program("show")
+    def compare(self, names: dict[str, str], users: tuple[str, ...] = ()) -> dict[str, str]:
+        """Compares what is shown of relations to roles, or to users; answers why others are left out. `names` says of each what it was made from."""
+        done = self.desk.program("show", config=USERS if users else None)
         left = dict(line.removeprefix("viewd-postgresql: ").split(" is left out: ", 1) for line in done.stderr.splitlines())
-        shown = Shown(done.stdout, ROLES)
+        readers = {role_of(it): ("app", f"set local request.sub = '{it}'") for it in users} or {it: (it,) for it in ROLES}
+        shown = Shown(done.stdout, tuple(readers))
         self.assertEqual(shown.refused, [], "viewd refused what show said")
         for name, text in names.items():
             counts["expressions"] += 1
             if name in left:
                 continue
             counts["said"] += 1
-            for role in ROLES:
+            for reader, (role, *before) in readers.items():
                 counts["relations"] += 1
-                self.assertEqual(alike(shown.rows[role, name]), alike(self.desk.seen(role, name)), (role, text))
+                self.assertEqual(alike(shown.rows[reader, name]), alike(self.desk.seen(role, name, *before)), (reader, text))
         return {name: why for name, why in left.items() if name in names}
 
-    def policies(self, table: str, texts: list[str]) -> dict[str, str]:
+    def policies(self, table: str, texts: list[str], users: tuple[str, ...] = ()) -> dict[str, str]:
         """Why those that are refused are."""
         why: dict[str, str] = {}
         for start in range(0, len(texts), BATCH):
@@ -54,7 +75,7 @@ class Expressions(unittest.TestCase):
             for name, text in names.items():
                 self.desk.do(f"""create table {name} (like {table}); insert into {name} select * from {table}; grant select on {name} to public;
                                  alter table {name} enable row level security; create policy p on {name} using ({text})""")
-            why |= {names[name]: fault for name, fault in self.compare(names).items()}
+            why |= {names[name]: fault for name, fault in self.compare(names, users).items()}
             self.tearDown()
         return why
 
@@ -72,6 +93,20 @@ class Expressions(unittest.TestCase):
             why = self.policies(table, [text for text, _ in refused])
             for text, words in refused:
                 self.assertIn(words, why.get(text, "said"), text)
+
+    def test_policies_of_users_who_are_uuids(self) -> None:
+        self.desk.do("""create role app; create schema auth; grant usage on schema auth to public; create function auth.uid() returns uuid language sql stable as $$ select current_setting('request.sub')::uuid $$;
+            create function auth.other() returns uuid language sql stable as $$ select null::uuid $$""")
+        self.addCleanup(self.desk.do, "drop schema auth cascade", "drop role app")
+        self.assertEqual(self.policies("kinds", OF_USERS, PEOPLE), {})
+        why = self.policies("kinds", [text for text, _ in REFUSED_OF_USERS], PEOPLE)
+        for text, words in REFUSED_OF_USERS:
+            self.assertIn(words, why.get(text, "said"), text)
+        r = random.Random(options["seed"] + 3)
+        texts = list({nested(r, ATOMS_OF_USERS, 2): None for _ in range(options["random"])})
+        why = self.policies("kinds", texts, PEOPLE)
+        self.assertEqual({text: fault for text, fault in why.items() if not any(it in fault for it in LIKELY)}, {})
+        self.assertLess(len(why), len(texts) // 2 + 1)
 
     def test_policies_nested_at_random(self) -> None:
         r = random.Random(options["seed"])

@@ -6,6 +6,7 @@ import unittest.mock
 import catalog
 from base import Base, counts
 from desk import ROLES, Desk, Shown, alike
+from users import role_of
 
 NAMES = ["ann", "bob", "eve", "team", "lead", "boss"]
 USERS = """[users]
@@ -45,6 +46,17 @@ CHANGES = ["create role newcomer", "alter role newcomer noinherit", "grant newco
            "alter table marked enable row level security", "alter table marked force row level security", "grant select on marked to zed", "grant usage on schema public to zed", "alter table marked alter column id drop not null",
            "alter type public.feeling rename value 'sad' to 'blue'", "alter table marked replica identity full", "create publication viewd for table marked", "alter publication viewd drop table marked",
            "alter role newcomer bypassrls", "drop policy p on marked", "alter table marked owner to zed"]
+UUID = "0a000000-0000-4000-8000-00000000000b"
+NEEDED = """[relations]
+notes = "public.notes"
+kept = "public.kept"
+inner_one = '"In ner".inner_one'
+"""
+
+
+def statements(report: str) -> list[str]:
+    """Those that `check` prints."""
+    return re.findall(r"^  ([A-Z].*;)(?:  --.*)?$", report.partition("to say in PostgreSQL:")[2], re.M)
 
 
 class Program(Base):
@@ -57,7 +69,7 @@ class Program(Base):
             if done.returncode == 0:
                 break
             self.assertEqual(done.returncode, 1, done.stderr)
-            self.desk.do(*re.findall(r"^  ([A-Z].*;)(?:  --.*)?$", done.stdout.partition("to say in PostgreSQL:")[2], re.M))
+            self.desk.do(*statements(done.stdout))
         self.assertEqual((done.returncode, done.stderr), (0, ""), done.stdout)
         self.assertIn("  notes: a table of 1 rows; may be NULL, and is two: who\n  mine: a view; may be NULL, and is two: who\n  plain: a view\n", done.stdout)
         self.assertNotIn("to say", done.stdout)
@@ -84,22 +96,68 @@ class Program(Base):
     def test_a_role_that_policies_bind_reads_nothing(self) -> None:
         self.desk.do("create role bridge login; create table notes (id int not null); alter table notes enable row level security; grant select on notes to bridge; create policy p on notes using (false)")
         done = self.desk.program("check", dsn=self.desk.dsn.replace("user=postgres", "user=bridge"))
-        self.assertIn("notes: policies bind the bridge's role, so it cannot see all rows: say ALTER ROLE .. BYPASSRLS", done.stdout)
-        self.assertIn("ALTER ROLE bridge BYPASSRLS;", done.stdout)
+        self.assertIn("notes: policies bind the role bridge, so it cannot see all rows: say ALTER ROLE .. BYPASSRLS", done.stdout)
+        self.assertIn("ALTER ROLE bridge REPLICATION BYPASSRLS;", done.stdout)
+
+    def test_a_role_that_is_not_there(self) -> None:
+        """An administrator asks. What is printed makes the role, and nothing is missing then; it gives no more than is needed."""
+        self.desk.do(f"""create table notes (id int primary key, who text); alter table notes enable row level security; create policy p on notes using (who = current_user); insert into notes values (1, 'a');
+            create table kept (id int primary key); create schema "In ner"; create table "In ner".inner_one (id int primary key); create table more (id int primary key); revoke connect on database {self.name} from public""")
+        for role, written in (("viewd", "viewd"), ('The "odd"\nBridge', 'U&"The ""odd""\\+00000aBridge"'), ("user", '"user"')):
+            own = self.desk.dsn.replace("user=postgres", f"user='{role}'")
+            done = self.desk.program("check", "--role", role, config=NEEDED)
+            self.assertEqual(done.returncode, 1, done.stderr)
+            self.assertRegex(done.stdout, "^PostgreSQL [0-9]+, as postgres, for [^\n]+\n")
+            self.assertIn("Bridge: there is no such role\n" if "odd" in role else f"  role {role}: there is no such role\n", done.stdout)
+            self.assertEqual([it for it in statements(done.stdout) if "PUBLICATION" not in it], [
+                f"CREATE ROLE {written} LOGIN REPLICATION BYPASSRLS;", f"GRANT CONNECT ON DATABASE {self.name} TO {written};",
+                f'GRANT USAGE ON SCHEMA "In ner" TO {written};', f'GRANT SELECT ON public.notes, public.kept, "In ner".inner_one TO {written};'])
+            refused = self.desk.program("check", dsn=own, config=NEEDED)
+            self.assertEqual((refused.returncode, refused.stdout), (3, ""))
+            self.assertRegex(refused.stderr, "does not exist; by the DSN of an administrator, --role NAME prints what makes a role that is not there\n$")
+            self.desk.do(*statements(done.stdout))
+            for words, dsn in ((("check", "--role", role), None), (("check",), own), (("show",), own)):
+                done = self.desk.program(*words, config=NEEDED, dsn=dsn)
+                self.assertEqual(done.returncode, 0, done.stdout + done.stderr)
+        done = self.desk.program("check", "--role", "viewd")
+        self.assertEqual([it for it in statements(done.stdout) if "PUBLICATION" not in it], ["GRANT SELECT ON public.more TO viewd;"])
+        for role in ("pg_more", "public", ""):
+            self.assertEqual(self.desk.program("check", "--role", role).returncode, 2)
+
+    def test_a_role_that_lacks_something(self) -> None:
+        """Each of what it needs, for the role of the configuration; its owner is bound by policies if they are forced."""
+        self.desk.do("create role viewd login replication; create role team; create table notes (id int primary key, who text); create publication viewd for table notes; grant select on notes to team; grant team to viewd")
+        config = '[postgres]\ndsn = "dbname=x user=viewd"\n'
+        for statement, words, sql in (
+                ("select 1", "", ""), ("alter role viewd nologin", "it may not log in", "ALTER ROLE viewd LOGIN;"), ("alter role viewd noreplication", "it has no REPLICATION", "ALTER ROLE viewd REPLICATION;"),
+                (f"revoke connect on database {self.name} from public", f"it may not connect to the database {self.name}", f"GRANT CONNECT ON DATABASE {self.name} TO viewd;"),
+                ("revoke usage on schema public from public", "it may not use the schema public", "GRANT USAGE ON SCHEMA public TO viewd;"),
+                ("revoke select on notes from team", "it may not read public.notes", "GRANT SELECT ON public.notes TO viewd;"),
+                ("alter table notes owner to team; alter table notes enable row level security", "", ""),
+                ("alter table notes force row level security", "policies bind it, so it cannot see all rows of public.notes", "ALTER ROLE viewd BYPASSRLS;"),
+                ("alter role viewd noinherit nobypassrls; alter table notes no force row level security", "policies bind it, so it cannot see all rows of public.notes", "ALTER ROLE viewd BYPASSRLS;"),
+                ("alter role viewd nologin nobypassrls superuser noreplication", "it may not log in", "ALTER ROLE viewd LOGIN;")):
+            self.desk.do(statement)
+            done = self.desk.program("check", config=config)
+            self.assertEqual((done.returncode, statements(done.stdout)), (1, [sql]) if sql else (0, []), statement)
+            self.assertEqual("  role viewd: " in done.stdout, bool(sql), statement)
+            self.assertIn(f"  role viewd: {words}\n" if sql else "as postgres, for viewd\n", done.stdout)
+            self.desk.do(*statements(done.stdout))
 
     def test_statements_name_things_as_sql_does(self) -> None:
         self.desk.do('create role "The Bridge" login; create table texts ("user" varchar(5) not null, "user_null" int); alter table texts enable row level security',
                      "create policy p on texts using (\"user\" < 'b')", 'create table "Mixed Case" (id int not null)', 'grant select on texts to "The Bridge"')
         done = self.desk.program("check", dsn=self.desk.dsn.replace("user=postgres", "user='The Bridge'"), config='[postgres]\npublication = "select"\n[relations]\ntexts = "public.texts"\nmixed = "public.\\"Mixed Case\\""')
-        self.assertIn('GRANT pg_read_all_data TO "The Bridge";', done.stdout)
-        self.assertIn('ALTER ROLE "The Bridge" BYPASSRLS;', done.stdout)
-        self.assertIn('ALTER ROLE "The Bridge" REPLICATION;', done.stdout)
-        self.desk.do(*re.findall(r"^  ([A-Z].*;)(?:  --.*)?$", done.stdout.partition("to say in PostgreSQL:")[2], re.M))
+        self.assertIn('GRANT SELECT ON public."Mixed Case" TO "The Bridge";', done.stdout)
+        self.assertIn('ALTER ROLE "The Bridge" REPLICATION BYPASSRLS;', done.stdout)
+        self.desk.do(*statements(done.stdout))
         done = self.desk.program("check", config='[postgres]\npublication = "select"\n[relations]\ntexts = "public.texts"\nmixed = "public.\\"Mixed Case\\""')
         self.assertIn('ALTER TABLE public.texts ALTER COLUMN "user" TYPE character varying(5) COLLATE "C";', done.stdout)
         self.assertIn('CREATE PUBLICATION "select" FOR TABLE public."Mixed Case";', done.stdout)
 
     def test_a_configuration(self) -> None:
+        self.desk.do("create schema own; create function own.id() returns uuid language sql as $$ select null::uuid $$; create function own.either() returns uuid language sql as $$ select null::uuid $$",
+                     "create function own.either(int) returns text language sql as $$ select 'x' $$")
         self.desk.do("create table notes (id int not null, who text, doc jsonb); create schema other; create table other.notes (id int not null); insert into notes values (1, 'a'), (2, null), (2, null); create role ann")
         path = self.desk.room() / "made.toml"
         path.unlink(missing_ok=True)
@@ -117,7 +175,12 @@ class Program(Base):
                             ("x", "config.toml"), ("[relations]\nx = 'public.notes'\ny = 'public.notes'", "two relations have one oid: name them in [relations]"), ("[columns]\nx = ['y']", "[columns] x: there is no such relation"),
                             ("[users]\nrole = 'x'", "[users] needs role and calls"), ("[users]\nrole = 'x'\ncalls = ['now() + 1']", "is no call with constants alone"),
                             ("[users]\nrole = 'x'\ncalls = ['gen_random_uuid()']", "answers uuid; viewd's users are texts"), ("[users]\nrole = 'x'\ncalls = ['own.f()']", "there is no such function"),
-                            ("[users]\nrole = 'x'\ncalls = ['current_setting()']\nnames = ['Ann']", "Ann is no name of viewd's")):
+                            ("[users]\nrole = 'x'\ncalls = ['current_setting()']\nnames = ['Ann']", "Ann is no name of viewd's"),
+                            ("[users]\nrole = 'x'\ncalls = ['own.id()']\nnames = ['ann']", "own.id() answers a uuid, and ann is none as PostgreSQL prints it"),
+                            *((f"[users]\nrole = 'x'\ncalls = ['own.id()']\nnames = ['{it}']", f"{it} is no name of viewd's, nor a uuid as PostgreSQL prints it")
+                              for it in (UUID.upper(), f"{{{UUID}}}", UUID.replace("-", ""), UUID[:-1])),
+                            ("[users]\nrole = 'x'\ncalls = ['own.either()']", "own.either() answers text, uuid; viewd's users are texts, or uuids of a function of the database's own"),
+                            (f"[users]\nrole = 'x'\ncalls = ['own.id()']\nnames = ['{UUID}', 'u_{UUID.replace('-', '_')}']", "names: two of them are one")):
             done = self.desk.program("show", config=text)
             self.assertEqual((done.returncode, done.stdout), (2, ""), text)
             self.assertIn(words, done.stderr)
@@ -172,12 +235,31 @@ class Program(Base):
         done = self.desk.program("show", config=USERS)
         self.assertEqual(done.returncode, 1)
         for words in ("user ann is left out: a role of PostgreSQL has this name: nobody can be it", "me is left out: its policy p cannot be said in viewd's words: CURRENT_USER",
-                      "role app is left out: nobody can be it: with [users] sessions are those of users", "key is left out: its policy p cannot be said in viewd's words: a cast of the user's name to uuid: in viewd it is a text"):
+                      "role app is left out: nobody can be it: with [users] sessions are those of users", "key is left out: its policy p cannot be said in viewd's words: a uuid is asked for, and the user mia is none as PostgreSQL prints it"):
             self.assertIn(words, done.stderr)
         shown = Shown(done.stdout, ("mia", "noah"))
         self.assertEqual(set(shown.names), {"notes"})
         self.same(shown, ("mia", "noah"), {it: [f"select set_config('app.user', '{it}', true)"] for it in ("mia", "noah")})
         self.assertTrue(shown.rows["mia", "notes"])
+
+    def test_many_users_who_are_uuids(self) -> None:
+        """A policy is several then. A restrictive one is so for who is none of the users too, whatever the name."""
+        users = [f"{it:08x}-0000-4000-8000-00000000000a" for it in range(0, 16_000, 80)]
+        self.desk.do("""create role app; create role zoe; grant app to zoe; create role "u_0"; grant app to "u_0"; create schema auth; grant usage on schema auth to public;
+            create function auth.uid() returns uuid language sql stable as $$ select nullif(current_setting('app.user', true), '')::uuid $$;
+            create table notes (key uuid, who text); insert into notes select null, 'all'; grant select on notes to app; alter table notes enable row level security;
+            create policy own on notes using (true); create policy strict on notes as restrictive using (key = (select auth.uid()) or who = auth.uid()::text)""",
+                     *(f"insert into notes values ('{it}', 'x'), (null, '{it}')" for it in users[::3]))
+        config = f'[users]\nrole = "app"\ncalls = ["auth.uid()"]\nnames = {users}'
+        done = self.desk.program("show", config=config)
+        self.assertIn('"name":"strict","restrictive":true', done.stdout)
+        self.assertRegex(done.stdout, '"name":"viewd_policy_[0-9]+_0_1","restrictive":true')
+        some = {role_of(it): it for it in (users[0], *users[33:90], users[-1])}
+        shown = Shown(done.stdout, (*some, "app", "zoe", "u_0"))
+        self.same(shown, tuple(some), {role: [f"select set_config('app.user', '{it}', true)"] for role, it in some.items()})
+        self.assertEqual(shown.rows[role_of(users[0]), "notes"], {(users[0], "x"): 1, (None, users[0]): 1})
+        for stranger in ("app", "zoe", "u_0"):
+            self.assertEqual(shown.rows[stranger, "notes"], {})
 
     def test_operators_and_casts_of_the_database(self) -> None:
         """Where PostgreSQL prints no operator, one of the database's own may be meant: all such forms are refused then."""
