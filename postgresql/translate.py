@@ -110,8 +110,8 @@ def plain_subquery(node: Node) -> Node:
     """The one expression of a subquery that has nothing else."""
     if not isinstance(node, ast.SubLink) or node.subLinkType != enums.SubLinkType.EXPR_SUBLINK or any(getattr(node.subselect, it) for it in PARTS):
         return None
-    asked = node.subselect.targetList or ()
-    return asked[0].val if len(asked) == 1 else None
+    asked = [it.val for it in node.subselect.targetList or ()]
+    return asked[0] if len(asked) == 1 else None
 
 
 def user_call(text: str) -> str:

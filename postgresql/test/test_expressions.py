@@ -54,7 +54,9 @@ class Expressions(unittest.TestCase):
         """Compares what is shown of relations to roles, or to users; answers why others are left out. `names` says of each what it was made from."""
         done = self.desk.program("show", config=USERS if users else None)
         left = dict(line.removeprefix("viewd-postgresql: ").split(" is left out: ", 1) for line in done.stderr.splitlines())
-        readers = {role_of(it): ("app", f"set local request.sub = '{it}'") for it in users} or {it: (it,) for it in ROLES}
+        readers: dict[str, tuple[str, ...]] = {it: (it,) for it in ROLES}
+        if users:
+            readers = {role_of(it): ("app", f"set local request.sub = '{it}'") for it in users}
         shown = Shown(done.stdout, tuple(readers))
         self.assertEqual(shown.refused, [], "viewd refused what show said")
         for name, text in names.items():
